@@ -1,0 +1,37 @@
+//! The syntax trees, values and events of the language, as plain data.
+//!
+//! Contracts see every type here as plain data: the owners `List`, `Boxed`, `Shared`, `Text` and `Bytes` are seen as
+//! what they hold and never as where they hold it, so a copy of a value *is* that value to a contract.
+#![tactic(auto)]
+
+mod boxed;
+mod bytes;
+mod copies;
+mod declaration;
+mod event;
+mod expression;
+mod list;
+mod memory;
+mod place;
+mod same;
+mod shared;
+mod signature;
+mod table;
+mod text;
+mod value;
+
+pub use boxed::Boxed;
+pub use bytes::Bytes;
+pub use copies::{copy_row, copy_value};
+pub use declaration::{ColumnDecl, Decl, FunDef, Program, TableDecl};
+pub use event::{Event, ReadEvent, Trap, WriteEvent};
+pub use expression::{Case, ChangeExpr, Expr, LambdaExpr, LastCase, Node, PartExpr, SortKey};
+pub use list::List;
+pub use memory::NoMemory;
+pub use place::{Loc, Span, Word};
+pub use same::{base_order, equal};
+pub use shared::Shared;
+pub use signature::{Sig, SigField, SigType};
+pub use table::{Base, BaseKind, Cell, Column, Row, TableDef};
+pub use text::Text;
+pub use value::{Field, FunValue, Value};

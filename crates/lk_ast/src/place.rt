@@ -1,0 +1,23 @@
+use crate::text::Text;
+
+/// A place in the program's text, in bytes from its beginning; the end isn't included.
+#[derive(Clone, Copy, Debug, PartialEq, Eq)]
+pub struct Span {
+    pub start: u32,
+    pub end: u32,
+}
+
+/// Where a function runs: at its mark, or without one wherever it is called.
+#[derive(Clone, Copy, Debug, PartialEq, Eq)]
+pub enum Loc {
+    Client,
+    Server,
+    Any,
+}
+
+/// A name, label or tag with its place in the text.
+#[derive(Debug, Drop)]
+pub struct Word {
+    pub at: Span,
+    pub text: Text,
+}

@@ -1,0 +1,47 @@
+ghost use Rattle.std.specs.Prelude.{◌≡◌, IfOk};
+
+use crate::memory::NoMemory;
+use std::alloc::Global;
+use std::marker::Model;
+use std::rc::Rc;
+
+/// A counted reference that contracts see as the value behind it, for a value with several owners.
+#[derive(Debug, Drop)]
+pub struct Shared<T: Drop> {
+    inner: Rc<T>,
+}
+
+impl<T: Drop> Model for Shared<T> {
+    ghost Value = { T };
+
+    ghost coded = { T.code };
+
+    ghost view = { λ shared. shared.inner.value };
+}
+
+impl<T: Drop> Shared<T> {
+    /// The first owner of this value.
+    pub fn new(alloc: Global, value: T) -> Result<Shared<T>, NoMemory>
+        ensures { IfOk result (λ shared. shared ≡ value) }
+    {
+        Ok(Shared {
+            inner: Rc::new(alloc, value)?,
+        })
+    }
+
+    /// The value.
+    pub fn get(&self) -> &T
+        ensures { result.now ≡ self.now }
+    {
+        &self.inner
+    }
+
+    /// One more owner of the same value.
+    pub fn share(&self) -> Result<Shared<T>, NoMemory>
+        ensures { IfOk result (λ shared. shared ≡ self.now) }
+    {
+        Ok(Shared {
+            inner: self.inner.clone()?,
+        })
+    }
+}
