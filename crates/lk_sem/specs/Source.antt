@@ -1,0 +1,92 @@
+-- The language of programs.
+use Rattle.std.specs.Prelude.{ℕ, Bool, true, false, List, [], ◌∷◌, ◌++◌, Option, Some, None, map}
+use Rattle.lk_ast.specs.declared.declaration.FunDef.{FunDef}
+use Rattle.lk_ast.specs.declared.declaration.Program.{Program}
+use Rattle.lk_ast.specs.declared.expression.Expr.{Expr}
+use Rattle.lk_ast.specs.declared.expression.Node.TheOpen.{Node-F}
+use Rattle.lk_ast.specs.declared.place.Loc.TheVariants.{Client}
+use Rattle.lk_ast.specs.declared.place.Span.{Span}
+use Rattle.lk_ast.specs.declared.table.Base.TheVariants as base
+use Rattle.lk_ast.specs.declared.value.Field.{Field}
+use Rattle.lk_ast.specs.declared.value.Value.{Value}
+use Rattle.lk_ast.specs.declared.value.Value.TheVariants as value
+use Rattle.lk_sem.specs.Evaluation.{Printing, Act, Give, Tail, Goto, Uses, Each, Fails, Lacks, Language, eval}
+use Rattle.lk_sem.specs.Names.{Names, bind, lookup, bind_all, pairs, function_named}
+use Rattle.lk_sem.specs.Run.{Run, Out}
+use Rattle.lk_sem.specs.Syntax.{Layer, layer, parts_of, is_plain}
+use Rattle.lk_sem.specs.Values.{text, text_in, bool_in, list_in, fields_in}
+
+-- an expression under the values of its local names
+pub record Point : Type 0 where
+  pub expr : Expr
+  pub names : Names
+
+abbrev pub under : Names → Expr → Point
+under names e = record { expr = e; names = names }
+
+abbrev pub given : Span → Option Value → Act Point
+given s None = Lacks s
+given s (Some v) = Give v
+
+-- `a ^^ b`
+abbrev pub concat : Span → Option (List ℕ) → Option (List ℕ) → Act Point
+concat s (Some a) (Some b) = Give (text (a ++ b))
+concat s _ _ = Lacks s
+
+-- `if (c) d else e`
+abbrev pub choose : Span → Option Bool → Act Point → Act Point → Act Point
+choose s None d e = Lacks s
+choose s (Some true) d e = d
+choose s (Some false) d e = e
+
+-- `e; rest`, where e has the unit value
+abbrev pub after_unit : Span → Option (List Field) → Act Point → Act Point
+after_unit s (Some []) rest = rest
+after_unit s _ rest = Lacks s
+
+-- `print(e)` is a call at the client
+abbrev pub print : Span → Option (List ℕ) → Act Point
+print s None = Lacks s
+print s (Some bytes) = Uses Client (Printing bytes)
+
+-- `for (x <- e) body`: the body once for each element
+abbrev pub over : Span → List ℕ → Option (List Value) → Expr → Names → Act Point
+over s x None body names = Lacks s
+over s x (Some values) body names = Each s (map (λ v. under (bind x v names) body) values)
+
+-- a call of a function of the program; to others it is its name's place in the text, and it captures nothing
+abbrev pub goto : Span → List Value → FunDef → Option Names → Act Point
+goto s args f None = Lacks s
+goto s args f (Some names) = Goto f.place (record { site = f.name.at.start; env = [] }) args (under names f.body)
+
+abbrev pub call : Span → List Value → Option FunDef → Act Point
+call s args None = Lacks s
+call s args (Some f) = goto s args f (bind_all f.params args)
+
+-- What a node does with the values of its parts. The nodes that aren't named here have no rule yet.
+abbrev pub act : Program → Span → Layer → Names → List Value → Act Point
+act p s (Node-F.Int n) names values = Give (value.Base (base.Int n))
+act p s (Node-F.Text bytes) names values = Give (text bytes)
+act p s (Node-F.Bool truth) names values = Give (value.Base (base.Bool truth))
+act p s (Node-F.Name x) names values = given s (lookup names x)
+act p s (Node-F.Call function args) names values = call s values (function_named p function.text)
+act p s (Node-F.Var x e rest) names (v ∷ []) = Tail (under (bind x.text v names) rest)
+act p s (Node-F.Seq e rest) names (v ∷ []) = after_unit s (fields_in v) (Tail (under names rest))
+act p s (Node-F.If c d e) names (v ∷ []) = choose s (bool_in v) (Tail (under names d)) (Tail (under names e))
+act p s (Node-F.Concat a b) names (v ∷ w ∷ []) = concat s (text_in v) (text_in w)
+act p s (Node-F.Print e) names (v ∷ []) = print s (text_in v)
+act p s (Node-F.List es) names values = Give (value.List values)
+act p s (Node-F.ForList x e body) names (v ∷ []) = over s x.text (list_in v) body names
+act p s _ names values = Lacks s
+
+abbrev pub source : Program → Language
+source p = record {
+  Point = Point;
+  parts = λ point. map (under point.names) (parts_of (layer point.expr));
+  plain = λ point. is_plain (layer point.expr);
+  act = λ point values. act p point.expr.span (layer point.expr) point.names values;
+}
+
+-- A session is the evaluation of the body of `main` at the client, its parameter bound to the session's argument.
+abbrev pub session : Program → FunDef → List ℕ → Run → Out Value
+session p main arg r = eval (source p) (under (pairs main.params (text arg ∷ [])) main.body) Client r

@@ -1,0 +1,40 @@
+-- One level of the syntax tree.
+use Rattle.std.specs.Prelude.{Bool, true, false, List, [], ◌∷◌}
+use Rattle.lk_ast.specs.declared.expression.Case.{Case}
+use Rattle.lk_ast.specs.declared.expression.ChangeExpr.{ChangeExpr}
+use Rattle.lk_ast.specs.declared.expression.Expr.{Expr}
+use Rattle.lk_ast.specs.declared.expression.LambdaExpr.{LambdaExpr}
+use Rattle.lk_ast.specs.declared.expression.LastCase.{LastCase}
+use Rattle.lk_ast.specs.declared.expression.Node.{Node, out-Node}
+use Rattle.lk_ast.specs.declared.expression.Node.TheOpen.{Node-F}
+use Rattle.lk_ast.specs.declared.expression.PartExpr.{PartExpr}
+
+-- a node with the expressions in it
+abbrev pub Layer : Type 0
+Layer = Node-F Node Case ChangeExpr Expr LambdaExpr LastCase PartExpr
+
+abbrev pub layer : Expr → Layer
+layer e = out-Node e.node
+
+-- The parts that are evaluated first, in order; the others, as the branches of an `if`, are evaluated in their node's
+-- own place or not at all. Nodes that have no rule yet have no parts here.
+abbrev pub parts_of : Layer → List Expr
+parts_of (Node-F.Call function args) = args
+parts_of (Node-F.Var x e rest) = e ∷ []
+parts_of (Node-F.Seq e rest) = e ∷ []
+parts_of (Node-F.If c d e) = c ∷ []
+parts_of (Node-F.Concat a b) = a ∷ b ∷ []
+parts_of (Node-F.Print e) = e ∷ []
+parts_of (Node-F.List es) = es
+parts_of (Node-F.ForList x e body) = e ∷ []
+parts_of _ = []
+
+-- whether the value is there without a step of its own
+abbrev pub is_plain : Layer → Bool
+is_plain (Node-F.Int n) = true
+is_plain (Node-F.Text bytes) = true
+is_plain (Node-F.Bool truth) = true
+is_plain (Node-F.Name x) = true
+is_plain (Node-F.Function g) = true
+is_plain (Node-F.Lambda lambda) = true
+is_plain _ = false

@@ -1,0 +1,55 @@
+-- Values by their kinds.
+use Rattle.std.specs.Prelude.{ℕ, Bool, List, [], ◌∷◌, Option, Some, None, map}
+use Rattle.lk_ast.specs.declared.table.Base.{Base}
+use Rattle.lk_ast.specs.declared.table.Base.TheVariants as base
+use Rattle.lk_ast.specs.declared.table.Cell.{Cell}
+use Rattle.lk_ast.specs.declared.table.Row.{Row}
+use Rattle.lk_ast.specs.declared.value.Field.{Field}
+use Rattle.lk_ast.specs.declared.value.FunValue.{FunValue}
+use Rattle.lk_ast.specs.declared.value.Value.{Value, out-Value}
+use Rattle.lk_ast.specs.declared.value.Value.TheOpen.{Value-F}
+use Rattle.lk_ast.specs.declared.value.Value.TheVariants as value
+
+abbrev pub text : List ℕ → Value
+text bytes = value.Base (base.Text bytes)
+
+-- the unit value, which is the record without fields
+abbrev pub unit : Value
+unit = value.Fields []
+
+-- a row of a table is a record
+abbrev pub row_value : Row → Value
+row_value row = value.Fields (map {A = Cell} (λ cell. record { label = cell.label; value = value.Base cell.value }) row.cells)
+
+abbrev base_at : Value-F Value Field FunValue → Option Base
+base_at (Value-F.Base b) = Some b
+base_at _ = None
+
+abbrev list_at : Value-F Value Field FunValue → Option (List Value)
+list_at (Value-F.List values) = Some values
+list_at _ = None
+
+abbrev fields_at : Value-F Value Field FunValue → Option (List Field)
+fields_at (Value-F.Fields fields) = Some fields
+fields_at _ = None
+
+abbrev text_of : Option Base → Option (List ℕ)
+text_of (Some (base.Text bytes)) = Some bytes
+text_of _ = None
+
+abbrev bool_of : Option Base → Option Bool
+bool_of (Some (base.Bool truth)) = Some truth
+bool_of _ = None
+
+-- the text that a value is, if it is one; so for the others
+abbrev pub text_in : Value → Option (List ℕ)
+text_in v = text_of (base_at (out-Value v))
+
+abbrev pub bool_in : Value → Option Bool
+bool_in v = bool_of (base_at (out-Value v))
+
+abbrev pub list_in : Value → Option (List Value)
+list_in v = list_at (out-Value v)
+
+abbrev pub fields_in : Value → Option (List Field)
+fields_in v = fields_at (out-Value v)

@@ -1,0 +1,2 @@
+//! What programs mean, and their direct evaluation.
+#![tactic(auto)]
