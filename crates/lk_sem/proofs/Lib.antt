@@ -4,3 +4,6 @@ pub mod Grows
 pub mod Longer
 pub mod Shift
 pub mod Steps
+pub mod Matching
+pub mod Same
+pub mod Samples
