@@ -1,4 +1,4 @@
-ghost use Rattle.std.specs.Prelude.{◌≡◌, IfOk};
+ghost use Rattle.std.specs.Prelude.{◌≡◌, IfOk, IfErr};
 
 use crate::memory::NoMemory;
 use std::alloc::Global;
@@ -43,5 +43,17 @@ impl<T: Drop> Shared<T> {
         Ok(Shared {
             inner: self.inner.clone()?,
         })
+    }
+
+    /// The value, out of its last owner; where it has others, this owner again.
+    pub fn try_unwrap(self) -> Result<T, Shared<T>>
+        ensures ok { IfOk result (λ value. value ≡ self) }
+        ensures err { IfErr result (λ shared. shared ≡ self) }
+    {
+        let Shared { inner } = self;
+        match Rc::try_unwrap(inner) {
+            Ok(value) => Ok(value),
+            Err(inner) => Err(Shared { inner }),
+        }
     }
 }

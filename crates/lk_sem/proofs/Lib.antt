@@ -1,3 +1,8 @@
+pub mod Calls
+pub mod Finish
+pub mod Leading
+pub mod Lookup
+pub mod Winding
 pub mod Walk
 pub mod Fixpoint
 pub mod Grows

@@ -1,8 +1,13 @@
-pub mod Run
-pub mod Values
+pub mod Acts
 pub mod Evaluation
 pub mod Frames
-pub mod Syntax
+pub mod Halt
 pub mod Laws
+pub mod Machine
 pub mod Names
+pub mod Run
+pub mod Runs
+pub mod Scope
 pub mod Source
+pub mod Syntax
+pub mod Values

@@ -1,5 +1,7 @@
 -- What names stand for: local names by their values, and functions by their definitions.
-use Rattle.std.specs.Prelude.{ℕ, List, [], ◌∷◌, ◌++◌, Option, Some, None, if◌then◌else◌, ◌&&◌, ◌==◌, Bool, true, false, bytes_eq, length, codes}
+use Rattle.std.specs.Prelude.{ℕ, Bool, true, false, List, [], ◌∷◌, ◌++◌, Option, Some, None, if◌then◌else◌, ◌&&◌, ◌==◌, bytes_eq, length, reverse, find, codes}
+use Rattle.std.specs.List.{flat_map}
+use Rattle.std.specs.Option.{option_map}
 use Rattle.lk_ast.specs.declared.declaration.Decl.{Decl}
 use Rattle.lk_ast.specs.declared.declaration.Decl.TheVariants.{Table, Fun, Mutual}
 use Rattle.lk_ast.specs.declared.declaration.FunDef.{FunDef}
@@ -21,44 +23,35 @@ Names = List Binding
 abbrev pub bind : List ℕ → Value → Names → Names
 bind x v names = names ++ record { name = x; value = v } ∷ []
 
-abbrev pub or_else : {A : Type 0} → Option A → Option A → Option A
-or_else (Some a) other = Some a
-or_else None other = other
-
 -- the value of the innermost such name
 abbrev pub lookup : Names → List ℕ → Option Value
-lookup [] x = None
-lookup (b ∷ bs) x = or_else (lookup bs x) (if bytes_eq b.name x then Some b.value else None)
+lookup names x = option_map (λ (b : Binding). b.value) (find (λ (b : Binding). bytes_eq b.name x) (reverse names))
 
 -- the arguments under the names of the parameters
 abbrev pub pairs : List Word → List Value → Names
-pairs [] values = []
-pairs (x ∷ xs) [] = []
-pairs (x ∷ xs) (v ∷ values) = record { name = x.text; value = v } ∷ pairs xs values
+pairs [] args = []
+pairs (x ∷ params) [] = []
+pairs (x ∷ params) (v ∷ args) = record { name = x.text; value = v } ∷ pairs params args
 
 -- the same, where there are as many arguments as parameters
 abbrev pub bind_all : List Word → List Value → Option Names
 bind_all params args = if length params == length args then Some (pairs params args) else None
 
-abbrev pub functions_of : Decl → List FunDef
-functions_of (Table table) = []
-functions_of (Fun function) = function ∷ []
-functions_of (Mutual functions) = functions
+abbrev pub functions_in : Decl → List FunDef
+functions_in (Table table) = []
+functions_in (Fun function) = function ∷ []
+functions_in (Mutual functions) = functions
 
-abbrev pub first_that : (FunDef → Bool) → List FunDef → Option FunDef
-first_that test [] = None
-first_that test (f ∷ fs) = if test f then Some f else first_that test fs
-
-abbrev pub first_among : (FunDef → Bool) → List Decl → Option FunDef
-first_among test [] = None
-first_among test (d ∷ ds) = or_else (first_that test (functions_of d)) (first_among test ds)
+-- the functions of a program in text order
+abbrev pub functions_of : Program → List FunDef
+functions_of program = flat_map functions_in program.decls
 
 abbrev pub is_named : List ℕ → FunDef → Bool
 is_named name f = bytes_eq f.name.text name
 
--- the first function of a program with that name
+-- the first function of that name
 abbrev pub function_named : Program → List ℕ → Option FunDef
-function_named program name = first_among (is_named name) program.decls
+function_named program name = find (is_named name) (functions_of program)
 
 abbrev pub is_client : Loc → Bool
 is_client Client = true
@@ -69,4 +62,4 @@ abbrev pub is_main : FunDef → Bool
 is_main f = is_named (codes "main") f && (length f.params == 1) && is_client f.place
 
 abbrev pub main_of : Program → Option FunDef
-main_of program = first_among is_main program.decls
+main_of program = find is_main (functions_of program)

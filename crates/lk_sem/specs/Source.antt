@@ -7,14 +7,13 @@ use Rattle.lk_ast.specs.declared.expression.Node.TheOpen.{Node-F}
 use Rattle.lk_ast.specs.declared.place.Loc.TheVariants.{Client}
 use Rattle.lk_ast.specs.declared.place.Span.{Span}
 use Rattle.lk_ast.specs.declared.table.Base.TheVariants as base
-use Rattle.lk_ast.specs.declared.value.Field.{Field}
 use Rattle.lk_ast.specs.declared.value.Value.{Value}
 use Rattle.lk_ast.specs.declared.value.Value.TheVariants as value
 use Rattle.lk_sem.specs.Evaluation.{Printing, Act, Give, Tail, Goto, Uses, Each, Fails, Lacks, Language, eval}
 use Rattle.lk_sem.specs.Names.{Names, bind, lookup, bind_all, pairs, function_named}
 use Rattle.lk_sem.specs.Run.{Run, Out}
 use Rattle.lk_sem.specs.Syntax.{Layer, layer, parts_of, is_plain}
-use Rattle.lk_sem.specs.Values.{text, text_in, bool_in, list_in, fields_in}
+use Rattle.lk_sem.specs.Values.{text, text_in, bool_in, list_in, is_unit}
 
 -- an expression under the values of its local names
 pub record Point : Type 0 where
@@ -40,9 +39,9 @@ choose s (Some true) d e = d
 choose s (Some false) d e = e
 
 -- `e; rest`, where e has the unit value
-abbrev pub after_unit : Span → Option (List Field) → Act Point → Act Point
-after_unit s (Some []) rest = rest
-after_unit s _ rest = Lacks s
+abbrev pub after_unit : Span → Bool → Act Point → Act Point
+after_unit s true rest = rest
+after_unit s false rest = Lacks s
 
 -- `print(e)` is a call at the client
 abbrev pub print : Span → Option (List ℕ) → Act Point
@@ -71,7 +70,7 @@ act p s (Node-F.Bool truth) names values = Give (value.Base (base.Bool truth))
 act p s (Node-F.Name x) names values = given s (lookup names x)
 act p s (Node-F.Call function args) names values = call s values (function_named p function.text)
 act p s (Node-F.Var x e rest) names (v ∷ []) = Tail (under (bind x.text v names) rest)
-act p s (Node-F.Seq e rest) names (v ∷ []) = after_unit s (fields_in v) (Tail (under names rest))
+act p s (Node-F.Seq e rest) names (v ∷ []) = after_unit s (is_unit v) (Tail (under names rest))
 act p s (Node-F.If c d e) names (v ∷ []) = choose s (bool_in v) (Tail (under names d)) (Tail (under names e))
 act p s (Node-F.Concat a b) names (v ∷ w ∷ []) = concat s (text_in v) (text_in w)
 act p s (Node-F.Print e) names (v ∷ []) = print s (text_in v)

@@ -1,5 +1,5 @@
 -- Values by their kinds.
-use Rattle.std.specs.Prelude.{ℕ, Bool, List, [], ◌∷◌, Option, Some, None, map}
+use Rattle.std.specs.Prelude.{ℕ, Bool, true, false, List, [], ◌∷◌, Option, Some, None, map}
 use Rattle.lk_ast.specs.declared.table.Base.{Base}
 use Rattle.lk_ast.specs.declared.table.Base.TheVariants as base
 use Rattle.lk_ast.specs.declared.table.Cell.{Cell}
@@ -53,3 +53,11 @@ list_in v = list_at (out-Value v)
 
 abbrev pub fields_in : Value → Option (List Field)
 fields_in v = fields_at (out-Value v)
+
+abbrev is_empty_record : Option (List Field) → Bool
+is_empty_record (Some []) = true
+is_empty_record _ = false
+
+-- whether it is the unit value
+abbrev pub is_unit : Value → Bool
+is_unit v = is_empty_record (fields_in v)

@@ -1,0 +1,297 @@
+-- Each method of the evaluator leads from one machine to another with the same still to do.
+use Rattle.std.proofs.Common.{◌≡◌, ◌≢◌, ℕ, zero, suc, ◌+◌, ◌-◌, List, [], ◌∷◌, ◌++◌, length, refl, sym, ◌∙◌, ap, arith}
+use Rattle.std.specs.Prelude.{Bool, true, false, Option, Some, None, map, reverse, slice_get}
+use Rattle.std.specs.Borrow.{Bor}
+use Rattle.std.specs.Option.{option_map}
+use Rattle.std.proofs.lemmas.List.{map-append, reverse-append}
+use Rattle.std.proofs.lemmas.Option.{slice_get-map}
+use Rattle.lk_ast.specs.declared.declaration.Program.{Program}
+use Rattle.lk_ast.specs.declared.event.Event.{Event}
+use Rattle.lk_ast.specs.declared.event.Event.TheVariants.{Print, Enter, Leave}
+use Rattle.lk_ast.specs.declared.expression.Expr.{Expr}
+use Rattle.lk_ast.specs.declared.place.Loc.{Loc}
+use Rattle.lk_ast.specs.declared.place.Loc.TheVariants.{Client, Server, Any}
+use Rattle.lk_ast.specs.declared.value.FunValue.{FunValue}
+use Rattle.lk_ast.specs.declared.value.Value.{Value}
+use Rattle.lk_sem.specs.Evaluation as spec
+use Rattle.lk_sem.specs.Evaluation.{eval, handed, perform, joined, each, client_call, used}
+use Rattle.lk_sem.specs.Frames as frames
+use Rattle.lk_sem.specs.Frames.{resumed, returned, handed_by}
+use Rattle.lk_sem.specs.Halt.{stop_of, end_of}
+use Rattle.lk_sem.specs.Machine.{bodies, frame_of, frame_rest, wound, outcome, Shows, Leads, LeadsWhole, Ends, ended}
+use Rattle.lk_sem.specs.Names.{Names, bind}
+use Rattle.lk_sem.specs.Run.{Run, Out, Goes, Stops, Crossing, Within, Called, Returned, Function, Printer, step, logs, and_then}
+use Rattle.lk_sem.specs.Scope.{names_of}
+use Rattle.lk_sem.specs.Source.{Point, under, source, act}
+use Rattle.lk_sem.specs.Syntax.{layer, parts_of, is_plain}
+use Rattle.lk_sem.specs.Values.{text, unit, list_in}
+use Rattle.lk_sem.specs.declared.machine.Frame.{Frame}
+use Rattle.lk_sem.specs.declared.machine.Frame.TheVariants.{Part, Turn, Back}
+use Rattle.lk_sem.specs.declared.machine.Machine.{Machine}
+use Rattle.lk_sem.specs.declared.machine.Next.{Next}
+use Rattle.lk_sem.specs.declared.machine.Next.TheVariants as now
+use Rattle.lk_sem.specs.declared.machine.Turns.{Turns}
+use Rattle.lk_sem.specs.declared.machine.Waiting.{Waiting}
+use Rattle.lk_sem.specs.declared.names.Binding.{Binding}
+use Rattle.lk_sem.specs.declared.run.Halt.{Halt}
+use Rattle.lk_sem.specs.declared.run.Halt.TheVariants as halt
+use Rattle.lk_sem.specs.declared.run.SourceEnd.{SourceEnd}
+use Rattle.lk_sem.proofs.Fixpoint.{spent}
+use Rattle.lk_sem.proofs.Winding as winding
+
+-- ---- frames and parts of the source
+
+-- the last frame gets the outcome first
+wound-push : (p : Program) (fs : List Frame) (f : Frame) (o : Out Value) → wound p (fs ++ f ∷ []) o ≡ wound p fs (and_then o (frame_rest p f))
+wound-push p fs f o =
+    ap (λ (gs : List (frames.Frame Point)). frames.wound (source p) gs o) (map-append frame_of fs (f ∷ [])) ∙ winding.wound-push (source p) (map frame_of fs) (frame_of f) o
+
+-- a part of a node under the node's names
+part_of : (p : Program) (names : Names) (e x : Expr) (n : ℕ) → slice_get (parts_of (layer e)) n ≡ Some x → slice_get ((source p).parts (under names e)) n ≡ Some (under names x)
+part_of p names e x n is = slice_get-map (under names) (parts_of (layer e)) n ∙ ap (option_map (under names)) is
+
+no_part : (p : Program) (names : Names) (e : Expr) (n : ℕ) → slice_get (parts_of (layer e)) n ≡ None → slice_get ((source p).parts (under names e)) n ≡ None
+no_part p names e n is = slice_get-map (under names) (parts_of (layer e)) n ∙ ap (option_map (under names)) is
+
+-- ---- what a machine shows
+
+shows_step : (m : Machine) (r : Run) → Shows m r → Shows m (step r)
+shows_step m r h = record { fuel = h.fuel; log = h.log; whole = h.whole }
+
+shows_logs : (m : Machine) (r : Run) (e : Event) (c : Crossing) (log : List Event) → Shows m r → log ≡ m.log ++ e ∷ [] → Shows (record { stack = m.stack; log = log; fuel = m.fuel }) (logs e c r)
+shows_logs m r e c log h is =
+    record { fuel = h.fuel; log = map-append (λ x. x.event) r.log (record { number = r.steps; event = e; crossing = c } ∷ []) ∙ ap (λ l. l ++ e ∷ []) h.log ∙ sym is; whole = h.whole }
+
+shows_handed : (m : Machine) (plain : Bool) (r : Run) → Shows m r → Shows m (handed plain r)
+shows_handed m true r h = h
+shows_handed m false r h = shows_step m r h
+
+shows_handed_by : (p : Program) (m : Machine) (o : Option Point) (r : Run) → Shows m r → Shows m (handed_by (source p) o r)
+shows_handed_by p m None r h = h
+shows_handed_by p m (Some e) r h = shows_handed m ((source p).plain e) r h
+
+-- ---- one method each
+
+-- another way to say what is to do
+pub leads_as : (p : Program) (old new : Machine) (next : Next) (o j : Run → Out Value) → ((r : Run) → Shows old r → j r ≡ o r) → Leads p old o new next → Leads p old j new next
+leads_as p old new next o j same l = record { runs = λ r h. let a = l.runs r h in (a.0, a.1, ap (wound p old.stack) (same r h) ∙ a.2) }
+
+-- what comes before changes neither fuel nor log
+leads_after : (p : Program) (old new : Machine) (next : Next) (o j : Run → Out Value) (f : Run → Run) → ((r : Run) → Shows old r → Shows old (f r)) → ((r : Run) → j r ≡ o (f r)) → Leads p old o new next → Leads p old j new next
+leads_after p old new next o j f keeps is l = record {
+  runs = λ r h. let a = l.runs (f r) (keeps r h) in (a.0, a.1, ap (wound p old.stack) (is r) ∙ a.2);
+}
+
+-- there is no fuel
+pub leads_spent : (p : Program) (m : Machine) (e : Point) (place : Loc) → m.fuel ≡ 0 → Leads p m (eval (source p) e place) m (now.Stop halt.Spent)
+leads_spent p m e place none = record { runs = λ r h. (r, h, ap (wound p m.stack) (spent (source p) r.fuel e place r (h.fuel ∙ none))) }
+
+-- a node is entered
+pub leads_enter : (p : Program) (old new : Machine) (next : Next) (e : Point) (place : Loc) (done : List Value) → old.fuel ≢ 0 → done ≡ []
+    → Leads p (record { stack = old.stack; log = old.log; fuel = old.fuel - 1 }) (resumed (source p) e done place) new next → Leads p old (eval (source p) e place) new next
+leads_enter p old new next e place done some none l = record {
+  runs = λ r h.
+      let is : r.fuel ≡ suc (old.fuel - 1) = omega (arith, h.fuel, some) in
+      let s : Run = record r { fuel = old.fuel - 1; steps = r.steps + 1 } in
+      let a = l.runs s (record { fuel = refl; log = h.log; whole = h.whole }) in
+      (a.0, a.1, ap (wound p old.stack) (winding.enters (source p) e place r (old.fuel - 1) is ∙ ap (λ d. resumed (source p) e d place s) (sym none)) ∙ a.2);
+}
+
+-- all parts have their values
+pub leads_act : (p : Program) (old new : Machine) (next : Next) (names : Names) (e : Expr) (place : Loc) (done : List Value) → slice_get (parts_of (layer e)) (length done) ≡ None
+    → Leads p old (perform (source p) (eval (source p)) place (act p e.span (layer e) names done)) new next → Leads p old (resumed (source p) (under names e) done place) new next
+leads_act p old new next names e place done past l =
+    leads_as p old new next _ _ (λ r h. winding.acts (source p) (under names e) done place r (no_part p names e (length done) past)) l
+
+-- a part is entered, and the node waits
+pub leads_wait : (p : Program) (old : Machine) (stack : List Frame) (w : Waiting) (e : Bor Expr) (scope : List Binding) (o : Option Expr) (n : ℕ)
+    → o ≡ slice_get (parts_of (layer w.expr.now)) n → n ≡ length w.done → o ≡ Some e.now → stack ≡ old.stack ++ Part w ∷ [] → scope ≡ w.scope
+    → Leads p old (resumed (source p) (under (names_of w.scope) w.expr.now) w.done w.place) (record { stack = stack; log = old.log; fuel = old.fuel }) (now.Enter e scope w.place)
+leads_wait p old stack w e scope o n part len some pushed same = record {
+  runs = λ r h. (
+    r,
+    record { fuel = h.fuel; log = h.log; whole = h.whole },
+    ap (wound p old.stack) (winding.waits (source p) (under names w.expr.now) (under names e.now) w.done w.place r (part_of p names w.expr.now e.now (length w.done) at))
+        ∙ sym (wound-push p old.stack (Part w) (eval (source p) (under names e.now) w.place r))
+        ∙ ap (λ fs. wound p fs (eval (source p) (under names e.now) w.place r)) (sym pushed)
+        ∙ ap (λ bs. wound p stack (eval (source p) (under (names_of bs) e.now) w.place r)) (sym same),
+  );
+}
+  where
+    names : Names
+    names = names_of w.scope
+
+    at : slice_get (parts_of (layer w.expr.now)) (length w.done) ≡ Some e.now
+    at = ap (slice_get (parts_of (layer w.expr.now))) (sym len) ∙ sym part ∙ some
+
+-- a call of a server function at the client
+pub leads_across : (p : Program) (old : Machine) (stack : List Frame) (log : List Event) (place mark : Loc) (f : FunValue) (args : List Value) (body : Bor Expr) (scope : List Binding)
+    → place ≡ Client → mark ≡ Server → log ≡ old.log ++ Enter ∷ [] → stack ≡ old.stack ++ Back place ∷ []
+    → Leads p old (perform (source p) (eval (source p)) place (spec.Goto mark f args (under (names_of scope) body.now))) (record { stack = stack; log = log; fuel = old.fuel }) (now.Enter body scope mark)
+leads_across p old stack log place mark f args body scope here there logged pushed = record {
+  runs = λ r h.
+      let s : Run = logs Enter (Called (Function f) args) (step r) in
+      let shown = shows_logs old (step r) Enter (Called (Function f) args) log (shows_step old r h) logged in
+      let e : Point = under (names_of scope) body.now in
+      let o : Out Value = eval (source p) e Server s in (
+        s,
+        record { fuel = shown.fuel; log = shown.log; whole = shown.whole },
+        ap (λ l. wound p old.stack (perform (source p) (eval (source p)) l (spec.Goto mark f args e) r)) here
+            ∙ ap (λ l. wound p old.stack (perform (source p) (eval (source p)) Client (spec.Goto l f args e) r)) there
+            ∙ sym (wound-push p old.stack (Back Client) o)
+            ∙ ap (λ l. wound p (old.stack ++ Back l ∷ []) o) (sym here)
+            ∙ ap (λ fs. wound p fs o) (sym pushed)
+            ∙ ap (λ l. wound p stack (eval (source p) e l s)) (sym there),
+      );
+}
+
+-- a call of a client function at the server
+pub leads_home : (p : Program) (old : Machine) (stack : List Frame) (log : List Event) (place mark : Loc) (f : FunValue) (args : List Value) (body : Bor Expr) (scope : List Binding)
+    → place ≡ Server → mark ≡ Client → log ≡ old.log ++ Leave ∷ [] → stack ≡ old.stack ++ Back place ∷ []
+    → Leads p old (perform (source p) (eval (source p)) place (spec.Goto mark f args (under (names_of scope) body.now))) (record { stack = stack; log = log; fuel = old.fuel }) (now.Enter body scope mark)
+leads_home p old stack log place mark f args body scope here there logged pushed = record {
+  runs = λ r h.
+      let s : Run = logs Leave (Called (Function f) args) (step r) in
+      let shown = shows_logs old (step r) Leave (Called (Function f) args) log (shows_step old r h) logged in
+      let e : Point = under (names_of scope) body.now in
+      let o : Out Value = eval (source p) e Client s in (
+        s,
+        record { fuel = shown.fuel; log = shown.log; whole = shown.whole },
+        ap (λ l. wound p old.stack (perform (source p) (eval (source p)) l (spec.Goto mark f args e) r)) here
+            ∙ ap (λ l. wound p old.stack (perform (source p) (eval (source p)) Server (spec.Goto l f args e) r)) there
+            ∙ ap (λ q. wound p old.stack (client_call q (Function f) args (λ t. eval (source p) e Client t) s)) h.whole
+            ∙ sym (wound-push p old.stack (Back Server) o)
+            ∙ ap (λ l. wound p (old.stack ++ Back l ∷ []) o) (sym here)
+            ∙ ap (λ fs. wound p fs o) (sym pushed)
+            ∙ ap (λ l. wound p stack (eval (source p) e l s)) (sym there),
+      );
+}
+
+-- one event with the return of a value
+pub leads_back : (p : Program) (old : Machine) (log : List Event) (place : Loc) (e : Event) (v : Value) → ((r : Run) → returned place v r ≡ Goes v (logs e (Returned v) (step r))) → log ≡ old.log ++ e ∷ []
+    → Leads p old (returned place v) (record { stack = old.stack; log = log; fuel = old.fuel }) (now.Give v)
+leads_back p old log place e v is logged = record {
+  runs = λ r h. (logs e (Returned v) (step r), shows_logs old (step r) e (Returned v) log (shows_step old r h) logged, ap (wound p old.stack) (is r));
+}
+
+-- a node that waited goes on
+pub leads_given : (p : Program) (old new : Machine) (next : Next) (w : Waiting) (done : List Value) (v : Value) → done ≡ w.done ++ v ∷ []
+    → Leads p old (resumed (source p) (under (names_of w.scope) w.expr.now) done w.place) new next → Leads p old (frame_rest p (Part w) v) new next
+leads_given p old new next w done v is l =
+    let e : Point = under (names_of w.scope) w.expr.now in
+    let q : Option Point = slice_get ((source p).parts e) (length w.done) in
+    leads_after p old new next (resumed (source p) e done w.place) _ (handed_by (source p) q) (λ r h. shows_handed_by p old q r h)
+    (λ r. ap (λ d. resumed (source p) e d w.place (handed_by (source p) q r)) (sym is)) l
+
+-- the body of a `for` is entered for its next element
+pub leads_turn : (p : Program) (old : Machine) (stack : List Frame) (t : Turns) (v : Value) (left : List Value) (scope : List Binding)
+    → left ≡ t.left ++ v ∷ [] → names_of scope ≡ bind t.name.now v (names_of t.scope) → stack ≡ old.stack ++ Turn t ∷ []
+    → Leads p old (each (source p) (eval (source p)) t.at (bodies (record t { left = left })) t.place t.made) (record { stack = stack; log = old.log; fuel = old.fuel }) (now.Enter t.body scope t.place)
+leads_turn p old stack t v left scope last bound pushed = record {
+  runs = λ r h. (
+    r,
+    record { fuel = h.fuel; log = h.log; whole = h.whole },
+    ap (wound p old.stack) (ap (λ es. each (source p) (eval (source p)) t.at es t.place t.made r) first ∙ turns r)
+        ∙ sym (wound-push p old.stack (Turn t) (eval (source p) (body v) t.place r))
+        ∙ ap (λ fs. wound p fs (eval (source p) (body v) t.place r)) (sym pushed)
+        ∙ ap (λ ns. wound p stack (eval (source p) (under ns t.body.now) t.place r)) (sym bound),
+  );
+}
+  where
+    body : Value → Point
+    body u = under (bind t.name.now u (names_of t.scope)) t.body.now
+
+    first : map body (reverse left) ≡ body v ∷ map body (reverse t.left)
+    first = ap (λ vs. map body (reverse vs)) last ∙ ap (map body) (reverse-append t.left (v ∷ []))
+
+    turns : (r : Run) → each (source p) (eval (source p)) t.at (body v ∷ map body (reverse t.left)) t.place t.made r ≡ and_then (eval (source p) (body v) t.place r) (frame_rest p (Turn t))
+    turns r = winding.turns (source p) t.at (body v) (map body (reverse t.left)) t.place t.made r
+
+-- its list is put after those made so far
+pub leads_taken : (p : Program) (old new : Machine) (next : Next) (t : Turns) (v : Value) (values made : List Value) → Some values ≡ list_in v → made ≡ t.made ++ values
+    → Leads p old (each (source p) (eval (source p)) t.at (bodies t) t.place made) new next → Leads p old (frame_rest p (Turn t) v) new next
+leads_taken p old new next t v values made is all l =
+    let listed : list_in v ≡ Some values = sym is in
+    let plain : Bool = is_plain (layer t.body.now) in
+    leads_after p old new next (each (source p) (eval (source p)) t.at (bodies t) t.place made) _ (handed plain) (λ r h. shows_handed old plain r h)
+    (λ r. ap (λ o. joined t.at t.made o (λ a. each (source p) (eval (source p)) t.at (bodies t) t.place a (handed plain r)) (handed plain r)) listed
+    ∙ ap (λ a. each (source p) (eval (source p)) t.at (bodies t) t.place a (handed plain r)) (sym all))
+    l
+
+-- it has no list
+pub leads_no_list : (p : Program) (m : Machine) (t : Turns) (v : Value) → None ≡ list_in v → Leads p m (frame_rest p (Turn t) v) m (now.Stop (halt.Stuck t.at))
+leads_no_list p m t v none =
+    let plain : Bool = is_plain (layer t.body.now) in
+    record {
+      runs = λ r h. (
+        handed plain r,
+        shows_handed m plain r h,
+        ap (λ o. wound p m.stack (joined t.at t.made o (λ a. each (source p) (eval (source p)) t.at (bodies t) t.place a (handed plain r)) (handed plain r))) (sym none),
+      );
+    }
+
+-- a print at the client
+pub leads_print : (p : Program) (old : Machine) (log : List Event) (place : Loc) (bytes : List ℕ) (v : Value) → place ≢ Server → log ≡ old.log ++ Print bytes ∷ [] → v ≡ unit
+    → Leads p old (perform (source p) (eval (source p)) place (spec.Uses Client (spec.Printing bytes))) (record { stack = old.stack; log = log; fuel = old.fuel }) (now.Give v)
+leads_print p old log place bytes v here logged is = record {
+  runs = λ r h. (logs (Print bytes) Within r, shows_logs old r (Print bytes) Within log h logged, ap (wound p old.stack) (go place here r ∙ ap (λ u. Goes u (logs (Print bytes) Within r)) (sym is)));
+}
+  where
+    go : (place : Loc) → place ≢ Server → (r : Run) → perform (source p) (eval (source p)) place (spec.Uses Client (spec.Printing bytes)) r ≡ Goes unit (logs (Print bytes) Within r)
+    go Client ne r = refl
+    go Any ne r = refl
+    go Server ne r = absurd (ne refl)
+
+-- a print at the server, from where control goes to the client and comes back
+pub leads_print_across : (p : Program) (old : Machine) (one two three : List Event) (place : Loc) (bytes : List ℕ) (v : Value) → place ≡ Server → one ≡ old.log ++ Leave ∷ [] → two ≡ one ++ Print bytes ∷ [] → three ≡ two ++ Enter ∷ [] → v ≡ unit
+    → Leads p old (perform (source p) (eval (source p)) place (spec.Uses Client (spec.Printing bytes))) (record { stack = old.stack; log = three; fuel = old.fuel }) (now.Give v)
+leads_print_across p old one two three place bytes v there a b c is = record {
+  runs = λ r h.
+      let called : Crossing = Called Printer (text bytes ∷ []) in
+      let r1 : Run = logs Leave called (step r) in
+      let r2 : Run = logs (Print bytes) Within r1 in
+      let r3 : Run = logs Enter (Returned unit) (step r2) in
+      let m1 : Machine = record { stack = old.stack; log = one; fuel = old.fuel } in
+      let m2 : Machine = record { stack = old.stack; log = two; fuel = old.fuel } in
+      let h1 = shows_logs old (step r) Leave called one (shows_step old r h) a in
+      let h2 = shows_logs m1 r1 (Print bytes) Within two h1 b in
+      let h3 = shows_logs m2 (step r2) Enter (Returned unit) three (shows_step m2 r2 h2) c in (
+        r3,
+        record { fuel = h3.fuel; log = h3.log; whole = h3.whole },
+        ap (λ l. wound p old.stack (perform (source p) (eval (source p)) l (spec.Uses Client (spec.Printing bytes)) r)) there
+            ∙ ap (λ q. wound p old.stack (client_call q Printer (text bytes ∷ []) (λ u. used (spec.Printing bytes) u) r1)) h.whole
+            ∙ ap (λ u. wound p old.stack (Goes u r3)) (sym is),
+      );
+}
+
+-- ---- the loop
+
+-- the last frame took the value
+pub goes_give : (p : Program) (first old new : Machine) (next last : Next) (o : Run → Out Value) (f : Frame) (v : Value) (stack : List Frame) → last ≡ now.Give v → old.stack ≡ stack ++ f ∷ [] → LeadsWhole p first o old last
+    → Leads p (record { stack = stack; log = old.log; fuel = old.fuel }) (frame_rest p f v) new next → LeadsWhole p first o new next
+goes_give p first old new next last o f v stack is popped g l = record {
+  runs = λ r h.
+      let a = g.runs r h in
+      let b = l.runs a.0 (record { fuel = a.1.fuel; log = a.1.log; whole = a.1.whole }) in (
+        b.0,
+        b.1,
+        a.2
+            ∙ ap (λ n. wound p old.stack (outcome p n a.0)) is
+            ∙ ap (λ fs. wound p fs (Goes v a.0)) popped
+            ∙ wound-push p stack f (Goes v a.0)
+            ∙ b.2,
+      );
+}
+
+ended_halt : (h : Halt) (s : Run) → Stops (stop_of h) s ≡ ended (end_of h) s
+ended_halt (halt.Trap t) s = refl
+ended_halt halt.Spent s = refl
+ended_halt (halt.Stuck at) s = refl
+
+-- the evaluation ends without a value
+pub ends_halt : (p : Program) (first m : Machine) (next : Next) (o : Run → Out Value) (h : Halt) (e : SourceEnd) → next ≡ now.Stop h → e ≡ end_of h → LeadsWhole p first o m next → Ends first o m e
+ends_halt p first m next o h e is end g = record {
+  ends = λ r sh.
+      let a = g.runs r sh in
+      (a.0, a.1, a.2 ∙ ap (λ n. wound p m.stack (outcome p n a.0)) is ∙ winding.wound-stops (source p) (map frame_of m.stack) (stop_of h) a.0 ∙ ended_halt h a.0 ∙ ap (λ x. ended x a.0) (sym end));
+}

@@ -1,0 +1,5 @@
+use Rattle.lk_sem.proofs.Lookup.{main_params}
+use Rattle.lk_sem.proofs.source.source_run.Goals as goal
+
+pub run_main-requires : goal.run_main-requires
+run_main-requires c = main_params c.args.program.now c.in-Some.main.now c.in-Some.ensures

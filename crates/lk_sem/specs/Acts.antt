@@ -1,0 +1,33 @@
+-- The evaluator's acts, and those that they stand for.
+use Rattle.std.specs.Prelude.{◌≡◌, List, [], ◌∷◌, Option, Some, None, map}
+use Rattle.lk_ast.specs.declared.place.Loc.TheVariants.{Client}
+use Rattle.lk_ast.specs.declared.place.Span.{Span}
+use Rattle.lk_ast.specs.declared.value.FunValue.{FunValue}
+use Rattle.lk_ast.specs.declared.value.Value.{Value}
+use Rattle.lk_sem.specs.Evaluation as spec
+use Rattle.lk_sem.specs.Names.{bind}
+use Rattle.lk_sem.specs.Scope.{names_of}
+use Rattle.lk_sem.specs.Source.{Point, under, concat}
+use Rattle.lk_sem.specs.Values.{text_in}
+use Rattle.lk_sem.specs.declared.act.Act.{Act}
+use Rattle.lk_sem.specs.declared.act.Act.TheVariants.{Give, Tail, Goto, Print, Each, Fails, Lacks}
+
+-- the act that a node at this place does; the evaluator keeps no note of which function it enters, nor of its arguments
+abbrev pub IsAct : Span → Act → spec.Act Point → Type 0
+IsAct at (Give v) a = a ≡ spec.Give v
+IsAct at (Tail e scope) a = a ≡ spec.Tail (under (names_of scope) e.now)
+IsAct at (Goto mark body scope) a = (f : FunValue) × (args : List Value) × (a ≡ spec.Goto mark f args (under (names_of scope) body.now))
+IsAct at (Print bytes) a = a ≡ spec.Uses Client (spec.Printing bytes)
+IsAct at (Each x values body scope) a = a ≡ spec.Each at (map (λ v. under (bind x.now v (names_of scope)) body.now) values)
+IsAct at (Fails trap) a = a ≡ spec.Fails trap
+IsAct at Lacks a = a ≡ spec.Lacks at
+
+-- the one value of a list
+abbrev pub only_of : List Value → Option Value
+only_of (v ∷ []) = Some v
+only_of _ = None
+
+-- `a ^^ b` for any number of values
+abbrev pub concat_all : Span → List Value → spec.Act Point
+concat_all at (v ∷ w ∷ []) = concat at (text_in v) (text_in w)
+concat_all at _ = spec.Lacks at

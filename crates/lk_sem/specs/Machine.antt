@@ -1,0 +1,73 @@
+-- What the evaluator's frames still do, and what its steps keep.
+use Rattle.std.specs.Prelude.{◌≡◌, ℕ, ◌+◌, ◌*◌, List, [], ◌∷◌, ◌++◌, None, length, reverse, map}
+use Rattle.lk_ast.specs.declared.declaration.Program.{Program}
+use Rattle.lk_ast.specs.declared.value.Value.{Value}
+use Rattle.lk_sem.specs.Evaluation.{eval}
+use Rattle.lk_sem.specs.Frames as spec
+use Rattle.lk_sem.specs.Halt.{stop_of}
+use Rattle.lk_sem.specs.Names.{bind}
+use Rattle.lk_sem.specs.Run.{Run, Out, Goes, Stops, Spent, Stuck, Trapped, events_of}
+use Rattle.lk_sem.specs.Scope.{names_of}
+use Rattle.lk_sem.specs.Source.{Point, under, source}
+use Rattle.lk_sem.specs.declared.machine.Frame.{Frame}
+use Rattle.lk_sem.specs.declared.machine.Frame.TheVariants.{Part, Turn, Back}
+use Rattle.lk_sem.specs.declared.machine.Machine.{Machine}
+use Rattle.lk_sem.specs.declared.machine.Next.{Next}
+use Rattle.lk_sem.specs.declared.machine.Next.TheVariants.{Enter, Give, Stop}
+use Rattle.lk_sem.specs.declared.machine.Turns.{Turns}
+use Rattle.lk_sem.specs.declared.run.SourceEnd.{SourceEnd}
+use Rattle.lk_sem.specs.declared.run.SourceEnd.TheVariants as end
+
+-- the bodies for the elements that are left
+abbrev pub bodies : Turns → List Point
+bodies t = map (λ v. under (bind t.name.now v (names_of t.scope)) t.body.now) (reverse t.left)
+
+-- the frame that a frame of the evaluator stands for
+abbrev pub frame_of : Frame → spec.Frame Point
+frame_of (Part w) = spec.Part (under (names_of w.scope) w.expr.now) w.done w.place
+frame_of (Turn t) = spec.Turn t.at (under (names_of t.scope) t.body.now) (bodies t) t.place t.made
+frame_of (Back place) = spec.Back place
+
+-- what a frame does with the value that it waits for
+abbrev pub frame_rest : Program → Frame → Value → Run → Out Value
+frame_rest p frame = spec.continued (source p) (frame_of frame)
+
+-- an outcome, and then what the frames of the stack do, the last first
+abbrev pub wound : Program → List Frame → Out Value → Out Value
+wound p frames out = spec.wound (source p) (map frame_of frames) out
+
+abbrev pub outcome : Program → Next → Run → Out Value
+outcome p (Enter e scope place) r = eval (source p) (under (names_of scope) e.now) place r
+outcome p (Give v) r = Goes v r
+outcome p (Stop halt) r = Stops (stop_of halt) r
+
+-- the machine's fuel and events are those of this run of a whole evaluation
+pub record Shows (m : Machine) (r : Run) : Type 0 where
+  pub fuel : r.fuel ≡ m.fuel
+  pub log : events_of r.log ≡ m.log
+  pub whole : r.returns ≡ None
+
+-- what `todo` and then the frames of the old machine do is what comes next and then the frames of the new one do
+pub record Leads (p : Program) (old : Machine) (todo : Run → Out Value) (new : Machine) (next : Next) : Type 0 where
+  pub runs : (r : Run) → Shows old r → (s : Run) × Shows new s × (wound p old.stack (todo r) ≡ wound p new.stack (outcome p next s))
+
+-- the same, where no frame of the old machine waits
+pub record LeadsWhole (p : Program) (old : Machine) (todo : Run → Out Value) (new : Machine) (next : Next) : Type 0 where
+  pub runs : (r : Run) → Shows old r → (s : Run) × Shows new s × (todo r ≡ wound p new.stack (outcome p next s))
+
+-- how long the machine may still go on
+abbrev pub weight : Machine → Next → ℕ
+weight m (Enter e scope place) = 4 * m.fuel + 2 * length m.stack + 1
+weight m (Give v) = 4 * m.fuel + 2 * length m.stack + 2
+weight m (Stop halt) = 0
+
+-- the outcome that an end stands for
+abbrev pub ended : SourceEnd → Run → Out Value
+ended (end.Value v) r = Goes v r
+ended (end.Trap trap) r = Stops (Trapped trap) r
+ended end.Spent r = Stops Spent r
+ended (end.Stuck at) r = Stops (Stuck at) r
+
+-- `todo` ends so, and the machine shows the run at the end
+pub record Ends (old : Machine) (todo : Run → Out Value) (new : Machine) (e : SourceEnd) : Type 0 where
+  pub ends : (r : Run) → Shows old r → (s : Run) × Shows new s × (todo r ≡ ended e s)

@@ -1,0 +1,323 @@
+//! The evaluation of a program by a machine. What waits stands in a list of its own and not on the machine's own stack,
+//! since the fuel allows a depth of half a million.
+
+ghost use Rattle.std.specs.Prelude.{◌≡◌, ◌++◌, ◌<◌, ◌≤◌, ◌+◌, ◌*◌, length, reverse, map, IfOk};
+ghost use Rattle.lk_sem.specs.Evaluation as spec;
+ghost use Rattle.lk_sem.specs.Values.{list_in, unit as unit_value};
+
+use crate::act::{Act, act_of};
+use crate::names::{Scope, with};
+use crate::run::Halt;
+use crate::syntax::part;
+use lk_ast::{Event, Expr, List, Loc, NoMemory, Program, Span, Text, Value};
+use std::alloc::Global;
+
+/// A node whose first parts have these values, at the next of them.
+#[derive(Drop)]
+pub struct Waiting<'p> {
+    pub expr: &'p Expr,
+    pub done: List<Value>,
+    pub scope: Scope<'p>,
+    pub place: Loc,
+}
+
+/// A `for` at its body, with the elements that are left, the last first, and the list made so far.
+#[derive(Drop)]
+pub struct Turns<'p> {
+    pub at: Span,
+    pub name: &'p Text,
+    pub left: List<Value>,
+    pub body: &'p Expr,
+    pub scope: Scope<'p>,
+    pub place: Loc,
+    pub made: List<Value>,
+}
+
+/// What waits for a value: a node, a `for`, or a call that goes back to that place.
+#[derive(Drop)]
+pub enum Frame<'p> {
+    Part(Waiting<'p>),
+    Turn(Turns<'p>),
+    Back(Loc),
+}
+
+/// What comes next: a node is entered, a value goes to the last frame, or the evaluation ends without one.
+#[derive(Drop)]
+pub enum Next<'p> {
+    Enter(&'p Expr, Scope<'p>, Loc),
+    Give(Value),
+    Stop(Halt),
+}
+
+/// The frames that wait, the last of which waits for the next value; the events so far, and the fuel left.
+#[derive(Drop)]
+pub struct Machine<'p> {
+    pub stack: List<Frame<'p>>,
+    pub log: List<Event>,
+    pub fuel: u64,
+}
+
+impl<'p> Machine<'p> {
+    ghost use Rattle.lk_sem.specs.Acts.{IsAct};
+    ghost use Rattle.lk_sem.specs.Evaluation.{eval, perform, each};
+    ghost use Rattle.lk_sem.specs.Frames.{resumed, returned};
+    ghost use Rattle.lk_sem.specs.Machine.{Leads, bodies, frame_rest, weight};
+    ghost use Rattle.lk_sem.specs.Scope.{names_of};
+    ghost use Rattle.lk_sem.specs.Source.{Point, source, under};
+
+    /// Enters a node.
+    pub fn enter(
+        &mut self,
+        alloc: Global,
+        program: &'p Program,
+        e: &'p Expr,
+        scope: Scope<'p>,
+        place: Loc,
+    ) -> Result<Next<'p>, NoMemory>
+        ensures leads { IfOk result (λ next. Leads program.now self.old (eval (source program.now) (under (names_of scope.entry) e.now) place) self.new next) }
+        ensures falls { IfOk result (λ next. weight self.new next < 4 * self.old.fuel + 2 * length self.old.stack + 1) }
+    {
+        if self.fuel == 0 {
+            return Ok(Next::Stop(Halt::Spent));
+        }
+        self.fuel -= 1;
+        let done = List::new(alloc);
+        Ok(self.go_on(alloc, program, e, done, scope, place)?)
+    }
+
+    /// Goes on with the next part of a node, or with its act.
+    fn go_on(
+        &mut self,
+        alloc: Global,
+        program: &'p Program,
+        e: &'p Expr,
+        done: List<Value>,
+        scope: Scope<'p>,
+        place: Loc,
+    ) -> Result<Next<'p>, NoMemory>
+        ensures leads { IfOk result (λ next. Leads program.now self.old (resumed (source program.now) (under (names_of scope.entry) e.now) done place) self.new next) }
+        ensures falls { IfOk result (λ next. weight self.new next ≤ 4 * self.old.fuel + 2 * length self.old.stack + 3) }
+    {
+        match part(e, done.len()) {
+            Some(next) => {
+                let shared = scope.share()?;
+                let waiting = Waiting {
+                    expr: e,
+                    done,
+                    scope,
+                    place,
+                };
+                self.stack.push(Frame::Part(waiting))?;
+                Ok(Next::Enter(next, shared, place))
+            }
+            None => {
+                let act = act_of(alloc, program, e, scope, done)?;
+                Ok(self.perform(alloc, program, e.span, place, act)?)
+            }
+        }
+    }
+
+    /// Does what a node does; `at` is the node's place in the text.
+    fn perform(
+        &mut self,
+        alloc: Global,
+        program: &'p Program,
+        at: Span,
+        place: Loc,
+        act: Act<'p>,
+    ) -> Result<Next<'p>, NoMemory>
+        ensures leads { IfOk result (λ next. (a : spec.Act Point) → IsAct at act.entry a → Leads program.now self.old (perform (source program.now) (eval (source program.now)) place a) self.new next) }
+        ensures falls { IfOk result (λ next. weight self.new next ≤ 4 * self.old.fuel + 2 * length self.old.stack + 3) }
+    {
+        match act {
+            Act::Give(value) => Ok(Next::Give(value)),
+            Act::Tail(e, scope) => Ok(Next::Enter(e, scope, place)),
+            Act::Goto(mark, body, scope) => Ok(self.go_to(program, place, mark, body, scope)?),
+            Act::Print(text) => Ok(self.print(alloc, program, place, text)?),
+            Act::Each(name, values, body, scope) => {
+                let mut left = values.into_vec();
+                left.reverse();
+                let turns = Turns {
+                    at,
+                    name,
+                    left: List::from_vec(left),
+                    body,
+                    scope,
+                    place,
+                    made: List::new(alloc),
+                };
+                Ok(self.turn(alloc, program, turns)?)
+            }
+            Act::Fails(trap) => Ok(Next::Stop(Halt::Trap(trap))),
+            Act::Lacks => Ok(Next::Stop(Halt::Stuck(at))),
+        }
+    }
+
+    /// Enters the body of a function of that mark.
+    fn go_to(
+        &mut self,
+        program: &'p Program,
+        place: Loc,
+        mark: Loc,
+        body: &'p Expr,
+        scope: Scope<'p>,
+    ) -> Result<Next<'p>, NoMemory>
+        ensures leads { IfOk result (λ next. (f : _) (args : _) → Leads program.now self.old (perform (source program.now) (eval (source program.now)) place (spec.Goto mark f args (under (names_of scope.entry) body.now))) self.new next) }
+        ensures falls { IfOk result (λ next. weight self.new next ≤ 4 * self.old.fuel + 2 * length self.old.stack + 3) }
+    {
+        match (place, mark) {
+            (Loc::Client, Loc::Server) => {
+                self.log.push(Event::Enter)?;
+                self.stack.push(Frame::Back(place))?;
+                Ok(Next::Enter(body, scope, mark))
+            }
+            (Loc::Server, Loc::Client) => {
+                self.log.push(Event::Leave)?;
+                self.stack.push(Frame::Back(place))?;
+                Ok(Next::Enter(body, scope, mark))
+            }
+            _ => Ok(Next::Enter(body, scope, place)),
+        }
+    }
+
+    /// Prints at the client, where control goes and comes back from.
+    fn print(
+        &mut self,
+        alloc: Global,
+        program: &'p Program,
+        place: Loc,
+        text: Text,
+    ) -> Result<Next<'p>, NoMemory>
+        ensures leads { IfOk result (λ next. Leads program.now self.old (perform (source program.now) (eval (source program.now)) place (spec.Uses Loc.Client (spec.Printing text))) self.new next) }
+        ensures falls { IfOk result (λ next. weight self.new next ≤ 4 * self.old.fuel + 2 * length self.old.stack + 3) }
+    {
+        match place {
+            Loc::Server => {
+                self.log.push(Event::Leave)?;
+                self.log.push(Event::Print(text))?;
+                self.log.push(Event::Enter)?;
+                Ok(Next::Give(unit(alloc)))
+            }
+            _ => {
+                self.log.push(Event::Print(text))?;
+                Ok(Next::Give(unit(alloc)))
+            }
+        }
+    }
+
+    /// Enters the body for the next element, or has the list that was made.
+    fn turn(
+        &mut self,
+        alloc: Global,
+        program: &'p Program,
+        turns: Turns<'p>,
+    ) -> Result<Next<'p>, NoMemory>
+        ensures leads { IfOk result (λ next. Leads program.now self.old (each (source program.now) (eval (source program.now)) turns.entry.at (bodies turns.entry) turns.entry.place turns.entry.made) self.new next) }
+        ensures falls { IfOk result (λ next. weight self.new next ≤ 4 * self.old.fuel + 2 * length self.old.stack + 3) }
+    {
+        let mut turns = turns;
+        match turns.left.pop() {
+            Some(value) => {
+                let inner = with(alloc, turns.scope.share()?, turns.name, value)?;
+                let next = Next::Enter(turns.body, inner, turns.place);
+                self.stack.push(Frame::Turn(turns))?;
+                Ok(next)
+            }
+            None => Ok(Next::Give(Value::List(turns.made))),
+        }
+    }
+
+    /// Puts the list of a body after those made so far.
+    fn take(
+        &mut self,
+        alloc: Global,
+        program: &'p Program,
+        turns: Turns<'p>,
+        value: Value,
+    ) -> Result<Next<'p>, NoMemory>
+        ensures leads { IfOk result (λ next. Leads program.now self.old (frame_rest program.now (Frame.Turn turns.entry) value) self.new next) }
+        ensures falls { IfOk result (λ next. weight self.new next ≤ 4 * self.old.fuel + 2 * length self.old.stack + 3) }
+    {
+        match list_of(value) {
+            Some(values) => {
+                let made = joined(turns.made, values)?;
+                Ok(self.turn(alloc, program, Turns { made, ..turns })?)
+            }
+            None => Ok(Next::Stop(Halt::Stuck(turns.at))),
+        }
+    }
+
+    /// Goes back to the place of a call with its value.
+    fn come_back(
+        &mut self,
+        program: &'p Program,
+        place: Loc,
+        value: Value,
+    ) -> Result<Next<'p>, NoMemory>
+        ensures leads { IfOk result (λ next. Leads program.now self.old (returned place value) self.new next) }
+        ensures falls { IfOk result (λ next. weight self.new next ≤ 4 * self.old.fuel + 2 * length self.old.stack + 3) }
+    {
+        match place {
+            Loc::Client => {
+                self.log.push(Event::Leave)?;
+                Ok(Next::Give(value))
+            }
+            Loc::Server => {
+                self.log.push(Event::Enter)?;
+                Ok(Next::Give(value))
+            }
+            Loc::Any => Ok(Next::Give(value)),
+        }
+    }
+
+    /// Gives a frame the value that it waits for.
+    pub fn give(
+        &mut self,
+        alloc: Global,
+        program: &'p Program,
+        frame: Frame<'p>,
+        value: Value,
+    ) -> Result<Next<'p>, NoMemory>
+        ensures leads { IfOk result (λ next. Leads program.now self.old (frame_rest program.now frame.entry value) self.new next) }
+        ensures falls { IfOk result (λ next. weight self.new next ≤ 4 * self.old.fuel + 2 * length self.old.stack + 3) }
+    {
+        match frame {
+            Frame::Part(waiting) => {
+                let Waiting {
+                    expr,
+                    mut done,
+                    scope,
+                    place,
+                } = waiting;
+                done.push(value)?;
+                Ok(self.go_on(alloc, program, expr, done, scope, place)?)
+            }
+            Frame::Turn(turns) => Ok(self.take(alloc, program, turns, value)?),
+            Frame::Back(place) => Ok(self.come_back(program, place, value)?),
+        }
+    }
+}
+
+fn list_of(value: Value) -> Option<List<Value>>
+    ensures { result ≡ list_in value }
+{
+    match value {
+        Value::List(values) => Some(values),
+        _ => None,
+    }
+}
+
+fn unit(alloc: Global) -> Value
+    ensures { result ≡ unit_value }
+{
+    Value::Fields(List::new(alloc))
+}
+
+fn joined(values: List<Value>, more: List<Value>) -> Result<List<Value>, NoMemory>
+    ensures { IfOk result (λ all. all ≡ values ++ more) }
+{
+    let mut values = values.into_vec();
+    let mut more = more.into_vec();
+    values.append(&mut more)?;
+    Ok(List::from_vec(values))
+}

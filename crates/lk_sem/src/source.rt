@@ -1,0 +1,85 @@
+//! The direct evaluation of a program.
+
+ghost use Rattle.std.specs.Prelude.{◌≡◌, [], length, IfOk, IfSome, IsSome};
+ghost use Rattle.lk_sem.specs.Machine.{Ends, outcome};
+ghost use Rattle.lk_sem.specs.Names.{main_of as main_in};
+ghost use Rattle.lk_sem.specs.Runs.{IsRunOf};
+ghost use Rattle.lk_sem.specs.Source.{session};
+
+use crate::functions::main_of;
+use crate::machine::{Machine, Next};
+use crate::names::bind_params;
+use crate::run::{SourceEnd, SourceRun};
+use lk_ast::{Base, FunDef, List, Loc, NoMemory, Program, Shared, Text, Value};
+use std::alloc::Global;
+
+/// Evaluates the `main` of a program, which has one, with this argument and at most this fuel.
+pub fn source_run(
+    alloc: Global,
+    program: &Program,
+    arg: &Text,
+    fuel: u64,
+) -> Result<SourceRun, NoMemory>
+    requires { IsSome (main_in program.now) }
+    ensures { IfOk result (λ run. IfSome (main_in program.now) (λ main. IsRunOf (session program.now main arg.now) fuel run)) }
+{
+    match main_of(program) {
+        Some(main) => run_main(alloc, program, main, arg, fuel),
+        None => unreachable!(),
+    }
+}
+
+/// Evaluates the body of a function of one parameter at the client.
+fn run_main(
+    alloc: Global,
+    program: &Program,
+    main: &FunDef,
+    arg: &Text,
+    fuel: u64,
+) -> Result<SourceRun, NoMemory>
+    requires { length main.now.params ≡ 1 }
+    ensures { IfOk result (IsRunOf (session program.now main.now arg.now) fuel) }
+{
+    let mut args = List::new(alloc);
+    args.push(Value::Base(Base::Text(arg.copy(alloc)?)))?;
+    let bindings = match bind_params(alloc, main.params.as_slice(), args)? {
+        Some(bindings) => bindings,
+        None => unreachable!(),
+    };
+    let scope = Shared::new(alloc, bindings)?;
+    let mut machine = Machine {
+        stack: List::new(alloc),
+        log: List::new(alloc),
+        fuel,
+    };
+    let first = Next::Enter(&main.body, scope, Loc::Client);
+    let end = run(alloc, program, &mut machine, first)?;
+    Ok(SourceRun {
+        end,
+        used: fuel - machine.fuel,
+        log: machine.log,
+    })
+}
+
+/// Goes on to the end.
+fn run<'p>(
+    alloc: Global,
+    program: &'p Program,
+    machine: &mut Machine<'p>,
+    first: Next<'p>,
+) -> Result<SourceEnd, NoMemory>
+    requires { machine.old.stack ≡ [] }
+    ensures { IfOk result (λ end. Ends machine.old (outcome program.now first.entry) machine.new end) }
+{
+    let mut next = first;
+    loop {
+        next = match next {
+            Next::Enter(e, scope, place) => machine.enter(alloc, program, e, scope, place)?,
+            Next::Give(value) => match machine.stack.pop() {
+                Some(frame) => machine.give(alloc, program, frame, value)?,
+                None => return Ok(SourceEnd::Value(value)),
+            },
+            Next::Stop(halt) => return Ok(halt.end()),
+        };
+    }
+}
