@@ -18,6 +18,8 @@ mod same;
 mod shared;
 mod signature;
 mod table;
+#[cfg(test)]
+mod tests;
 mod text;
 mod value;
 
