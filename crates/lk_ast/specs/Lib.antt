@@ -1,2 +1,3 @@
 pub mod formers
 pub mod BaseOrder
+pub mod JsonText

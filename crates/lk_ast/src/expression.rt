@@ -12,10 +12,26 @@ pub struct SortKey {
 
 /// An expression: its first to its last token, without parentheses or braces round it, and what it is.
 #[cycle(tree)]
-#[derive(Debug, Drop)]
+#[derive(Debug)]
 pub struct Expr {
     pub span: Span,
     pub node: Boxed<Node>,
+}
+
+impl Drop for Expr {
+    /// A text of a mebibyte may chain half a million statements. The loop goes down the rests of a block: a call for
+    /// each would take more stack than there is.
+    #[cycle(tree)]
+    fn drop(mut self) {
+        loop {
+            let Expr { span: _, node } = self;
+            match node.into_inner() {
+                Node::Seq(_statement, rest) => self = rest,
+                Node::Var(_name, _bound, rest) => self = rest,
+                _other => return,
+            }
+        }
+    }
 }
 
 /// `l = e` in a record or in the `set` of an update.

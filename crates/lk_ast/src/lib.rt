@@ -10,6 +10,7 @@ mod copies;
 mod declaration;
 mod event;
 mod expression;
+mod json;
 mod list;
 mod memory;
 mod place;
@@ -17,6 +18,8 @@ mod same;
 mod shared;
 mod signature;
 mod table;
+#[cfg(test)]
+mod tests;
 mod text;
 mod value;
 
@@ -26,6 +29,7 @@ pub use copies::{copy_row, copy_value};
 pub use declaration::{ColumnDecl, Decl, FunDef, Program, TableDecl};
 pub use event::{Event, ReadEvent, Trap, WriteEvent};
 pub use expression::{Case, ChangeExpr, Expr, LambdaExpr, LastCase, Node, PartExpr, SortKey};
+pub use json::value_text;
 pub use list::List;
 pub use memory::NoMemory;
 pub use place::{Loc, Span, Word};
