@@ -1,0 +1,4 @@
+pub mod Steps
+pub mod Tokens
+pub mod Grammar
+pub mod Answers
