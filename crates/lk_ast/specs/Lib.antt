@@ -1,3 +1,4 @@
 pub mod formers
 pub mod BaseOrder
 pub mod JsonText
+pub mod Rows

@@ -28,7 +28,8 @@ fn copy_cell(alloc: Global, cell: &Cell) -> Result<Cell, NoMemory>
     Ok(Cell { label, value })
 }
 
-fn copy_base(alloc: Global, base: &Base) -> Result<Base, NoMemory>
+/// The same base value once more.
+pub fn copy_base(alloc: Global, base: &Base) -> Result<Base, NoMemory>
     ensures { IfOk result (λ copy. copy ≡ base.now) }
 {
     match base {
@@ -56,8 +57,9 @@ pub fn copy_value(alloc: Global, value: &Value) -> Result<Value, NoMemory>
     }
 }
 
+/// The same values once more.
 #[cycle(copies)]
-fn copy_values(alloc: Global, values: &[Value]) -> Result<List<Value>, NoMemory>
+pub fn copy_values(alloc: Global, values: &[Value]) -> Result<List<Value>, NoMemory>
     ensures { IfOk result (λ copy. copy ≡ values.now) }
 {
     let mut copies = List::new(alloc);

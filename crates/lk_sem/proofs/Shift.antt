@@ -1,6 +1,7 @@
 -- Where an evaluation starts only shifts the numbers of its entries.
 use Rattle.std.proofs.Common.{◌≡◌, ℕ, zero, suc, ◌+◌, List, [], ◌∷◌, ◌++◌, refl, sym, ◌∙◌, ap, arith, append_assoc}
 use Rattle.std.specs.Prelude.{Option, Some, None, map}
+use Rattle.lk_ast.specs.Rows.{rows_value}
 use Rattle.lk_ast.specs.declared.event.Event.{Event}
 use Rattle.lk_ast.specs.declared.event.Event.TheVariants.{Enter, Leave, Read}
 use Rattle.lk_ast.specs.declared.place.Loc.{Loc}
@@ -10,7 +11,6 @@ use Rattle.lk_ast.specs.declared.value.Value.TheVariants as value
 use Rattle.lk_sem.specs.Evaluation.{Language, client_call, reading, node, eval_to, eval}
 use Rattle.lk_sem.specs.Laws.{moved, shift, shifted}
 use Rattle.lk_sem.specs.Run.{Run, Entry, Out, Goes, Stops, Trapped, Stuck, Spent, Asked, Within, Callee, Crossing, Called, Returned, and_then, step, logs, enter_with}
-use Rattle.lk_sem.specs.Values.{row_value}
 use Rattle.lk_sem.proofs.Walk.{Walk, node_walks}
 
 pub moved-append : (n : ℕ) (l m : List Entry) → moved n (l ++ m) ≡ moved n l ++ moved n m
@@ -40,7 +40,7 @@ module _ (n : ℕ) (log : List Entry) where
   reads : (site : ℕ) (args : List Value) (answers : List (List Row)) (r : Run) → reading site args answers (shift n log r) ≡ shifted n log (reading site args answers r)
   reads site args [] r = refl
   reads site args (answer ∷ later) r =
-      ap (Goes (value.List (map row_value answer))) (logged (Read (record { site = site; args = args; answer = answer })) Within (record r { answers = later }))
+      ap (Goes (rows_value answer)) (logged (Read (record { site = site; args = args; answer = answer })) Within (record r { answers = later }))
 
   -- the entry and the step that a return takes
   entered : (v : Value) (r : Run) → Goes v (logs Enter (Returned v) (step (shift n log r))) ≡ Goes v (shift n log (logs Enter (Returned v) (step r)))

@@ -2,6 +2,7 @@
 -- function's body at the place of its mark), with fuel, steps and a log, for any language whose points have parts and
 -- an action.
 use Rattle.std.specs.Prelude.{map, ℕ, zero, suc, Bool, true, false, List, [], ◌∷◌, ◌++◌, Option, Some, None}
+use Rattle.lk_ast.specs.Rows.{rows_value}
 use Rattle.lk_ast.specs.declared.event.Event.TheVariants.{Print, Enter, Leave, Read, Write}
 use Rattle.lk_ast.specs.declared.event.Trap.{Trap}
 use Rattle.lk_ast.specs.declared.place.Loc.{Loc}
@@ -12,7 +13,7 @@ use Rattle.lk_ast.specs.declared.value.FunValue.{FunValue}
 use Rattle.lk_ast.specs.declared.value.Value.{Value}
 use Rattle.lk_ast.specs.declared.value.Value.TheVariants as value
 use Rattle.lk_sem.specs.Run.{Run, Out, Goes, Stops, Spent, Waiting, Stuck, Trapped, Asked, and_then, step, logs, enter, Callee, Function, Printer, Site, Within, Called, Returned}
-use Rattle.lk_sem.specs.Values.{text, unit, list_in, row_value}
+use Rattle.lk_sem.specs.Values.{text, unit, list_in}
 
 -- what only one place can do: the client prints; the server reads and writes tables, at that place in the text
 pub data Primitive : Type 0 where
@@ -70,7 +71,7 @@ call_from place mark callee args body r = body place r
 -- a reading has the next answer as its value
 abbrev pub reading : ℕ → List Value → List (List Row) → Run → Out Value
 reading site args [] r = Stops Waiting r
-reading site args (answer ∷ later) r = Goes (value.List (map row_value answer)) (logs (Read (record { site = site; args = args; answer = answer })) Within (record r { answers = later }))
+reading site args (answer ∷ later) r = Goes (rows_value answer) (logs (Read (record { site = site; args = args; answer = answer })) Within (record r { answers = later }))
 
 abbrev pub used : Primitive → Run → Out Value
 used (Printing bytes) r = Goes unit (logs (Print bytes) Within r)

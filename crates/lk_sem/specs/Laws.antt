@@ -1,11 +1,12 @@
 -- The words in which the laws of evaluation are stated; their proofs stand in proofs/.
 use Rattle.std.specs.Prelude.{◌≡◌, ℕ, ◌+◌, List, [], ◌∷◌, ◌++◌, map, Option, Some, None}
+use Rattle.lk_ast.specs.Rows.{rows_value}
 use Rattle.lk_ast.specs.declared.table.Row.{Row}
 use Rattle.lk_ast.specs.declared.value.Value.{Value}
 use Rattle.lk_ast.specs.declared.value.Value.TheVariants as value
 use Rattle.lk_sem.specs.Evaluation.{Act, Give, Tail, Goto, Uses, Each, Fails, Lacks, Language, args_of}
 use Rattle.lk_sem.specs.Run.{Run, Entry, Out, Goes, Stops, Stop, Trapped, Spent, Waiting, Stuck, Asked, Callee, Function, Printer, Site, Crossing, Within, Called, Returned}
-use Rattle.lk_sem.specs.Values.{unit, list_in, row_value}
+use Rattle.lk_sem.specs.Values.{unit, list_in}
 
 -- ---- the run at an end
 
@@ -91,7 +92,7 @@ pub record Match (l m : Language) (R : l.Point → m.Point → Type 0) (V : Valu
   -- lists of values that match do, those that tables give match themselves, and so does the unit value
   pub lists : (values others : List Value) → Both V values others → V (value.List values) (value.List others)
   pub listed : (v w : Value) → V v w → Maybe (Both V) (list_in v) (list_in w)
-  pub rows : (rows : List Row) → V (value.List (map row_value rows)) (value.List (map row_value rows))
+  pub rows : (rows : List Row) → V (rows_value rows) (rows_value rows)
   pub units : V unit unit
 
 abbrev pub MatchingCrossings : (Value → Value → Type 0) → Crossing → Crossing → Type 0

@@ -1,9 +1,7 @@
 -- Values by their kinds.
-use Rattle.std.specs.Prelude.{ℕ, Bool, true, false, List, [], ◌∷◌, Option, Some, None, map}
+use Rattle.std.specs.Prelude.{ℕ, Bool, true, false, List, [], ◌∷◌, Option, Some, None}
 use Rattle.lk_ast.specs.declared.table.Base.{Base}
 use Rattle.lk_ast.specs.declared.table.Base.TheVariants as base
-use Rattle.lk_ast.specs.declared.table.Cell.{Cell}
-use Rattle.lk_ast.specs.declared.table.Row.{Row}
 use Rattle.lk_ast.specs.declared.value.Field.{Field}
 use Rattle.lk_ast.specs.declared.value.FunValue.{FunValue}
 use Rattle.lk_ast.specs.declared.value.Value.{Value, out-Value}
@@ -16,10 +14,6 @@ text bytes = value.Base (base.Text bytes)
 -- the unit value, which is the record without fields
 abbrev pub unit : Value
 unit = value.Fields []
-
--- a row of a table is a record
-abbrev pub row_value : Row → Value
-row_value row = value.Fields (map {A = Cell} (λ cell. record { label = cell.label; value = value.Base cell.value }) row.cells)
 
 abbrev base_at : Value-F Value Field FunValue → Option Base
 base_at (Value-F.Base b) = Some b
