@@ -1,6 +1,7 @@
 -- The answers to a command line: which come, with their causes; what is printed for each, and the status.
-use Rattle.std.specs.Prelude.{◌≡◌, ◌⊎◌, ℕ, List, [], ◌++◌, Option, Some, None, Result, Ok, Err, MatchResult, codes, decimal}
-use Rattle.lk_ast.specs.declared.place.Span.{Span}
+use Rattle.std.specs.Prelude.{◌≡◌, ◌⊎◌, ℕ, List, [], ◌∷◌, Option, Some, None, Result, Ok, Err, MatchResult, codes, decimal}
+use Rattle.lk_ast.specs.declared.declaration.FunDef.{FunDef}
+use Rattle.lk_ast.specs.declared.declaration.Program.{Program}
 use Rattle.lk_outside.specs.Causes.{Rose}
 use Rattle.lk_outside.specs.Sink.{Appends, AppendsFront}
 use Rattle.lk_parse.specs.Grammar.{program_in}
@@ -10,45 +11,57 @@ use Rattle.lk_sem.specs.Source.{session}
 use Rattle.lk_sem.specs.declared.run.SourceEnd.{SourceEnd}
 use Rattle.lk_sem.specs.declared.run.SourceEnd.TheVariants as end
 use Rattle.lk_sem.specs.declared.run.SourceRun.{SourceRun}
-use Rattle.lk_cli.specs.Report.{report_of}
+use Rattle.lk_cli.specs.Report.{line, report_of}
 use Rattle.lk_cli.specs.Seen.{FilesSeen, WasRead}
-use Rattle.lk_cli.specs.Words.{program_of}
 use Rattle.lk_cli.specs.declared.TheConstants.{FUEL}
 use Rattle.lk_cli.specs.declared.answer.Refusal.{Refusal}
 use Rattle.lk_cli.specs.declared.answer.Refusal.TheVariants.{Words, ReadFault, Unexpected, NoMain, NoMemory}
-use Rattle.lk_cli.specs.declared.command.Command.{Command}
-use Rattle.lk_cli.specs.declared.command.Command.TheVariants.{Source}
+use Rattle.lk_cli.specs.declared.command.SourceCommand.{SourceCommand}
 
--- the run is the evaluation of the session with this argument of the program that the text is
-abbrev pub IsSourceRun : List ℕ → List ℕ → SourceRun → Type 0
-IsSourceRun text arg run = (program : _) × (program_in text ≡ Some program) × ((main : _) × (main_of program ≡ Some main) × IsRunOf (session program main arg) FUEL run)
+-- the program that the text in that file is
+abbrev pub IsProgram : FilesSeen → List ℕ → Program → Type 0
+IsProgram files name program = (text : List ℕ) × WasRead files name text × (program_in text ≡ Some program)
+
+-- the run is the evaluation of the program's session with this argument
+abbrev pub IsSession : Program → List ℕ → SourceRun → Type 0
+IsSession program arg run = (main : FunDef) × (main_of program ≡ Some main) × IsRunOf (session program main arg) FUEL run
 
 -- what a command comes to where nothing refuses it
-abbrev pub Gives : FilesSeen → Option Command → SourceRun → Type 0
-Gives files (Some (Source program arg)) run = (text : List ℕ) × WasRead files program text × IsSourceRun text arg run
+abbrev pub Gives : FilesSeen → Option SourceCommand → SourceRun → Type 0
+Gives files (Some command) run = (program : Program) × IsProgram files command.program program × IsSession program command.arg run
 Gives files None run = ⊥
 
--- Why a command is refused: no form has the words; the program's file couldn't be read, and that was the last failed
--- read; its text isn't a program; the program has no `main`. Want of memory has no cause here.
-abbrev pub RefusedBy : FilesSeen → Option Command → Refusal → Type 0
-RefusedBy files command NoMemory = Unit {0}
+-- why no program comes of that file: it couldn't be read, and this was the last failed read; or its text is no program
+abbrev pub HasNoProgram : FilesSeen → List ℕ → Refusal → Type 0
+HasNoProgram files name (ReadFault failed) = Rose files.before files.after × (failed ≡ files.failed) × (failed ≡ name)
+HasNoProgram files name (Unexpected at) = (at ≡ record { start = 0; end = 0 }) × ((text : List ℕ) × WasRead files name text × (program_in text ≡ None))
+HasNoProgram files name NoMemory = Unit {0}
+HasNoProgram files name refusal = ⊥
+
+-- why a program has no session: there is no `main`
+abbrev pub HasNoSession : Program → Refusal → Type 0
+HasNoSession program NoMain = main_of program ≡ None
+HasNoSession program NoMemory = Unit {0}
+HasNoSession program refusal = ⊥
+
+-- why a command is refused: no form has the words; there is no program; it has no session; want of memory has no cause
+abbrev pub RefusedBy : FilesSeen → Option SourceCommand → Refusal → Type 0
 RefusedBy files None Words = Unit {0}
-RefusedBy files (Some command) (ReadFault name) = Rose files.before files.after × (name ≡ files.failed) × (name ≡ program_of command)
-RefusedBy files (Some command) (Unexpected at) = (at ≡ record { start = 0; end = 0 }) × ((text : List ℕ) × WasRead files (program_of command) text × (program_in text ≡ None))
-RefusedBy files (Some command) NoMain = (text : List ℕ) × WasRead files (program_of command) text × ((program : _) × (program_in text ≡ Some program) × (main_of program ≡ None))
-RefusedBy files command refusal = ⊥
+RefusedBy files None NoMemory = Unit {0}
+RefusedBy files None refusal = ⊥
+RefusedBy files (Some command) refusal = HasNoProgram files command.program refusal ⊎ ((program : Program) × IsProgram files command.program program × HasNoSession program refusal)
 
 -- an answer with its cause
-abbrev pub Answers : FilesSeen → Option Command → Result SourceRun Refusal → Type 0
+abbrev pub Answers : FilesSeen → Option SourceCommand → Result SourceRun Refusal → Type 0
 Answers files command answer = MatchResult answer (Gives files command) (RefusedBy files command)
 
 -- what is printed: `words`, `read fault NAME`, or `refused` with the number, the name and the fields of a refusal
 abbrev pub printed : Result SourceRun Refusal → List ℕ
 printed (Ok run) = report_of run
-printed (Err Words) = codes "words\n"
-printed (Err (ReadFault name)) = codes "read fault " ++ name ++ codes "\n"
-printed (Err (Unexpected at)) = codes "refused 3 Unexpected " ++ decimal at.start ++ codes " " ++ decimal at.end ++ codes "\n"
-printed (Err NoMain) = codes "refused 8 NoMain\n"
+printed (Err Words) = line (codes "words" ∷ [])
+printed (Err (ReadFault name)) = line (codes "read" ∷ codes "fault" ∷ name ∷ [])
+printed (Err (Unexpected at)) = line (codes "refused" ∷ codes "3" ∷ codes "Unexpected" ∷ decimal at.start ∷ decimal at.end ∷ [])
+printed (Err NoMain) = line (codes "refused" ∷ codes "8" ∷ codes "NoMain" ∷ [])
 printed (Err NoMemory) = []
 
 abbrev pub end_status : SourceEnd → ℕ

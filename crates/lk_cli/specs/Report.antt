@@ -1,25 +1,36 @@
 -- What `source` prints: a line for each event in order, and a last line for the end. Values are JSON texts.
-use Rattle.std.specs.Prelude.{ℕ, List, ◌++◌, map, codes, decimal}
+use Rattle.std.specs.Prelude.{ℕ, List, [], ◌∷◌, ◌++◌, codes, decimal}
 use Rattle.std.specs.List.{flat_map}
 use Rattle.lk_ast.specs.JsonText.{value_text_of}
+use Rattle.lk_ast.specs.Rows.{rows_value}
 use Rattle.lk_ast.specs.declared.event.Event.{Event}
 use Rattle.lk_ast.specs.declared.event.Event.TheVariants.{Print, Enter, Leave, Read, Write}
 use Rattle.lk_ast.specs.declared.event.Trap.{Trap}
 use Rattle.lk_ast.specs.declared.event.Trap.TheVariants.{Divide, Head, Tail}
 use Rattle.lk_ast.specs.declared.value.Value.{Value}
 use Rattle.lk_ast.specs.declared.value.Value.TheVariants as value
-use Rattle.lk_sem.specs.Values.{text, row_value}
+use Rattle.lk_sem.specs.Values.{text}
 use Rattle.lk_sem.specs.declared.run.SourceEnd.{SourceEnd}
 use Rattle.lk_sem.specs.declared.run.SourceEnd.TheVariants as end
 use Rattle.lk_sem.specs.declared.run.SourceRun.{SourceRun}
 
+-- words with a space between them, and a line feed
+abbrev pub line : List (List ℕ) → List ℕ
+line [] = codes "\n"
+line (word ∷ []) = word ++ codes "\n"
+line (word ∷ words) = word ++ (codes " " ++ line words)
+
+-- the place of a query or of a change of tables in the program's text
+abbrev pub site_word : ℕ → List ℕ
+site_word site = codes "@" ++ decimal site
+
 -- `enter`, `leave`, `print TEXT`, `read @SITE ARGS ANSWER` and `write @SITE ARGS`
 abbrev pub event_line : Event → List ℕ
-event_line (Print bytes) = codes "print " ++ value_text_of (text bytes) ++ codes "\n"
-event_line Enter = codes "enter\n"
-event_line Leave = codes "leave\n"
-event_line (Read e) = codes "read @" ++ decimal e.site ++ codes " " ++ value_text_of (value.List e.args) ++ codes " " ++ value_text_of (value.List (map row_value e.answer)) ++ codes "\n"
-event_line (Write e) = codes "write @" ++ decimal e.site ++ codes " " ++ value_text_of (value.List e.args) ++ codes "\n"
+event_line (Print bytes) = line (codes "print" ∷ value_text_of (text bytes) ∷ [])
+event_line Enter = line (codes "enter" ∷ [])
+event_line Leave = line (codes "leave" ∷ [])
+event_line (Read e) = line (codes "read" ∷ site_word e.site ∷ value_text_of (value.List e.args) ∷ value_text_of (rows_value e.answer) ∷ [])
+event_line (Write e) = line (codes "write" ∷ site_word e.site ∷ value_text_of (value.List e.args) ∷ [])
 
 abbrev pub trap_name : Trap → List ℕ
 trap_name Divide = codes "divide"
@@ -28,10 +39,10 @@ trap_name Tail = codes "tail"
 
 -- `done FUEL VALUE`, `trap FUEL KIND`, `spent`, or `stuck START END`
 abbrev pub end_line : SourceEnd → ℕ → List ℕ
-end_line (end.Value v) used = codes "done " ++ decimal used ++ codes " " ++ value_text_of v ++ codes "\n"
-end_line (end.Trap trap) used = codes "trap " ++ decimal used ++ codes " " ++ trap_name trap ++ codes "\n"
-end_line end.Spent used = codes "spent\n"
-end_line (end.Stuck at) used = codes "stuck " ++ decimal at.start ++ codes " " ++ decimal at.end ++ codes "\n"
+end_line (end.Value v) used = line (codes "done" ∷ decimal used ∷ value_text_of v ∷ [])
+end_line (end.Trap trap) used = line (codes "trap" ∷ decimal used ∷ trap_name trap ∷ [])
+end_line end.Spent used = line (codes "spent" ∷ [])
+end_line (end.Stuck at) used = line (codes "stuck" ∷ decimal at.start ∷ decimal at.end ∷ [])
 
 abbrev pub report_of : SourceRun → List ℕ
 report_of run = flat_map event_line run.log ++ end_line run.end run.used

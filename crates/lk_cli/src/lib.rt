@@ -18,7 +18,7 @@ mod report;
 mod top;
 
 pub use answer::Refusal;
-pub use command::Command;
+pub use command::SourceCommand;
 pub use top::links_main;
 
 /// How many bytes of a program's file are read: one more than a program's text may have.
