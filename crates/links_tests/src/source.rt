@@ -1,0 +1,101 @@
+//! `source`, from the words to the bytes of the sink and the status.
+
+use lk_ast::{Bytes, List, Text};
+use lk_cli::links_main;
+use lk_outside::{FileEntry, MemFiles, MemSink};
+use std::alloc::Global;
+use std::process::Abort;
+use std::test::Fail;
+
+const HELLO: &str = "fun main(a) client { \"hi \" ^^ a }\n";
+
+fn words(alloc: Global, line: &[&str]) -> Result<Vec<String>, Fail> {
+    let mut words = Vec::new(alloc);
+    for word in line {
+        words.push(String::from_str(alloc, word)?)?;
+    }
+    Ok(words)
+}
+
+/// The files `hello.links` and `other.links`, which is no program; the reads of these numbers fail.
+fn files(alloc: Global, failing: List<u64>) -> Result<MemFiles, Fail> {
+    let mut files = List::new(alloc);
+    for (name, content) in [
+        ("hello.links", HELLO),
+        ("other.links", "fun main(a) client { a }\n"),
+    ] {
+        files.push(FileEntry {
+            name: Text::from_str(alloc, name)?,
+            content: Bytes::from_slice(alloc, content.as_bytes())?,
+        })?;
+    }
+    Ok(MemFiles::new(files, failing))
+}
+
+/// The number of the first call.
+fn first(alloc: Global) -> Result<List<u64>, Fail> {
+    let mut numbers = List::new(alloc);
+    numbers.push(0)?;
+    Ok(numbers)
+}
+
+/// Runs the words, and asserts the status and what the sink took.
+fn check(
+    rt: &impl Abort,
+    alloc: Global,
+    line: &[&str],
+    failing_reads: List<u64>,
+    failing_writes: List<u64>,
+    want: (u8, &str),
+) -> Result<(), Fail> {
+    let words = words(alloc, line)?;
+    let mut files = files(alloc, failing_reads)?;
+    let mut out = MemSink::new(alloc, failing_writes);
+    let status = links_main(alloc, &words, &mut files, &mut out);
+    assert_eq!(rt; status, want.0);
+    assert_eq!(rt; out.taken().as_slice(), want.1.as_bytes());
+    Ok(())
+}
+
+#[test]
+fn says_hello(rt: HostRuntime) -> Result<(), Fail> {
+    let alloc = rt.alloc();
+    let line = ["source", "hello.links", "ann"];
+    let want = (0, "done 3 \"hi ann\"\n");
+    check(&rt, alloc, &line, List::new(alloc), List::new(alloc), want)
+}
+
+#[test]
+fn refuses_what_is_no_program(rt: HostRuntime) -> Result<(), Fail> {
+    let alloc = rt.alloc();
+    let line = ["source", "other.links", "ann"];
+    let want = (1, "refused 3 Unexpected 0 0\n");
+    check(&rt, alloc, &line, List::new(alloc), List::new(alloc), want)
+}
+
+#[test]
+fn refuses_words_without_a_form(rt: HostRuntime) -> Result<(), Fail> {
+    let alloc = rt.alloc();
+    let want = (2, "words\n");
+    check(&rt, alloc, &[], List::new(alloc), List::new(alloc), want)?;
+    let line = ["sauce", "hello.links", "ann"];
+    check(&rt, alloc, &line, List::new(alloc), List::new(alloc), want)
+}
+
+#[test]
+fn tells_which_file_could_not_be_read(rt: HostRuntime) -> Result<(), Fail> {
+    let alloc = rt.alloc();
+    let line = ["source", "none.links", "ann"];
+    let want = (3, "read fault none.links\n");
+    check(&rt, alloc, &line, List::new(alloc), List::new(alloc), want)?;
+    let line = ["source", "hello.links", "ann"];
+    let want = (3, "read fault hello.links\n");
+    check(&rt, alloc, &line, first(alloc)?, List::new(alloc), want)
+}
+
+#[test]
+fn fails_with_its_sink(rt: HostRuntime) -> Result<(), Fail> {
+    let alloc = rt.alloc();
+    let line = ["source", "hello.links", "ann"];
+    check(&rt, alloc, &line, List::new(alloc), first(alloc)?, (4, ""))
+}
