@@ -1,12 +1,12 @@
 -- The JSON of a value holds no float, so that its text is known.
-use Rattle.std.proofs.Common.{◌≡◌, List, [], ◌∷◌, map, fold, Bool, true, false, ◌||◌, Ordering, Less, Equal, Greater, ℤ, pos, negsuc, refl, sym, ap, ap₂, ◌∙◌, subst, ℕ}
+use Rattle.std.proofs.Common.{◌≡◌, List, [], ◌∷◌, map, fold, Bool, true, false, ◌||◌, Ordering, Less, Equal, Greater, pos, negsuc, refl, ap, ap₂, ◌∙◌, subst, ℕ}
 use Rattle.std.specs.Prelude.{⊤}
 use Rattle.std.specs.Ordering.{nat_cmp, match_ordering}
 use Rattle.std.specs.Cmp.Lexicographic.{slice_cmp}
 use Rattle.serde_json.specs.Data.{Data, Members, no_members, member, put}
 use Rattle.serde_json.specs.Written.{has_float, items_have_float, members_have_float}
 use Rattle.serde_json.specs.View.{items_of}
-use Rattle.lk_ast.specs.JsonText.{Entry, base_data, record_data, level_data, members_of, value_data}
+use Rattle.lk_ast.specs.JsonText.{Entry, base_data, record_data, level_data, value_data}
 use Rattle.lk_ast.specs.declared.table.Base.{Base}
 use Rattle.lk_ast.specs.declared.table.Base.TheVariants.{Int, Bool as Truth, Text}
 use Rattle.lk_ast.specs.declared.value.Field.{Field, roll-Field}

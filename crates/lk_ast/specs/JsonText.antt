@@ -8,7 +8,7 @@ use Rattle.lk_ast.specs.declared.table.Base.{Base}
 use Rattle.lk_ast.specs.declared.table.Base.TheVariants.{Int, Bool, Text}
 use Rattle.lk_ast.specs.declared.value.Field.{Field}
 use Rattle.lk_ast.specs.declared.value.Value.{Value, fold-Value}
-use Rattle.lk_ast.specs.declared.value.Value.TheOpen.{Value-F, Field-F, FunValue-F}
+use Rattle.lk_ast.specs.declared.value.Value.TheOpen.{Value-F}
 
 -- a label with what stands there
 abbrev pub Entry : Type 0

@@ -1,6 +1,6 @@
 use crate::{
-    Base, Boxed, Bytes, Expr, Field, FunValue, List, NoMemory, Node, Shared, Span, Text, Value,
-    Word, base_order, copy_value, equal, value_text,
+    Base, Boxed, Bytes, Cell, Expr, Field, FunValue, List, NoMemory, Node, Row, Shared, Span, Text,
+    Value, Word, base_order, copy_row, copy_value, equal, value_text,
 };
 use std::alloc::Global;
 use std::cmp::Ordering;
@@ -56,6 +56,19 @@ fn copies_equal_what_they_copy(rt: HostRuntime) -> Result<(), Fail> {
     let value = nested(alloc, 2)?;
     assert!(rt; equal(&value, &copy_value(alloc, &value)?));
     assert!(rt; !equal(&value, &nested(alloc, 3)?));
+    let label = Text::from_str(alloc, "n")?;
+    let value = Base::Int(5);
+    let cells = List::from_vec(vec![in alloc; Cell { label, value }]?);
+    let row = copy_row(alloc, &Row { cells })?;
+    assert!(rt;
+        matches!(
+            row.cells.as_slice(),
+            [Cell {
+                value: Base::Int(5),
+                ..
+            }]
+        )
+    );
     Ok(())
 }
 
