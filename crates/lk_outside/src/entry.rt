@@ -1,0 +1,8 @@
+use lk_ast::{Bytes, Text};
+
+/// A file in memory: its name and what it contains.
+#[derive(Debug, Drop)]
+pub struct FileEntry {
+    pub name: Text,
+    pub content: Bytes,
+}

@@ -1,0 +1,25 @@
+ghost use Rattle.std.specs.Prelude.{◌≡◌, List, ℕ, Option, OnOk, OnErr};
+ghost use Rattle.lk_outside.specs.Causes.{HasCause};
+ghost use Rattle.lk_outside.specs.Sink.{Appends, AppendsFront};
+
+use crate::OutFault;
+
+/// Where output goes.
+pub trait Sink {
+    /// The bytes that it took, where that is told.
+    ghost taken: { Self → Option (List ℕ) };
+
+    /// The count of faults.
+    ghost faults: { Self → ℕ };
+
+    /// Takes a piece. A refusal may have taken some first bytes of it. A sink that takes nothing of a piece that isn't
+    /// empty has failed.
+    fn write(&mut self, piece: &[u8]) -> Result<(), OutFault>
+        ensures ok { OnOk result (Appends (taken self.old) (taken self.new) piece.now) }
+        ensures refused { OnErr result (AppendsFront (taken self.old) (taken self.new) piece.now) }
+        ensures cause { HasCause (faults self.old) (faults self.new) result };
+
+    /// The count of faults, which stays at its last value once it is there.
+    fn faults(&self) -> u64
+        ensures { result ≡ faults self.now };
+}

@@ -1,0 +1,90 @@
+use super::*;
+use lk_ast::{Bytes, List, Text};
+use std::fmt::Display;
+use std::io::ErrorKind;
+use std::test::Fail;
+use std::{fs, io};
+
+#[test]
+fn files_of_the_system(rt: HostRuntime) -> Result<(), Fail> {
+    let alloc = rt.alloc();
+    fs::write(&rt, "letters", "abc")?;
+    let mut files = OsFiles::new(&rt);
+    let front = files.read(alloc, "letters", 2)?;
+    assert_eq!(rt; front.as_slice(), b"ab".as_slice());
+    let whole = files.read(alloc, "letters", 9)?;
+    assert_eq!(rt; whole.as_slice(), b"abc".as_slice());
+    assert_eq!(rt; files.failed(), "");
+    fs::remove_file(&rt, "letters")?;
+    let refused = files.read(alloc, "letters", 9).err();
+    assert_eq!(rt; refused, Some(OutFault::Failed));
+    assert_eq!(rt; files.failed(), "letters");
+    assert_eq!(rt; files.faults(), 1);
+    Ok(())
+}
+
+// An output that takes nothing.
+struct Closed;
+
+impl Print for Closed {
+    fn print<D: Display + Drop>(&self, _value: D) -> io::Result<()> {
+        Err(io::Error::from(ErrorKind::BrokenPipe))
+    }
+
+    fn println<D: Display + Drop>(&self, _value: D) -> io::Result<()> {
+        Err(io::Error::from(ErrorKind::BrokenPipe))
+    }
+
+    fn write_all(&self, _bytes: &[u8]) -> io::Result<()> {
+        Err(io::Error::from(ErrorKind::BrokenPipe))
+    }
+}
+
+#[test]
+fn standard_output(rt: HostRuntime) -> Result<(), Fail> {
+    let mut out = StdSink::new(&rt);
+    out.write(b"one line\n")?;
+    assert_eq!(rt; out.faults(), 0);
+    let mut closed = StdSink::new(&Closed);
+    let refused = closed.write(b"one line\n").err();
+    assert_eq!(rt; refused, Some(OutFault::Failed));
+    assert_eq!(rt; closed.faults(), 1);
+    Ok(())
+}
+
+#[test]
+fn files_in_memory(rt: HostRuntime) -> Result<(), Fail> {
+    let alloc = rt.alloc();
+    let mut entries = List::new(alloc);
+    entries.push(FileEntry {
+        name: Text::from_str(alloc, "letters")?,
+        content: Bytes::from_slice(alloc, b"abc")?,
+    })?;
+    let failing = [1u64].to_vec(alloc)?;
+    let mut files = MemFiles::new(entries, List::from_vec(failing));
+    let front = files.read(alloc, "letters", 2)?;
+    assert_eq!(rt; front.as_slice(), b"ab".as_slice());
+    let refused = files.read(alloc, "letters", 2).err();
+    assert_eq!(rt; refused, Some(OutFault::Failed));
+    let whole = files.read(alloc, "letters", 9)?;
+    assert_eq!(rt; whole.as_slice(), b"abc".as_slice());
+    let refused = files.read(alloc, "missing", 2).err();
+    assert_eq!(rt; refused, Some(OutFault::Failed));
+    assert_eq!(rt; files.failed(), "missing");
+    assert_eq!(rt; files.faults(), 2);
+    Ok(())
+}
+
+#[test]
+fn sink_in_memory(rt: HostRuntime) -> Result<(), Fail> {
+    let alloc = rt.alloc();
+    let failing = [1u64].to_vec(alloc)?;
+    let mut out = MemSink::new(alloc, List::from_vec(failing));
+    out.write(b"ab")?;
+    let refused = out.write(b"cd").err();
+    assert_eq!(rt; refused, Some(OutFault::Failed));
+    out.write(b"ef")?;
+    assert_eq!(rt; out.taken().as_slice(), b"abef".as_slice());
+    assert_eq!(rt; out.faults(), 1);
+    Ok(())
+}
