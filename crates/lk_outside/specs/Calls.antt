@@ -1,6 +1,6 @@
 -- The calls of a form in memory.
 use Rattle.std.specs.Prelude.{ℕ, List, Contains}
-use Rattle.lk_outside.specs.Causes.{counted}
+use Rattle.lk_outside.specs.Causes.{next_count}
 
 -- which calls are to fail, by their numbers from 0, and how many were made
 pub record Calls : Type 0 where
@@ -12,5 +12,5 @@ abbrev pub NextFails : Calls → Type 0
 NextFails calls = Contains calls.failing calls.made
 
 -- the calls after one more
-abbrev pub one_more : Calls → Calls
-one_more calls = record calls { made = counted calls.made }
+abbrev pub calls_after : Calls → Calls
+calls_after calls = record calls { made = next_count calls.made }

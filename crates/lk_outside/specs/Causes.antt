@@ -3,13 +3,13 @@ use Rattle.std.specs.Prelude.{ℕ, ◌+◌, ◌-◌, ◌^◌, ◌≤◌, min, Re
 use Rattle.lk_outside.specs.declared.fault.OutFault.{OutFault}
 use Rattle.lk_outside.specs.declared.fault.OutFault.TheVariants.{Failed, NoMemory}
 
--- one more than a count, up to the last value of a u64
-abbrev pub counted : ℕ → ℕ
-counted count = min (count + 1) (2 ^ 64 - 1)
+-- one more than a count of type u64, which stays at its last value
+abbrev pub next_count : ℕ → ℕ
+next_count count = min (count + 1) (2 ^ 64 - 1)
 
 -- the count rose, or stands at its last value
 abbrev pub Rose : ℕ → ℕ → Type 0
-Rose before now = counted before ≤ now
+Rose before now = next_count before ≤ now
 
 -- the count didn't fall, and it rose where the answer is `Failed`
 pub record HasCause {T : Type 0} (before now : ℕ) (result : Result T OutFault) : Type 0 where
@@ -18,6 +18,6 @@ pub record HasCause {T : Type 0} (before now : ℕ) (result : Result T OutFault)
 
 -- the count after a call, where the calls that answer `Failed` are counted, and no others
 abbrev pub count_after : {T : Type 0} → Result T OutFault → ℕ → ℕ
-count_after (Err Failed) before = counted before
+count_after (Err Failed) before = next_count before
 count_after (Err NoMemory) before = before
 count_after (Ok x) before = before

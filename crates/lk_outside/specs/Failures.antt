@@ -10,6 +10,6 @@ pub record Failures : Type 0 where
   pub faults : ℕ
 
 -- the same after a read of this name
-abbrev pub after_read : {T : Type 0} → Result T OutFault → List ℕ → Failures → Failures
-after_read result name before =
+abbrev pub failures_after : {T : Type 0} → Result T OutFault → List ℕ → Failures → Failures
+failures_after result name before =
     record { failed = last_failed result name before.failed; faults = count_after result before.faults }

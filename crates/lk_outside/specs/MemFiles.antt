@@ -1,8 +1,8 @@
 -- Files in memory.
-use Rattle.std.specs.Prelude.{ℕ, List, map, Result}
-use Rattle.std.specs.FinMap.{from_entries}
-use Rattle.lk_outside.specs.Calls.{Calls, one_more}
-use Rattle.lk_outside.specs.Failures.{Failures, after_read}
+use Rattle.std.specs.Prelude.{◌⊎◌, ℕ, List, map, IsNone, Result}
+use Rattle.std.specs.FinMap.{from_entries, get}
+use Rattle.lk_outside.specs.Calls.{Calls, NextFails, calls_after}
+use Rattle.lk_outside.specs.Failures.{Failures, failures_after}
 use Rattle.lk_outside.specs.Files.{Contents}
 use Rattle.lk_outside.specs.declared.entry.FileEntry.{FileEntry}
 use Rattle.lk_outside.specs.declared.fault.OutFault.{OutFault}
@@ -17,7 +17,11 @@ pub record FilesState : Type 0 where
   pub calls : Calls
   pub failures : Failures
 
+-- a read of this name is to fail: by its number, or since no file has the name
+abbrev pub ReadFails : FilesState → List ℕ → Type 0
+ReadFails state name = NextFails state.calls ⊎ IsNone (get (contents_of state.files) name)
+
 -- the state after a read of this name
 abbrev pub state_after : {T : Type 0} → Result T OutFault → List ℕ → FilesState → FilesState
 state_after result name before =
-    record before { calls = one_more before.calls; failures = after_read result name before.failures }
+    record before { calls = calls_after before.calls; failures = failures_after result name before.failures }

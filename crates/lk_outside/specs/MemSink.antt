@@ -1,6 +1,6 @@
 -- A sink in memory.
 use Rattle.std.specs.Prelude.{ℕ, List, ◌++◌, Result, Ok, Err}
-use Rattle.lk_outside.specs.Calls.{Calls, one_more}
+use Rattle.lk_outside.specs.Calls.{Calls, calls_after}
 use Rattle.lk_outside.specs.Causes.{count_after}
 use Rattle.lk_outside.specs.declared.fault.OutFault.{OutFault}
 
@@ -19,6 +19,6 @@ taken_after (Err e) piece before = before
 abbrev pub state_after : {T : Type 0} → Result T OutFault → List ℕ → SinkState → SinkState
 state_after result piece before = record {
   taken = taken_after result piece before.taken;
-  calls = one_more before.calls;
+  calls = calls_after before.calls;
   faults = count_after result before.faults;
 }

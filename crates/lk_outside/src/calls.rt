@@ -1,5 +1,5 @@
 ghost use Rattle.std.specs.Prelude.{◌≡◌, ◌↔◌, IsTrue};
-ghost use Rattle.lk_outside.specs.Calls.{NextFails, one_more};
+ghost use Rattle.lk_outside.specs.Calls.{NextFails, calls_after};
 
 use lk_ast::List;
 use std::marker::Model;
@@ -30,7 +30,7 @@ impl NumberedCalls {
     /// Makes one more call, and tells whether it is to fail.
     pub(crate) fn next_fails(&mut self) -> bool
         ensures fails { IsTrue result ↔ NextFails self.old }
-        ensures made { self.new ≡ one_more self.old }
+        ensures made { self.new ≡ calls_after self.old }
     {
         let fails = self.failing.as_slice().contains(&self.made);
         self.made = self.made.saturating_add(1);

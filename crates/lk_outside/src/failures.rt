@@ -1,6 +1,6 @@
 ghost use Rattle.std.specs.Prelude.{◌≡◌, [], IsErr};
 ghost use Rattle.lk_outside.specs.Causes.{HasCause};
-ghost use Rattle.lk_outside.specs.Failures.{after_read};
+ghost use Rattle.lk_outside.specs.Failures.{failures_after};
 
 use crate::OutFault;
 use lk_ast::{Bytes, Text};
@@ -34,10 +34,10 @@ impl FailedReads {
         }
     }
 
-    /// Refuses a read of this name: as `Failed`, which counts it, or as `NoMemory` where none is found to keep the name.
+    /// Refuses a read of this name: with `Failed`, and counts it, or with `NoMemory` where none is found for the name.
     pub(crate) fn refuse(&mut self, alloc: Global, name: &str) -> Result<Bytes, OutFault>
         ensures refused { IsErr result }
-        ensures after { self.new ≡ after_read result name.now self.old }
+        ensures after { self.new ≡ failures_after result name.now self.old }
         ensures cause { HasCause self.old.faults self.new.faults result }
     {
         self.last = Some(Text::from_str(alloc, name)?);

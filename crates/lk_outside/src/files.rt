@@ -22,7 +22,8 @@ pub trait Files {
     fn read(&mut self, alloc: Global, name: &str, max: u64) -> Result<Bytes, OutFault>
         ensures contents { contents self.new ≡ contents self.old }
         ensures length { IfOk result (λ bytes. length bytes ≤ max) }
-        ensures front { IfOk result (λ bytes. IfSome (contents self.old) (λ told. IsFront told name.now max bytes)) }
+        ensures front { IfOk result (λ bytes. IfSome (contents self.old) (λ told.
+            IsFront told name.now max bytes)) }
         ensures failed { failed self.new ≡ last_failed result name.now (failed self.old) }
         ensures cause { HasCause (faults self.old) (faults self.new) result };
 

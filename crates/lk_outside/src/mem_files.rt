@@ -1,10 +1,9 @@
-ghost use Rattle.std.specs.Prelude.{◌≡◌, ◌⊎◌, [], Some, IsOk, IfOk, IsErrOf, IsNone, find, take, bytes_eq};
+ghost use Rattle.std.specs.Prelude.{◌≡◌, [], Some, IsOk, IfOk, IsErrOf, find, take, bytes_eq};
 ghost use Rattle.std.specs.FinMap.{get};
 ghost use Rattle.std.specs.Option.{option_copied};
-ghost use Rattle.lk_outside.specs.Calls.{NextFails};
 ghost use Rattle.lk_outside.specs.Causes.{HasCause};
 ghost use Rattle.lk_outside.specs.Files.{IsFront};
-ghost use Rattle.lk_outside.specs.MemFiles.{contents_of, state_after};
+ghost use Rattle.lk_outside.specs.MemFiles.{contents_of, ReadFails, state_after};
 
 use crate::calls::NumberedCalls;
 use crate::failures::FailedReads;
@@ -26,7 +25,8 @@ impl Model for MemFiles {
 
     ghost Value = { FilesState };
 
-    ghost view = { λ memory. record { files = memory.files; calls = memory.calls; failures = memory.failures } };
+    ghost view = { λ memory.
+        record { files = memory.files; calls = memory.calls; failures = memory.failures } };
 }
 
 impl MemFiles {
@@ -52,9 +52,9 @@ impl Files for MemFiles {
     ghost faults = { λ memory. memory.failures.faults };
 
     fn read(&mut self, alloc: Global, name: &str, max: u64) -> Result<Bytes, OutFault>
-        ensures passed { IsOk result → ¬ NextFails self.old.calls }
-        ensures front { IfOk result (λ bytes. IsFront (contents_of self.old.files) name.now max bytes) }
-        ensures failed { IsErrOf result OutFault.Failed → NextFails self.old.calls ⊎ IsNone (get (contents_of self.old.files) name.now) }
+        ensures passes { IsOk result → ¬ ReadFails self.old name.now }
+        ensures fails { IsErrOf result OutFault.Failed → ReadFails self.old name.now }
+        ensures front { IfOk result (IsFront (contents_of self.old.files) name.now max) }
         ensures after { self.new ≡ state_after result name.now self.old }
         ensures cause { HasCause self.old.failures.faults self.new.failures.faults result }
     {

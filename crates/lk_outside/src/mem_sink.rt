@@ -1,7 +1,7 @@
 ghost use Rattle.std.specs.Prelude.{◌≡◌, ◌↔◌, [], Some, IsErrOf};
+ghost use Rattle.lk_outside.specs.Calls.{NextFails};
 ghost use Rattle.lk_outside.specs.Causes.{HasCause};
 ghost use Rattle.lk_outside.specs.MemSink.{state_after};
-ghost use Rattle.lk_outside.specs.Calls.{NextFails};
 
 use crate::calls::NumberedCalls;
 use crate::{OutFault, Sink};
@@ -28,7 +28,9 @@ impl Model for MemSink {
 impl MemSink {
     /// Nothing taken yet. The writes of the numbers in `failing`, from 0, fail.
     pub fn new(alloc: Global, failing: List<u64>) -> MemSink
-        ensures { result ≡ record { taken = []; calls = record { failing = failing; made = 0 }; faults = 0 } }
+        ensures taken { result.taken ≡ [] }
+        ensures calls { result.calls ≡ record { failing = failing; made = 0 } }
+        ensures faults { result.faults ≡ 0 }
     {
         MemSink {
             taken: Bytes::new(alloc),
@@ -51,7 +53,7 @@ impl Sink for MemSink {
     ghost faults = { λ sink. sink.faults };
 
     fn write(&mut self, piece: &[u8]) -> Result<(), OutFault>
-        ensures failed { IsErrOf result OutFault.Failed ↔ NextFails self.old.calls }
+        ensures fails { IsErrOf result OutFault.Failed ↔ NextFails self.old.calls }
         ensures after { self.new ≡ state_after result piece.now self.old }
         ensures cause { HasCause self.old.faults self.new.faults result }
     {

@@ -1,4 +1,4 @@
-ghost use Rattle.std.specs.Prelude.{◌≡◌, ◌≤◌, [], None, IfOk, length};
+ghost use Rattle.std.specs.Prelude.{◌≡◌, ◌≤◌, [], None, IfOk, IfSome, length, take};
 
 use crate::failures::FailedReads;
 use crate::{Files, OutFault};
@@ -36,7 +36,7 @@ impl<'a, R: SystemFiles> Files for OsFiles<'a, R> {
     ghost faults = { λ files. files.failures.faults };
 
     fn read(&mut self, alloc: Global, name: &str, max: u64) -> Result<Bytes, OutFault> {
-        match first_bytes(self.rt, alloc, name, max) {
+        match read_file(self.rt, alloc, name, max) {
             Ok(bytes) => Ok(bytes),
             Err(error) if error.kind() == ErrorKind::OutOfMemory => Err(OutFault::NoMemory),
             Err(_) => self.failures.refuse(alloc, name),
@@ -52,13 +52,21 @@ impl<'a, R: SystemFiles> Files for OsFiles<'a, R> {
     }
 }
 
-// The first `max` bytes of a file, or all where it has fewer.
-fn first_bytes<R: SystemFiles>(rt: &R, alloc: Global, name: &str, max: u64) -> io::Result<Bytes>
+fn read_file<R: SystemFiles>(rt: &R, alloc: Global, name: &str, max: u64) -> io::Result<Bytes>
     ensures { IfOk result (λ bytes. length bytes ≤ max) }
 {
+    front_of(fs::open(rt, name)?, alloc, max)
+}
+
+// The first `max` bytes that a reader gives, or all where it gives fewer.
+fn front_of<F: Read + Drop>(reader: F, alloc: Global, max: u64) -> io::Result<Bytes>
+    ensures length { IfOk result (λ bytes. length bytes ≤ max) }
+    ensures front { IfOk result (λ bytes. IfSome (F.remaining reader) (λ given.
+        bytes ≡ take max given)) }
+{
     let mut bytes = Vec::new(alloc);
-    fs::open(rt, name)?.take(max).read_to_end(&mut bytes)?;
-    // No more was read, which `read_to_end` doesn't say.
+    reader.take(max).read_to_end(&mut bytes)?;
+    // No more was read, which `read_to_end` says only of a reader whose bytes are known.
     bytes.truncate(max as usize);
     Ok(Bytes::from_vec(bytes))
 }

@@ -24,11 +24,13 @@ impl<'a, R: Print> Sink for StdSink<'a, R> {
     ghost faults = { λ sink. sink.faults };
 
     fn write(&mut self, piece: &[u8]) -> Result<(), OutFault> {
-        if self.rt.write_all(piece).is_ok() {
-            return Ok(());
+        match self.rt.write_all(piece) {
+            Ok(()) => Ok(()),
+            Err(_) => {
+                self.faults = self.faults.saturating_add(1);
+                Err(OutFault::Failed)
+            }
         }
-        self.faults = self.faults.saturating_add(1);
-        Err(OutFault::Failed)
     }
 
     fn faults(&self) -> u64 {

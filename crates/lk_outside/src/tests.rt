@@ -1,7 +1,9 @@
 use super::*;
 use lk_ast::{Bytes, List, Text};
-use std::fs;
+use std::fmt::Display;
+use std::io::ErrorKind;
 use std::test::Fail;
+use std::{fs, io};
 
 #[test]
 fn files_of_the_system(rt: HostRuntime) -> Result<(), Fail> {
@@ -13,11 +15,29 @@ fn files_of_the_system(rt: HostRuntime) -> Result<(), Fail> {
     let whole = files.read(alloc, "letters", 9)?;
     assert_eq!(rt; whole.as_slice(), b"abc".as_slice());
     assert_eq!(rt; files.failed(), "");
-    let refused = files.read(alloc, "missing", 9).err();
+    fs::remove_file(&rt, "letters")?;
+    let refused = files.read(alloc, "letters", 9).err();
     assert_eq!(rt; refused, Some(OutFault::Failed));
-    assert_eq!(rt; files.failed(), "missing");
+    assert_eq!(rt; files.failed(), "letters");
     assert_eq!(rt; files.faults(), 1);
     Ok(())
+}
+
+// An output that takes nothing.
+struct Closed;
+
+impl Print for Closed {
+    fn print<D: Display + Drop>(&self, _value: D) -> io::Result<()> {
+        Err(io::Error::from(ErrorKind::BrokenPipe))
+    }
+
+    fn println<D: Display + Drop>(&self, _value: D) -> io::Result<()> {
+        Err(io::Error::from(ErrorKind::BrokenPipe))
+    }
+
+    fn write_all(&self, _bytes: &[u8]) -> io::Result<()> {
+        Err(io::Error::from(ErrorKind::BrokenPipe))
+    }
 }
 
 #[test]
@@ -25,6 +45,10 @@ fn standard_output(rt: HostRuntime) -> Result<(), Fail> {
     let mut out = StdSink::new(&rt);
     out.write(b"one line\n")?;
     assert_eq!(rt; out.faults(), 0);
+    let mut closed = StdSink::new(&Closed);
+    let refused = closed.write(b"one line\n").err();
+    assert_eq!(rt; refused, Some(OutFault::Failed));
+    assert_eq!(rt; closed.faults(), 1);
     Ok(())
 }
 
