@@ -9,10 +9,10 @@ use Rattle.lk_ast.specs.declared.place.Word.{Word}
 use Rattle.lk_ast.specs.declared.value.Value.{Value}
 use Rattle.lk_sem.specs.Evaluation.{eval}
 use Rattle.lk_sem.specs.Laws.{run_of}
-use Rattle.lk_sem.specs.Machine.{Shows, Ends, ended}
+use Rattle.lk_sem.specs.Machine.{Shows, Ends}
 use Rattle.lk_sem.specs.Names.{Names, bind_all, pairs}
 use Rattle.lk_sem.specs.Run.{Run}
-use Rattle.lk_sem.specs.Runs.{start, IsRunOf}
+use Rattle.lk_sem.specs.SourceRuns.{start, ended, IsRunOf}
 use Rattle.lk_sem.specs.Source.{session, source, under}
 use Rattle.lk_sem.specs.Values.{text}
 use Rattle.lk_sem.specs.declared.machine.Machine.{Machine}

@@ -64,8 +64,8 @@ module _ (l : Language) where
   node_same : (n : ℕ) (f g : Evaluates l.Point) → Keeps l (Unit {0}) (λ i. Below n) (λ i. Same n) f g → (e : l.Point) (place : Loc) (r s : Run) → Below n r s → Same n Value (node l f e place r) (node l g e place s)
   node_same n f g fg e place r s h = node_walks l (Unit {0}) (λ i. Below n) (λ i. Same n) (walk n) f g fg tt e place r s h
 
-  -- with no fuel
-  pub spent : (d : ℕ) (e : l.Point) (place : Loc) (r : Run) → r.fuel ≡ 0 → eval_to d l e place r ≡ Stops Spent r
+  -- with no fuel, at any depth
+  spent : (d : ℕ) (e : l.Point) (place : Loc) (r : Run) → r.fuel ≡ 0 → eval_to d l e place r ≡ Stops Spent r
   unfolding eval_to
   spent zero e place r none = refl
   spent (suc d) e place r none = ap (λ m. enter_with m r (node l (eval_to d l) e place)) none
@@ -108,3 +108,7 @@ module _ (l : Language) where
   -- no more fuel is left than there was
   pub fuel_falls : (e : l.Point) (place : Loc) (r : Run) → (run_of (eval l e place r)).fuel ≤ r.fuel
   fuel_falls e place r = (at_fuel r.fuel e place r r (refl, omega arith)).1
+
+  -- without fuel nothing is entered
+  pub spends : (e : l.Point) (place : Loc) (r : Run) → r.fuel ≡ 0 → eval l e place r ≡ Stops Spent r
+  spends e place r none = spent r.fuel e place r none

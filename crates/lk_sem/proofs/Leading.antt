@@ -17,12 +17,13 @@ use Rattle.lk_sem.specs.Evaluation as spec
 use Rattle.lk_sem.specs.Evaluation.{eval, handed, perform, joined, each, client_call, used}
 use Rattle.lk_sem.specs.Frames as frames
 use Rattle.lk_sem.specs.Frames.{resumed, returned, handed_by}
-use Rattle.lk_sem.specs.Halt.{stop_of, end_of}
-use Rattle.lk_sem.specs.Machine.{bodies, frame_of, frame_rest, wound, outcome, Shows, Leads, LeadsWhole, Ends, ended}
+use Rattle.lk_sem.specs.Halt.{end_of}
+use Rattle.lk_sem.specs.Machine.{bodies, frame_of, frame_rest, wound, outcome, Shows, Leads, LeadsWhole, Ends}
 use Rattle.lk_sem.specs.Names.{Names, bind}
-use Rattle.lk_sem.specs.Run.{Run, Out, Goes, Stops, Crossing, Within, Called, Returned, Function, Printer, step, logs, and_then}
+use Rattle.lk_sem.specs.Run.{Run, Out, Goes, Trapped, Spent, Stuck, Crossing, Within, Called, Returned, Function, Printer, step, logs, and_then}
 use Rattle.lk_sem.specs.Scope.{names_of}
 use Rattle.lk_sem.specs.Source.{Point, under, source, act}
+use Rattle.lk_sem.specs.SourceRuns.{ended}
 use Rattle.lk_sem.specs.Syntax.{layer, parts_of, is_plain}
 use Rattle.lk_sem.specs.Values.{text, unit, list_in}
 use Rattle.lk_sem.specs.declared.machine.Frame.{Frame}
@@ -36,7 +37,7 @@ use Rattle.lk_sem.specs.declared.names.Binding.{Binding}
 use Rattle.lk_sem.specs.declared.run.Halt.{Halt}
 use Rattle.lk_sem.specs.declared.run.Halt.TheVariants as halt
 use Rattle.lk_sem.specs.declared.run.SourceEnd.{SourceEnd}
-use Rattle.lk_sem.proofs.Fixpoint.{spent}
+use Rattle.lk_sem.proofs.Fixpoint.{spends}
 use Rattle.lk_sem.proofs.Winding as winding
 
 -- ---- frames and parts of the source
@@ -84,7 +85,7 @@ leads_after p old new next o j f keeps is l = record {
 
 -- there is no fuel
 pub leads_spent : (p : Program) (m : Machine) (e : Point) (place : Loc) → m.fuel ≡ 0 → Leads p m (eval (source p) e place) m (now.Stop halt.Spent)
-leads_spent p m e place none = record { runs = λ r h. (r, h, ap (wound p m.stack) (spent (source p) r.fuel e place r (h.fuel ∙ none))) }
+leads_spent p m e place none = record { runs = λ r h. (r, h, ap (wound p m.stack) (spends (source p) e place r (h.fuel ∙ none))) }
 
 -- a node is entered
 pub leads_enter : (p : Program) (old new : Machine) (next : Next) (e : Point) (place : Loc) (done : List Value) → old.fuel ≢ 0 → done ≡ []
@@ -214,7 +215,7 @@ leads_taken p old new next t v values made is all l =
     let listed : list_in v ≡ Some values = sym is in
     let plain : Bool = is_plain (layer t.body.now) in
     leads_after p old new next (each (source p) (eval (source p)) t.at (bodies t) t.place made) _ (handed plain) (λ r h. shows_handed old plain r h)
-    (λ r. ap (λ o. joined t.at t.made o (λ a. each (source p) (eval (source p)) t.at (bodies t) t.place a (handed plain r)) (handed plain r)) listed
+    (λ r. ap (λ o. joined t.at t.made o (each (source p) (eval (source p)) t.at (bodies t) t.place) (handed plain r)) listed
     ∙ ap (λ a. each (source p) (eval (source p)) t.at (bodies t) t.place a (handed plain r)) (sym all))
     l
 
@@ -226,7 +227,7 @@ leads_no_list p m t v none =
       runs = λ r h. (
         handed plain r,
         shows_handed m plain r h,
-        ap (λ o. wound p m.stack (joined t.at t.made o (λ a. each (source p) (eval (source p)) t.at (bodies t) t.place a (handed plain r)) (handed plain r))) (sym none),
+        ap (λ o. wound p m.stack (joined t.at t.made o (each (source p) (eval (source p)) t.at (bodies t) t.place) (handed plain r))) (sym none),
       );
     }
 
@@ -283,15 +284,16 @@ goes_give p first old new next last o f v stack is popped g l = record {
       );
 }
 
-ended_halt : (h : Halt) (s : Run) → Stops (stop_of h) s ≡ ended (end_of h) s
-ended_halt (halt.Trap t) s = refl
-ended_halt halt.Spent s = refl
-ended_halt (halt.Stuck at) s = refl
+-- an end without a value passes all frames
+wound-ended : (p : Program) (fs : List Frame) (h : Halt) (r : Run) → wound p fs (ended (end_of h) r) ≡ ended (end_of h) r
+wound-ended p fs (halt.Trap t) r = winding.wound-stops (source p) (map frame_of fs) (Trapped t) r
+wound-ended p fs halt.Spent r = winding.wound-stops (source p) (map frame_of fs) Spent r
+wound-ended p fs (halt.Stuck at) r = winding.wound-stops (source p) (map frame_of fs) (Stuck at) r
 
 -- the evaluation ends without a value
 pub ends_halt : (p : Program) (first m : Machine) (next : Next) (o : Run → Out Value) (h : Halt) (e : SourceEnd) → next ≡ now.Stop h → e ≡ end_of h → LeadsWhole p first o m next → Ends first o m e
 ends_halt p first m next o h e is end g = record {
   ends = λ r sh.
       let a = g.runs r sh in
-      (a.0, a.1, a.2 ∙ ap (λ n. wound p m.stack (outcome p n a.0)) is ∙ winding.wound-stops (source p) (map frame_of m.stack) (stop_of h) a.0 ∙ ended_halt h a.0 ∙ ap (λ x. ended x a.0) (sym end));
+      (a.0, a.1, a.2 ∙ ap (λ n. wound p m.stack (outcome p n a.0)) is ∙ wound-ended p m.stack h a.0 ∙ ap (λ x. ended x a.0) (sym end));
 }

@@ -16,7 +16,7 @@ use Rattle.lk_sem.specs.Run.{Run, Out, Goes, Stops, Stuck, Trapped, and_then, st
 use Rattle.lk_sem.specs.Values.{list_in}
 
 -- a relation of two runs and one of two outcomes, for each index, that each rule keeps
-pub record Walk (V : Value → Value → Type 0) (I : Type 0) (Runs : I → Run → Run → Type 0) (Outs : I → (A B : Type 0) → (A → B → Type 0) → Out A → Out B → Type 0) : Type 1 where
+pub record PairWalk (V : Value → Value → Type 0) (I : Type 0) (Runs : I → Run → Run → Type 0) (Outs : I → (A B : Type 0) → (A → B → Type 0) → Out A → Out B → Type 0) : Type 1 where
   pub goes : (i : I) (A B : Type 0) (R : A → B → Type 0) (a : A) (b : B) (r s : Run) → R a b → Runs i r s → Outs i A B R (Goes a r) (Goes b s)
   pub fails : (i : I) (trap : Trap) (r s : Run) → Runs i r s → Outs i Value Value V (Stops (Trapped trap) r) (Stops (Trapped trap) s)
   pub lacks : (i : I) (at : Span) (r s : Run) → Runs i r s → Outs i Value Value V (Stops (Stuck at) r) (Stops (Stuck at) s)
@@ -45,7 +45,7 @@ both-append R (x ∷ vs) [] xs ys b c = absurd b
 both-append R (x ∷ vs) (y ∷ ws) xs ys b c = (b.0, both-append R vs ws xs ys b.1 c)
 
 module _ (l m : Language) (R : l.Point → m.Point → Type 0) (V : Value → Value → Type 0) (h : Match l m R V)
-    (I : Type 0) (Runs : I → Run → Run → Type 0) (Outs : I → (A B : Type 0) → (A → B → Type 0) → Out A → Out B → Type 0) (w : Walk V I Runs Outs)
+    (I : Type 0) (Runs : I → Run → Run → Type 0) (Outs : I → (A B : Type 0) → (A → B → Type 0) → Out A → Out B → Type 0) (w : PairWalk V I Runs Outs)
     (f : Evaluates l.Point) (g : Evaluates m.Point) (fg : (i : I) (e : l.Point) (e' : m.Point) (place : Loc) (r s : Run) → R e e' → Runs i r s → Outs i Value Value V (f e place r) (g e' place s)) where
   handed_walks : (i : I) (b c : Bool) → b ≡ c → (r s : Run) → Runs i r s → Runs i (handed b r) (handed c s)
   handed_walks i true true e r s k = k
@@ -81,8 +81,8 @@ module _ (l m : Language) (R : l.Point → m.Point → Type 0) (V : Value → Va
   used_walks i (Reading site args) r s k = w.reads i site args r s k
   used_walks i (Writing site args) r s k = w.goes i _ _ V _ _ _ _ h.units (w.logged i _ r s k)
 
-  joined_walks : (i : I) (at : Span) (made made' : List Value) (o o' : Option (List Value)) (j k : List Value → Out Value) (r s : Run) → Both V made made' → Maybe (Both V) o o' → Runs i r s
-      → ((all all' : List Value) → Both V all all' → Outs i Value Value V (j all) (k all')) → Outs i Value Value V (joined at made o j r) (joined at made' o' k s)
+  joined_walks : (i : I) (at : Span) (made made' : List Value) (o o' : Option (List Value)) (j k : List Value → Run → Out Value) (r s : Run) → Both V made made' → Maybe (Both V) o o' → Runs i r s
+      → ((all all' : List Value) → Both V all all' → Outs i Value Value V (j all r) (k all' s)) → Outs i Value Value V (joined at made o j r) (joined at made' o' k s)
   joined_walks i at made made' None None j k r s b c q jk = w.lacks i at r s q
   joined_walks i at made made' (Some vs) (Some ws) j k r s b c q jk = jk (made ++ vs) (made' ++ ws) (both-append V made made' vs ws b c)
   joined_walks i at made made' None (Some ws) j k r s b c q jk = absurd c

@@ -9,7 +9,7 @@ use Rattle.lk_ast.specs.declared.value.Value.{Value}
 use Rattle.lk_sem.specs.Evaluation.{Language, client_call, reading, node, eval_to, eval}
 use Rattle.lk_sem.specs.Laws.{Both, Maybe, MatchingCallees, Match, MatchingCrossings, MatchingEntries, MatchingRuns, MatchingStops, MatchingOuts}
 use Rattle.lk_sem.specs.Run.{Run, Out, Goes, Stops, and_then, step, logs, enter_with, Callee, Crossing, Within, Called, Returned}
-use Rattle.lk_sem.proofs.Matching.{Walk, both-push, node_walks}
+use Rattle.lk_sem.proofs.Matching.{PairWalk, both-push, node_walks}
 
 module _ (l m : Language) (R : l.Point → m.Point → Type 0) (V : Value → Value → Type 0) (h : Match l m R V) where
   logged : (event : Event) (c d : Crossing) (r s : Run) → MatchingCrossings V c d → MatchingRuns V r s → MatchingRuns V (logs event c r) (logs event d s)
@@ -46,7 +46,7 @@ module _ (l m : Language) (R : l.Point → m.Point → Type 0) (V : Value → Va
   calls None (Some us) c d args others b k e cd ab bk r s x = absurd e
   calls (Some vs) None c d args others b k e cd ab bk r s x = absurd e
 
-  walk : Walk V (Unit {0}) (λ i. MatchingRuns V) (λ i. MatchingOuts V)
+  walk : PairWalk V (Unit {0}) (λ i. MatchingRuns V) (λ i. MatchingOuts V)
   walk = record {
     goes = λ i A B Q a b r s ab k. (ab, k);
     fails = λ i t r s k. (refl, k);

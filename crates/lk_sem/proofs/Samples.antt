@@ -17,14 +17,15 @@ use Rattle.lk_sem.specs.Evaluation.{eval_to}
 use Rattle.lk_sem.specs.Laws.{run_of}
 use Rattle.lk_sem.specs.Run.{Run, Out, Goes, Entry, events_of, Within, Called, Returned, Function}
 use Rattle.lk_sem.specs.Source.{session}
+use Rattle.lk_sem.specs.SourceRuns.{start}
 use Rattle.lk_sem.specs.Values.{text}
 
--- nodes and words at no place in particular
+-- nodes at no place in particular, and words at their first byte
 abbrev at_zero : Node → Expr
 at_zero n = record { span = record { start = 0; end = 0 }; node = n }
 
-abbrev word : List ℕ → Word
-word name = record { at = record { start = 0; end = 0 }; text = name }
+abbrev word : ℕ → List ℕ → Word
+word start name = record { at = record { start = start; end = 0 }; text = name }
 
 abbrev literal : List ℕ → Expr
 literal bytes = at_zero (node.Text bytes)
@@ -33,30 +34,28 @@ abbrev name : List ℕ → Expr
 name x = at_zero (node.Name x)
 
 abbrev call : List ℕ → Expr → Expr
-call f e = at_zero (node.Call (word f) (e ∷ []))
+call f e = at_zero (node.Call (word 0 f) (e ∷ []))
 
 abbrev joined : Expr → Expr → Expr
 joined a b = at_zero (node.Concat a b)
 
-abbrev function : List ℕ → List ℕ → Loc → Expr → FunDef
-function f x place body = record { name = word f; sig = None; params = word x ∷ []; place = place; body = body }
-
-abbrev with_fuel : ℕ → Run
-with_fuel n = record { fuel = n; steps = 0; log = []; answers = []; returns = None }
+-- a function whose name stands at that byte of the text
+abbrev function : ℕ → List ℕ → List ℕ → Loc → Expr → FunDef
+function start f x place body = record { name = word start f; sig = None; params = word 0 x ∷ []; place = place; body = body }
 
 -- fun greet(n) server { "hi " ^^ n } fun main(a) client { greet(a) }
 abbrev greet_main : FunDef
-greet_main = function (codes "main") (codes "a") Client (call (codes "greet") (name (codes "a")))
+greet_main = function 39 (codes "main") (codes "a") Client (call (codes "greet") (name (codes "a")))
 
 abbrev greet : Program
-greet = record { decls = decl.Fun (function (codes "greet") (codes "n") Server (joined (literal (codes "hi ")) (name (codes "n")))) ∷ decl.Fun greet_main ∷ [] }
+greet = record { decls = decl.Fun (function 4 (codes "greet") (codes "n") Server (joined (literal (codes "hi ")) (name (codes "n")))) ∷ decl.Fun greet_main ∷ [] }
 
 -- five nodes are entered, control passes to the server and back, and each takes a step
-pub greets : session greet greet_main (codes "ann") (with_fuel 10)
+pub greets : session greet greet_main (codes "ann") (start 10)
     ≡ Goes (text (codes "hi ann")) (record {
       fuel = 5;
       steps = 7;
-      log = record { number = 3; event = Enter; crossing = Called (Function (record { site = 0; env = [] })) (text (codes "ann") ∷ []) }
+      log = record { number = 3; event = Enter; crossing = Called (Function (record { site = 4; env = [] })) (text (codes "ann") ∷ []) }
           ∷ record { number = 7; event = Leave; crossing = Returned (text (codes "hi ann")) } ∷ [];
       answers = [];
       returns = None;
@@ -66,22 +65,22 @@ greets = simp (node.outs-Concat, node.outs-Text, node.outs-Name, node.outs-Call,
 
 -- fun log(s) client { print(s); s ^^ "!" } fun work(n) server { "<" ^^ log(n) ^^ ">" } fun main(a) client { work(a) }
 abbrev nest_main : FunDef
-nest_main = function (codes "main") (codes "a") Client (call (codes "work") (name (codes "a")))
+nest_main = function 89 (codes "main") (codes "a") Client (call (codes "work") (name (codes "a")))
 
 abbrev nest : Program
 nest = record {
-  decls = decl.Fun (function (codes "log") (codes "s") Client (at_zero (node.Seq (at_zero (node.Print (name (codes "s")))) (joined (name (codes "s")) (literal (codes "!"))))))
-      ∷ decl.Fun (function (codes "work") (codes "n") Server (joined (literal (codes "<")) (joined (call (codes "log") (name (codes "n"))) (literal (codes ">")))))
+  decls = decl.Fun (function 4 (codes "log") (codes "s") Client (at_zero (node.Seq (at_zero (node.Print (name (codes "s")))) (joined (name (codes "s")) (literal (codes "!"))))))
+      ∷ decl.Fun (function 45 (codes "work") (codes "n") Server (joined (literal (codes "<")) (joined (call (codes "log") (name (codes "n"))) (literal (codes ">")))))
       ∷ decl.Fun nest_main ∷ [];
 }
 
 -- fourteen nodes are entered; four changes of place, the values of `print`, of `log` and of the inner `^^` take a step each
-pub nests : session nest nest_main (codes "ann") (with_fuel 20)
+pub nests : session nest nest_main (codes "ann") (start 20)
     ≡ Goes (text (codes "<ann!>")) (record {
       fuel = 6;
       steps = 21;
-      log = record { number = 3; event = Enter; crossing = Called (Function (record { site = 0; env = [] })) (text (codes "ann") ∷ []) }
-          ∷ record { number = 9; event = Leave; crossing = Called (Function (record { site = 0; env = [] })) (text (codes "ann") ∷ []) }
+      log = record { number = 3; event = Enter; crossing = Called (Function (record { site = 45; env = [] })) (text (codes "ann") ∷ []) }
+          ∷ record { number = 9; event = Leave; crossing = Called (Function (record { site = 4; env = [] })) (text (codes "ann") ∷ []) }
           ∷ record { number = 12; event = Print (codes "ann"); crossing = Within }
           ∷ record { number = 17; event = Enter; crossing = Returned (text (codes "ann!")) }
           ∷ record { number = 21; event = Leave; crossing = Returned (text (codes "<ann!>")) } ∷ [];

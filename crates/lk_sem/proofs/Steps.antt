@@ -69,7 +69,7 @@ module _ (l : Language) (f : Evaluates l.Point) (pays : (e : l.Point) (place : L
   all_pay n (e ∷ es) place done r le =
       then_pays 0 0 (pot r) n _ _ le (part_pays e place r) (λ v s h. all_pay n es place (done ++ v ∷ []) s (omega arith))
 
-  joined_pays : (n : ℕ) (at : Span) (made : List Value) (o : Option (List Value)) (k : List Value → Out Value) (r : Run) → pot r ≤ n → ((all : List Value) → Pays 1 n (k all)) → Pays 1 n (joined at made o k r)
+  joined_pays : (n : ℕ) (at : Span) (made : List Value) (o : Option (List Value)) (k : List Value → Run → Out Value) (r : Run) → pot r ≤ n → ((all : List Value) → Pays 1 n (k all r)) → Pays 1 n (joined at made o k r)
   joined_pays n at made None k r le kp = le
   joined_pays n at made (Some values) k r le kp = kp (made ++ values)
 

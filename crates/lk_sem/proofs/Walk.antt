@@ -58,7 +58,7 @@ module _ (l : Language) (I : Type 0) (Runs : I → Run → Run → Type 0) (Outs
   used_walks i (Reading site args) r s h = w.reads i site args r s h
   used_walks i (Writing site args) r s h = w.goes i _ _ _ _ (w.logged i _ _ r s h)
 
-  joined_walks : (i : I) (at : Span) (made : List Value) (o : Option (List Value)) (j k : List Value → Out Value) (r s : Run) → Runs i r s → ((all : List Value) → Outs i Value (j all) (k all))
+  joined_walks : (i : I) (at : Span) (made : List Value) (o : Option (List Value)) (j k : List Value → Run → Out Value) (r s : Run) → Runs i r s → ((all : List Value) → Outs i Value (j all r) (k all s))
       → Outs i Value (joined at made o j r) (joined at made o k s)
   joined_walks i at made None j k r s h jk = w.lacks i at r s h
   joined_walks i at made (Some values) j k r s h jk = jk (made ++ values)

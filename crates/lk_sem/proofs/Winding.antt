@@ -57,6 +57,6 @@ module _ (l : Language) where
   pub turns : (at : Span) (e : l.Point) (es : List l.Point) (place : Loc) (made : List Value) (r : Run) → each l (eval l) at (e ∷ es) place made r ≡ and_then (eval l e place r) (continued l (Turn at e es place made))
   turns at e es place made r = go (eval l e place r)
     where
-      go : (o : Out Value) → and_then (and_then o (λ u s. Goes u (handed (l.plain e) s))) (λ u s. joined at made (list_in u) (λ all. each l (eval l) at es place all s) s) ≡ and_then o (continued l (Turn at e es place made))
+      go : (o : Out Value) → and_then (and_then o (λ u s. Goes u (handed (l.plain e) s))) (λ u s. joined at made (list_in u) (each l (eval l) at es place) s) ≡ and_then o (continued l (Turn at e es place made))
       go (Goes u s) = refl
       go (Stops z s) = refl

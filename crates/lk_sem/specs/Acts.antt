@@ -12,7 +12,7 @@ use Rattle.lk_sem.specs.Values.{text_in}
 use Rattle.lk_sem.specs.declared.act.Act.{Act}
 use Rattle.lk_sem.specs.declared.act.Act.TheVariants.{Give, Tail, Goto, Print, Each, Fails, Lacks}
 
--- the act that a node at this place does; the evaluator keeps no note of which function it enters, nor of its arguments
+-- the act of a node with this span; the evaluator keeps no note of which function it enters, nor of its arguments
 abbrev pub IsAct : Span → Act → spec.Act Point → Type 0
 IsAct at (Give v) a = a ≡ spec.Give v
 IsAct at (Tail e scope) a = a ≡ spec.Tail (under (names_of scope) e.now)
@@ -27,7 +27,7 @@ abbrev pub only_of : List Value → Option Value
 only_of (v ∷ []) = Some v
 only_of _ = None
 
--- `a ^^ b` for any number of values
+-- `a ^^ b` of two values; any other number has no rule
 abbrev pub concat_all : Span → List Value → spec.Act Point
 concat_all at (v ∷ w ∷ []) = concat at (text_in v) (text_in w)
 concat_all at _ = spec.Lacks at

@@ -1,7 +1,7 @@
--- Located evaluation (Cooper and Wadler, The RPC Calculus, 2009, section 2: call by value, from left to right, each
--- function's body at the place of its mark), with fuel, steps and a log, for any language whose points have parts and
--- an action.
-use Rattle.std.specs.Prelude.{map, ℕ, zero, suc, Bool, true, false, List, [], ◌∷◌, ◌++◌, Option, Some, None}
+-- Located evaluation (Cooper and Wadler, The RPC Calculus, 2009, section 2: call by value, from left to right, the body
+-- of each function at the place of its mark or, without a mark, where it is called), with fuel, steps and a log, for any
+-- language whose points have parts and an act.
+use Rattle.std.specs.Prelude.{ℕ, zero, suc, Bool, true, false, List, [], ◌∷◌, ◌++◌, Option, Some, None}
 use Rattle.lk_ast.specs.Rows.{rows_value}
 use Rattle.lk_ast.specs.declared.event.Event.TheVariants.{Print, Enter, Leave, Read, Write}
 use Rattle.lk_ast.specs.declared.event.Trap.{Trap}
@@ -25,7 +25,7 @@ pub data Primitive : Type 0 where
 pub data Act (P : Type 0) : Type 0 where
   -- has this value
   Give : (v : Value) → Act P
-  -- goes on with this point in its own place
+  -- goes on with this point in its stead
   Tail : (point : P) → Act P
   -- calls a function of that mark with those arguments, whose body is this point
   Goto : (mark : Loc) (function : FunValue) (args : List Value) (body : P) → Act P
@@ -46,6 +46,7 @@ pub record Language : Type 1 where
   pub plain : Point → Bool
   pub act : Point → List Value → Act Point
 
+-- what evaluates a point at a place, client or server
 abbrev pub Evaluates : Type 0 → Type 0
 Evaluates P = P → Loc → Run → Out Value
 
@@ -54,7 +55,7 @@ abbrev pub handed : Bool → Run → Run
 handed true r = r
 handed false r = step r
 
--- A call of a client function from the server, once it has left: a whole evaluation evaluates the body, enters and goes
+-- A call from the server of what is the client's, a function or `print`, once control has left: a whole evaluation evaluates the body, enters and goes
 -- on; the server's part of one gets the next return, or ends with the question.
 abbrev pub client_call : Option (List Value) → Callee → List Value → (Run → Out Value) → Run → Out Value
 client_call None callee args body r = and_then (body r) (λ v s. Goes v (logs Enter (Returned v) (step s)))
@@ -88,10 +89,10 @@ args_of (Printing bytes) = text bytes ∷ []
 args_of (Reading site args) = args
 args_of (Writing site args) = args
 
--- a body's list after those made so far; another value has no rule
-abbrev pub joined : Span → List Value → Option (List Value) → (List Value → Out Value) → Run → Out Value
+-- A body's list after those made so far. Another value has no rule, and the bodies that are left aren't evaluated.
+abbrev pub joined : Span → List Value → Option (List Value) → (List Value → Run → Out Value) → Run → Out Value
 joined at made None next r = Stops (Stuck at) r
-joined at made (Some values) next r = next (made ++ values)
+joined at made (Some values) next r = next (made ++ values) r
 
 module _ (l : Language) where
   -- a part, and its value handed on
@@ -103,16 +104,16 @@ module _ (l : Language) where
   all_parts rec [] place done r = Goes done r
   all_parts rec (point ∷ points) place done r = and_then (part rec point place r) (λ v s. all_parts rec points place (done ++ v ∷ []) s)
 
-  -- the bodies in order, after the list made so far
+  -- the bodies in order, after the list made so far; their values are handed on as those of parts are
   abbrev pub each : Evaluates l.Point → Span → List l.Point → Loc → List Value → Run → Out Value
   each rec at [] place made r = Goes (value.List made) r
-  each rec at (point ∷ points) place made r = and_then (part rec point place r) (λ v s. joined at made (list_in v) (λ all. each rec at points place all s) s)
+  each rec at (point ∷ points) place made r = and_then (part rec point place r) (λ v s. joined at made (list_in v) (each rec at points place) s)
 
   abbrev pub perform : Evaluates l.Point → Loc → Act l.Point → Run → Out Value
   perform rec place (Give v) r = Goes v r
   perform rec place (Tail point) r = rec point place r
   perform rec place (Goto mark function args body) r = call_from place mark (Function function) args (rec body) r
-  perform rec place (Uses mark primitive) r = call_from place mark (callee_of primitive) (args_of primitive) (λ at. used primitive) r
+  perform rec place (Uses mark primitive) r = call_from place mark (callee_of primitive) (args_of primitive) (λ _. used primitive) r
   perform rec place (Each at bodies) r = each rec at bodies place [] r
   perform rec place (Fails trap) r = Stops (Trapped trap) r
   perform rec place (Lacks at) r = Stops (Stuck at) r

@@ -32,6 +32,7 @@ module _ (l : Language) where
   abbrev pub resumed : l.Point → List Value → Loc → Run → Out Value
   resumed point done place r = rest (drop (length done) (l.parts point)) point place done r
 
+  -- a value is handed on by the part that had it, if there is one
   abbrev pub handed_by : Option l.Point → Run → Run
   handed_by None r = r
   handed_by (Some point) r = handed (l.plain point) r
@@ -39,7 +40,7 @@ module _ (l : Language) where
   -- what a frame does with the value that it waits for
   abbrev pub continued : Frame l.Point → Value → Run → Out Value
   continued (Part point done place) v r = resumed point (done ++ v ∷ []) place (handed_by (slice_get (l.parts point) (length done)) r)
-  continued (Turn at body left place made) v r = joined at made (list_in v) (λ all. each l (eval l) at left place all (handed (l.plain body) r)) (handed (l.plain body) r)
+  continued (Turn at body left place made) v r = joined at made (list_in v) (each l (eval l) at left place) (handed (l.plain body) r)
   continued (Back place) v r = returned place v r
 
   -- an outcome, and then what the frames of a stack do, the last first

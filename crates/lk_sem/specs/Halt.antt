@@ -1,5 +1,4 @@
--- The ends without a value.
-use Rattle.lk_sem.specs.Run.{Stop, Trapped, Spent, Stuck}
+-- The evaluator's ends without a value.
 use Rattle.lk_sem.specs.declared.run.Halt.{Halt}
 use Rattle.lk_sem.specs.declared.run.Halt.TheVariants as halt
 use Rattle.lk_sem.specs.declared.run.SourceEnd.{SourceEnd}
@@ -9,8 +8,3 @@ abbrev pub end_of : Halt → SourceEnd
 end_of (halt.Trap trap) = end.Trap trap
 end_of halt.Spent = end.Spent
 end_of (halt.Stuck at) = end.Stuck at
-
-abbrev pub stop_of : Halt → Stop
-stop_of (halt.Trap trap) = Trapped trap
-stop_of halt.Spent = Spent
-stop_of (halt.Stuck at) = Stuck at

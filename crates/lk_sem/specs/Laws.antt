@@ -76,11 +76,11 @@ MatchingCallees V _ _ = ⊥
 abbrev pub MatchingActs : {P Q : Type 0} → (P → Q → Type 0) → (Value → Value → Type 0) → Act P → Act Q → Type 0
 MatchingActs R V (Give v) (Give w) = V v w
 MatchingActs R V (Tail e) (Tail f) = R e f
-MatchingActs R V (Goto to g args e) (Goto at h others f) = (to ≡ at) × V (value.Fun g) (value.Fun h) × Both V args others × R e f
-MatchingActs R V (Uses to one) (Uses at other) = (to ≡ at) × (one ≡ other) × Both V (args_of one) (args_of one)
-MatchingActs R V (Each at es) (Each bt fs) = (at ≡ bt) × Both R es fs
-MatchingActs R V (Fails t) (Fails u) = t ≡ u
-MatchingActs R V (Lacks at) (Lacks bt) = at ≡ bt
+MatchingActs R V (Goto mark g args e) (Goto other_mark h others f) = (mark ≡ other_mark) × V (value.Fun g) (value.Fun h) × Both V args others × R e f
+MatchingActs R V (Uses mark one) (Uses other_mark other) = (mark ≡ other_mark) × (one ≡ other) × Both V (args_of one) (args_of one)
+MatchingActs R V (Each at es) (Each other_at fs) = (at ≡ other_at) × Both R es fs
+MatchingActs R V (Fails trap) (Fails other) = trap ≡ other
+MatchingActs R V (Lacks at) (Lacks other_at) = at ≡ other_at
 MatchingActs R V _ _ = ⊥
 
 -- Two languages match by a relation of their points and one of their values: points that match are plain alike, their
@@ -113,10 +113,10 @@ pub record MatchingRuns (V : Value → Value → Type 0) (r s : Run) : Type 0 wh
   pub returns : Maybe (Both V) r.returns s.returns
 
 abbrev pub MatchingStops : (Value → Value → Type 0) → Stop → Stop → Type 0
-MatchingStops V (Trapped t) (Trapped u) = t ≡ u
+MatchingStops V (Trapped trap) (Trapped other) = trap ≡ other
 MatchingStops V Spent Spent = Unit {0}
 MatchingStops V Waiting Waiting = Unit {0}
-MatchingStops V (Stuck at) (Stuck bt) = at ≡ bt
+MatchingStops V (Stuck at) (Stuck other_at) = at ≡ other_at
 MatchingStops V (Asked c args) (Asked d others) = MatchingCallees V c d × Both V args others
 MatchingStops V _ _ = ⊥
 

@@ -6,7 +6,7 @@ pub mod Laws
 pub mod Machine
 pub mod Names
 pub mod Run
-pub mod Runs
+pub mod SourceRuns
 pub mod Scope
 pub mod Source
 pub mod Syntax

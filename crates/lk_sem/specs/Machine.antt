@@ -1,14 +1,15 @@
 -- What the evaluator's frames still do, and what its steps keep.
-use Rattle.std.specs.Prelude.{◌≡◌, ℕ, ◌+◌, ◌*◌, List, [], ◌∷◌, ◌++◌, None, length, reverse, map}
+use Rattle.std.specs.Prelude.{◌≡◌, ℕ, ◌+◌, ◌*◌, ◌≤◌, List, None, length, reverse, map}
 use Rattle.lk_ast.specs.declared.declaration.Program.{Program}
 use Rattle.lk_ast.specs.declared.value.Value.{Value}
 use Rattle.lk_sem.specs.Evaluation.{eval}
 use Rattle.lk_sem.specs.Frames as spec
-use Rattle.lk_sem.specs.Halt.{stop_of}
+use Rattle.lk_sem.specs.Halt.{end_of}
 use Rattle.lk_sem.specs.Names.{bind}
-use Rattle.lk_sem.specs.Run.{Run, Out, Goes, Stops, Spent, Stuck, Trapped, events_of}
+use Rattle.lk_sem.specs.Run.{Run, Out, Goes, events_of}
 use Rattle.lk_sem.specs.Scope.{names_of}
 use Rattle.lk_sem.specs.Source.{Point, under, source}
+use Rattle.lk_sem.specs.SourceRuns.{ended}
 use Rattle.lk_sem.specs.declared.machine.Frame.{Frame}
 use Rattle.lk_sem.specs.declared.machine.Frame.TheVariants.{Part, Turn, Back}
 use Rattle.lk_sem.specs.declared.machine.Machine.{Machine}
@@ -16,7 +17,6 @@ use Rattle.lk_sem.specs.declared.machine.Next.{Next}
 use Rattle.lk_sem.specs.declared.machine.Next.TheVariants.{Enter, Give, Stop}
 use Rattle.lk_sem.specs.declared.machine.Turns.{Turns}
 use Rattle.lk_sem.specs.declared.run.SourceEnd.{SourceEnd}
-use Rattle.lk_sem.specs.declared.run.SourceEnd.TheVariants as end
 
 -- the bodies for the elements that are left
 abbrev pub bodies : Turns → List Point
@@ -39,7 +39,7 @@ wound p frames out = spec.wound (source p) (map frame_of frames) out
 abbrev pub outcome : Program → Next → Run → Out Value
 outcome p (Enter e scope place) r = eval (source p) (under (names_of scope) e.now) place r
 outcome p (Give v) r = Goes v r
-outcome p (Stop halt) r = Stops (stop_of halt) r
+outcome p (Stop halt) r = ended (end_of halt) r
 
 -- the machine's fuel and events are those of this run of a whole evaluation
 pub record Shows (m : Machine) (r : Run) : Type 0 where
@@ -61,12 +61,9 @@ weight m (Enter e scope place) = 4 * m.fuel + 2 * length m.stack + 1
 weight m (Give v) = 4 * m.fuel + 2 * length m.stack + 2
 weight m (Stop halt) = 0
 
--- the outcome that an end stands for
-abbrev pub ended : SourceEnd → Run → Out Value
-ended (end.Value v) r = Goes v r
-ended (end.Trap trap) r = Stops (Trapped trap) r
-ended end.Spent r = Stops Spent r
-ended (end.Stuck at) r = Stops (Stuck at) r
+-- after a move there is at most this much to go on
+abbrev pub Falls : Machine → Machine → Next → Type 0
+Falls old new next = weight new next ≤ 4 * old.fuel + 2 * length old.stack + 3
 
 -- `todo` ends so, and the machine shows the run at the end
 pub record Ends (old : Machine) (todo : Run → Out Value) (new : Machine) (e : SourceEnd) : Type 0 where

@@ -11,7 +11,7 @@ use Rattle.lk_ast.specs.declared.value.Value.{Value}
 pub data Callee : Type 0 where
   Function : (function : FunValue) → Callee
   Printer : Callee
-  Site : (start : ℕ) → Callee
+  Site : (site : ℕ) → Callee
 
 -- what goes to the other place with an event: nothing, a call, or the value that a call returns
 pub data Crossing : Type 0 where
@@ -44,6 +44,7 @@ pub data Stop : Type 0 where
   Stuck : (at : Span) → Stop
   Asked : (callee : Callee) (args : List Value) → Stop
 
+-- what an evaluation comes to: it goes on with what was made, or it stops
 pub data Out (A : Type 0) : Type 0 where
   Goes : A → Run → Out A
   Stops : Stop → Run → Out A

@@ -16,8 +16,8 @@ Layer = Node-F Node Case ChangeExpr Expr LambdaExpr LastCase PartExpr
 abbrev pub layer : Expr → Layer
 layer e = out-Node e.node
 
--- The parts that are evaluated first, in order; the others, as the branches of an `if`, are evaluated in their node's
--- own place or not at all. Nodes that have no rule yet have no parts here.
+-- The parts that are evaluated first, in order; the others, as the branches of an `if`, are evaluated in the stead of
+-- their node or not at all. Nodes that have no rule yet have no parts here.
 abbrev pub parts_of : Layer → List Expr
 parts_of (Node-F.Call function args) = args
 parts_of (Node-F.Var x e rest) = e ∷ []

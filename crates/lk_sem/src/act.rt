@@ -78,7 +78,7 @@ pub fn act_of<'p>(
     }
 }
 
-/// `e; rest`, where e has the unit value; `at` is the node's place.
+/// `e; rest`, where e has the unit value; `at` is the node's span.
 fn after_unit<'p>(at: Span, value: &Value, rest: &'p Expr, scope: Scope<'p>) -> Act<'p>
     ensures { IsAct at result (after_value at (is_unit value.now) (Tail (under (names_of scope.entry) rest.now))) }
 {
@@ -97,7 +97,7 @@ fn only(values: List<Value>) -> Option<Value>
     if values.is_empty() { last } else { None }
 }
 
-/// `a ^^ b`; `at` is the node's place.
+/// `a ^^ b`; `at` is the node's span.
 fn concat_of<'p>(alloc: Global, at: Span, values: &[Value]) -> Result<Act<'p>, NoMemory>
     ensures { IfOk result (λ a. IsAct at a (concat_all at values.now)) }
 {
@@ -111,7 +111,7 @@ fn concat_of<'p>(alloc: Global, at: Span, values: &[Value]) -> Result<Act<'p>, N
     }
 }
 
-/// A call of the first function of that name; `at` is the node's place.
+/// A call of the first function of that name; `at` is the node's span.
 fn call_of<'p>(
     alloc: Global,
     program: &'p Program,

@@ -1,7 +1,7 @@
 //! The evaluation of a program by a machine. What waits stands in a list of its own and not on the machine's own stack,
-//! since the fuel allows a depth of half a million.
+//! since fuel for a million nodes allows a depth of half a million, and of a million with calls back and forth.
 
-ghost use Rattle.std.specs.Prelude.{◌≡◌, ◌++◌, ◌<◌, ◌≤◌, ◌+◌, ◌*◌, length, reverse, map, IfOk};
+ghost use Rattle.std.specs.Prelude.{◌≡◌, ◌++◌, ◌<◌, ◌+◌, ◌*◌, length, IfOk};
 ghost use Rattle.lk_sem.specs.Evaluation as spec;
 ghost use Rattle.lk_sem.specs.Values.{list_in, unit as unit_value};
 
@@ -61,7 +61,7 @@ impl<'p> Machine<'p> {
     ghost use Rattle.lk_sem.specs.Acts.{IsAct};
     ghost use Rattle.lk_sem.specs.Evaluation.{eval, perform, each};
     ghost use Rattle.lk_sem.specs.Frames.{resumed, returned};
-    ghost use Rattle.lk_sem.specs.Machine.{Leads, bodies, frame_rest, weight};
+    ghost use Rattle.lk_sem.specs.Machine.{Falls, Leads, bodies, frame_rest, weight};
     ghost use Rattle.lk_sem.specs.Scope.{names_of};
     ghost use Rattle.lk_sem.specs.Source.{Point, source, under};
 
@@ -74,7 +74,9 @@ impl<'p> Machine<'p> {
         scope: Scope<'p>,
         place: Loc,
     ) -> Result<Next<'p>, NoMemory>
-        ensures leads { IfOk result (λ next. Leads program.now self.old (eval (source program.now) (under (names_of scope.entry) e.now) place) self.new next) }
+        ensures leads { IfOk result (λ next. Leads program.now self.old
+            (eval (source program.now) (under (names_of scope.entry) e.now) place)
+            self.new next) }
         ensures falls { IfOk result (λ next. weight self.new next < 4 * self.old.fuel + 2 * length self.old.stack + 1) }
     {
         if self.fuel == 0 {
@@ -95,8 +97,10 @@ impl<'p> Machine<'p> {
         scope: Scope<'p>,
         place: Loc,
     ) -> Result<Next<'p>, NoMemory>
-        ensures leads { IfOk result (λ next. Leads program.now self.old (resumed (source program.now) (under (names_of scope.entry) e.now) done place) self.new next) }
-        ensures falls { IfOk result (λ next. weight self.new next ≤ 4 * self.old.fuel + 2 * length self.old.stack + 3) }
+        ensures leads { IfOk result (λ next. Leads program.now self.old
+            (resumed (source program.now) (under (names_of scope.entry) e.now) done place)
+            self.new next) }
+        ensures falls { IfOk result (Falls self.old self.new) }
     {
         match part(e, done.len()) {
             Some(next) => {
@@ -117,7 +121,7 @@ impl<'p> Machine<'p> {
         }
     }
 
-    /// Does what a node does; `at` is the node's place in the text.
+    /// Does what a node does; `at` is the node's span.
     fn perform(
         &mut self,
         alloc: Global,
@@ -126,8 +130,9 @@ impl<'p> Machine<'p> {
         place: Loc,
         act: Act<'p>,
     ) -> Result<Next<'p>, NoMemory>
-        ensures leads { IfOk result (λ next. (a : spec.Act Point) → IsAct at act.entry a → Leads program.now self.old (perform (source program.now) (eval (source program.now)) place a) self.new next) }
-        ensures falls { IfOk result (λ next. weight self.new next ≤ 4 * self.old.fuel + 2 * length self.old.stack + 3) }
+        ensures leads { IfOk result (λ next. (a : spec.Act Point) → IsAct at act.entry a → Leads program.now self.old (perform (source program.now) (eval (source program.now)) place a)
+            self.new next) }
+        ensures falls { IfOk result (Falls self.old self.new) }
     {
         match act {
             Act::Give(value) => Ok(Next::Give(value)),
@@ -162,8 +167,9 @@ impl<'p> Machine<'p> {
         body: &'p Expr,
         scope: Scope<'p>,
     ) -> Result<Next<'p>, NoMemory>
-        ensures leads { IfOk result (λ next. (f : _) (args : _) → Leads program.now self.old (perform (source program.now) (eval (source program.now)) place (spec.Goto mark f args (under (names_of scope.entry) body.now))) self.new next) }
-        ensures falls { IfOk result (λ next. weight self.new next ≤ 4 * self.old.fuel + 2 * length self.old.stack + 3) }
+        ensures leads { IfOk result (λ next. (f : _) (args : _) → Leads program.now self.old (perform (source program.now) (eval (source program.now)) place (spec.Goto mark f args (under (names_of scope.entry) body.now)))
+            self.new next) }
+        ensures falls { IfOk result (Falls self.old self.new) }
     {
         match (place, mark) {
             (Loc::Client, Loc::Server) => {
@@ -188,8 +194,10 @@ impl<'p> Machine<'p> {
         place: Loc,
         text: Text,
     ) -> Result<Next<'p>, NoMemory>
-        ensures leads { IfOk result (λ next. Leads program.now self.old (perform (source program.now) (eval (source program.now)) place (spec.Uses Loc.Client (spec.Printing text))) self.new next) }
-        ensures falls { IfOk result (λ next. weight self.new next ≤ 4 * self.old.fuel + 2 * length self.old.stack + 3) }
+        ensures leads { IfOk result (λ next. Leads program.now self.old
+            (perform (source program.now) (eval (source program.now)) place (spec.Uses Loc.Client (spec.Printing text)))
+            self.new next) }
+        ensures falls { IfOk result (Falls self.old self.new) }
     {
         match place {
             Loc::Server => {
@@ -212,8 +220,10 @@ impl<'p> Machine<'p> {
         program: &'p Program,
         turns: Turns<'p>,
     ) -> Result<Next<'p>, NoMemory>
-        ensures leads { IfOk result (λ next. Leads program.now self.old (each (source program.now) (eval (source program.now)) turns.entry.at (bodies turns.entry) turns.entry.place turns.entry.made) self.new next) }
-        ensures falls { IfOk result (λ next. weight self.new next ≤ 4 * self.old.fuel + 2 * length self.old.stack + 3) }
+        ensures leads { IfOk result (λ next. Leads program.now self.old
+            (each (source program.now) (eval (source program.now)) turns.entry.at (bodies turns.entry) turns.entry.place turns.entry.made)
+            self.new next) }
+        ensures falls { IfOk result (Falls self.old self.new) }
     {
         let mut turns = turns;
         match turns.left.pop() {
@@ -235,8 +245,10 @@ impl<'p> Machine<'p> {
         turns: Turns<'p>,
         value: Value,
     ) -> Result<Next<'p>, NoMemory>
-        ensures leads { IfOk result (λ next. Leads program.now self.old (frame_rest program.now (Frame.Turn turns.entry) value) self.new next) }
-        ensures falls { IfOk result (λ next. weight self.new next ≤ 4 * self.old.fuel + 2 * length self.old.stack + 3) }
+        ensures leads { IfOk result (λ next. Leads program.now self.old
+            (frame_rest program.now (Frame.Turn turns.entry) value)
+            self.new next) }
+        ensures falls { IfOk result (Falls self.old self.new) }
     {
         match list_of(value) {
             Some(values) => {
@@ -254,8 +266,10 @@ impl<'p> Machine<'p> {
         place: Loc,
         value: Value,
     ) -> Result<Next<'p>, NoMemory>
-        ensures leads { IfOk result (λ next. Leads program.now self.old (returned place value) self.new next) }
-        ensures falls { IfOk result (λ next. weight self.new next ≤ 4 * self.old.fuel + 2 * length self.old.stack + 3) }
+        ensures leads { IfOk result (λ next. Leads program.now self.old
+            (returned place value)
+            self.new next) }
+        ensures falls { IfOk result (Falls self.old self.new) }
     {
         match place {
             Loc::Client => {
@@ -278,8 +292,10 @@ impl<'p> Machine<'p> {
         frame: Frame<'p>,
         value: Value,
     ) -> Result<Next<'p>, NoMemory>
-        ensures leads { IfOk result (λ next. Leads program.now self.old (frame_rest program.now frame.entry value) self.new next) }
-        ensures falls { IfOk result (λ next. weight self.new next ≤ 4 * self.old.fuel + 2 * length self.old.stack + 3) }
+        ensures leads { IfOk result (λ next. Leads program.now self.old
+            (frame_rest program.now frame.entry value)
+            self.new next) }
+        ensures falls { IfOk result (Falls self.old self.new) }
     {
         match frame {
             Frame::Part(waiting) => {

@@ -3,7 +3,7 @@
 ghost use Rattle.std.specs.Prelude.{◌≡◌, [], length, IfOk, IfSome, IsSome};
 ghost use Rattle.lk_sem.specs.Machine.{Ends, outcome};
 ghost use Rattle.lk_sem.specs.Names.{main_of as main_in};
-ghost use Rattle.lk_sem.specs.Runs.{IsRunOf};
+ghost use Rattle.lk_sem.specs.SourceRuns.{IsRunOf};
 ghost use Rattle.lk_sem.specs.Source.{session};
 
 use crate::functions::main_of;
