@@ -6,25 +6,28 @@ use Rattle.lk_outside.specs.Causes.{Rose}
 use Rattle.lk_outside.specs.Sink.{Appends, AppendsFront}
 use Rattle.lk_parse.specs.Grammar.{program_in}
 use Rattle.lk_sem.specs.Names.{main_of}
-use Rattle.lk_sem.specs.Runs.{IsRunOf}
+use Rattle.lk_sem.specs.SourceRuns.{IsRunOf}
 use Rattle.lk_sem.specs.Source.{session}
 use Rattle.lk_sem.specs.declared.run.SourceEnd.{SourceEnd}
 use Rattle.lk_sem.specs.declared.run.SourceEnd.TheVariants as end
 use Rattle.lk_sem.specs.declared.run.SourceRun.{SourceRun}
 use Rattle.lk_cli.specs.Report.{line, report_of}
-use Rattle.lk_cli.specs.Seen.{FilesSeen, WasRead}
-use Rattle.lk_cli.specs.declared.TheConstants.{FUEL}
+use Rattle.lk_cli.specs.Seen.{FilesSeen, HasText}
 use Rattle.lk_cli.specs.declared.answer.Refusal.{Refusal}
 use Rattle.lk_cli.specs.declared.answer.Refusal.TheVariants.{Words, ReadFault, Unexpected, NoMain, NoMemory}
 use Rattle.lk_cli.specs.declared.command.SourceCommand.{SourceCommand}
 
--- the program that the text in that file is
+-- how many nodes the evaluation of `source` may enter
+abbrev pub source_fuel : ℕ
+source_fuel = 1_000_000
+
+-- the program that the text of that file is
 abbrev pub IsProgram : FilesSeen → List ℕ → Program → Type 0
-IsProgram files name program = (text : List ℕ) × WasRead files name text × (program_in text ≡ Some program)
+IsProgram files name program = (text : List ℕ) × HasText files name text × (program_in text ≡ Some program)
 
 -- the run is the evaluation of the program's session with this argument
 abbrev pub IsSession : Program → List ℕ → SourceRun → Type 0
-IsSession program arg run = (main : FunDef) × (main_of program ≡ Some main) × IsRunOf (session program main arg) FUEL run
+IsSession program arg run = (main : FunDef) × (main_of program ≡ Some main) × IsRunOf (session program main arg) source_fuel run
 
 -- what a command comes to where nothing refuses it
 abbrev pub Gives : FilesSeen → Option SourceCommand → SourceRun → Type 0
@@ -34,7 +37,7 @@ Gives files None run = ⊥
 -- why no program comes of that file: it couldn't be read, and this was the last failed read; or its text is no program
 abbrev pub HasNoProgram : FilesSeen → List ℕ → Refusal → Type 0
 HasNoProgram files name (ReadFault failed) = Rose files.before files.after × (failed ≡ files.failed) × (failed ≡ name)
-HasNoProgram files name (Unexpected at) = (at ≡ record { start = 0; end = 0 }) × ((text : List ℕ) × WasRead files name text × (program_in text ≡ None))
+HasNoProgram files name (Unexpected at) = (at ≡ record { start = 0; end = 0 }) × ((text : List ℕ) × HasText files name text × (program_in text ≡ None))
 HasNoProgram files name NoMemory = Unit {0}
 HasNoProgram files name refusal = ⊥
 

@@ -1,7 +1,7 @@
 -- What a run saw of the files.
-use Rattle.std.specs.Prelude.{ℕ, List, Option, IfSome}
-use Rattle.lk_outside.specs.Files.{Contents, IsFront}
-use Rattle.lk_cli.specs.declared.TheConstants.{READ_MAX}
+use Rattle.std.specs.Prelude.{◌≡◌, ℕ, List, Option, Some, IfSome}
+use Rattle.std.specs.FinMap.{get}
+use Rattle.lk_outside.specs.Files.{Contents}
 
 -- what they contain where that is told, the name of the last failed read, and the count of faults before and after
 pub record FilesSeen : Type 0 where
@@ -13,6 +13,6 @@ pub record FilesSeen : Type 0 where
 abbrev pub seen : {F : Type 0} → (F → Option Contents) → (F → List ℕ) → (F → ℕ) → F → F → FilesSeen
 seen contents failed faults old new = record { contents = contents old; failed = failed new; before = faults old; after = faults new }
 
--- this text was read from the file of that name
-abbrev pub WasRead : FilesSeen → List ℕ → List ℕ → Type 0
-WasRead files name text = IfSome files.contents (λ contents. IsFront contents name READ_MAX text)
+-- where it is told what files contain, this is the text of the file of that name
+abbrev pub HasText : FilesSeen → List ℕ → List ℕ → Type 0
+HasText files name text = IfSome files.contents (λ contents. get contents name ≡ Some text)

@@ -22,7 +22,7 @@ pub use command::SourceCommand;
 pub use top::links_main;
 
 /// How many bytes of a program's file are read: one more than a program's text may have.
-pub const READ_MAX: u64 = 1_048_577;
+const READ_MAX: u64 = 1_048_577;
 
 /// The fuel of `source`: how many nodes an evaluation may enter.
-pub const FUEL: u64 = 1_000_000;
+const FUEL: u64 = 1_000_000;
