@@ -1,15 +1,5 @@
-//! The top call: all that the program `links` does, over any files and any sink.
-//!
-//! | Status | Printed | When |
-//! |---|---|---|
-//! | 0 | the events and `done FUEL VALUE` | the evaluation has a value |
-//! | 1 | `refused N NAME FIELDS` | the program is refused |
-//! | 2 | `words` | no command form reads the words |
-//! | 3 | `read fault NAME` | only where the files' count of faults rose at that name |
-//! | 4 | a first part of the output | only where the sink's count of faults rose |
-//! | 5 | a first part of the output | want of memory |
-//! | 8 | the events and `trap FUEL KIND` or `stuck START END` | the evaluation traps, or meets what has no rule |
-//! | 12 | the events and `spent` | the evaluation needs more than the fuel |
+//! The top call: all that the program `links` does, over any files and any sink. The README has the table of its
+//! statuses, `specs/Answers.antt` their causes.
 #![tactic(auto)]
 
 mod answer;
