@@ -1,12 +1,11 @@
 -- Names looked up among the evaluator's, and the `main` of a program.
 use Rattle.std.proofs.Common.{◌≡◌, ℕ, List, [], ◌∷◌, ◌++◌, refl, sym, ◌∙◌, ap}
 use Rattle.std.specs.Prelude.{Bool, true, false, ◌&&◌, ◌==◌, Option, Some, None, if◌then◌else◌, length, map, reverse, find, bytes_eq}
-use Rattle.std.specs.Option.{option_map, option_copied}
+use Rattle.std.specs.Option.{option_map}
 use Rattle.std.proofs.lemmas.Bool.{eqb-true}
 use Rattle.std.proofs.lemmas.List.{map-append, reverse-append}
 use Rattle.lk_ast.specs.declared.declaration.FunDef.{FunDef}
 use Rattle.lk_ast.specs.declared.declaration.Program.{Program}
-use Rattle.lk_ast.specs.declared.value.Value.{Value}
 use Rattle.lk_sem.specs.Names as spec
 use Rattle.lk_sem.specs.Names.{lookup, functions_of, is_main, main_of}
 use Rattle.lk_sem.specs.Scope.{names_of}

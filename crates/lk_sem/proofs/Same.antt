@@ -6,8 +6,8 @@ use Rattle.lk_ast.specs.declared.event.Event.TheVariants.{Enter, Leave}
 use Rattle.lk_ast.specs.declared.place.Loc.{Loc}
 use Rattle.lk_ast.specs.declared.table.Row.{Row}
 use Rattle.lk_ast.specs.declared.value.Value.{Value}
-use Rattle.lk_sem.specs.Evaluation.{Language, client_call, reading, node, eval_to, eval}
-use Rattle.lk_sem.specs.Laws.{Both, Maybe, MatchingCallees, Match, MatchingCrossings, MatchingEntries, MatchingRuns, MatchingStops, MatchingOuts}
+use Rattle.lk_sem.specs.Evaluation.{Language, client_call, reading, eval_to, eval}
+use Rattle.lk_sem.specs.Laws.{Both, Maybe, MatchingCallees, Match, MatchingCrossings, MatchingEntries, MatchingRuns, MatchingOuts}
 use Rattle.lk_sem.specs.Run.{Run, Out, Goes, Stops, and_then, step, logs, enter_with, Callee, Crossing, Within, Called, Returned}
 use Rattle.lk_sem.proofs.Matching.{PairWalk, both-push, node_walks}
 

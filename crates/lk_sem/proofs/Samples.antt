@@ -1,7 +1,6 @@
 -- Evaluations worked by hand, computed by the definition.
 use Rattle.std.proofs.Common.{◌≡◌, ℕ, List, [], ◌∷◌}
 use Rattle.std.specs.Prelude.{codes, None}
-use Rattle.lk_ast.specs.declared.declaration.Decl.{Decl}
 use Rattle.lk_ast.specs.declared.declaration.Decl.TheVariants as decl
 use Rattle.lk_ast.specs.declared.declaration.FunDef.{FunDef}
 use Rattle.lk_ast.specs.declared.declaration.Program.{Program}
@@ -14,8 +13,7 @@ use Rattle.lk_ast.specs.declared.place.Loc.TheVariants.{Client, Server}
 use Rattle.lk_ast.specs.declared.place.Word.{Word}
 use Rattle.lk_ast.specs.declared.value.Value.TheVariants as value
 use Rattle.lk_sem.specs.Evaluation.{eval_to}
-use Rattle.lk_sem.specs.Laws.{run_of}
-use Rattle.lk_sem.specs.Run.{Run, Out, Goes, Entry, events_of, Within, Called, Returned, Function}
+use Rattle.lk_sem.specs.Run.{Goes, Within, Called, Returned, Function}
 use Rattle.lk_sem.specs.Source.{session}
 use Rattle.lk_sem.specs.SourceRuns.{start}
 use Rattle.lk_sem.specs.Values.{text}

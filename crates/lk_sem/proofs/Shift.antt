@@ -1,16 +1,15 @@
 -- Where an evaluation starts only shifts the numbers of its entries.
 use Rattle.std.proofs.Common.{◌≡◌, ℕ, zero, suc, ◌+◌, List, [], ◌∷◌, ◌++◌, refl, sym, ◌∙◌, ap, arith, append_assoc}
-use Rattle.std.specs.Prelude.{Option, Some, None, map}
+use Rattle.std.specs.Prelude.{Option, Some, None}
 use Rattle.lk_ast.specs.Rows.{rows_value}
 use Rattle.lk_ast.specs.declared.event.Event.{Event}
 use Rattle.lk_ast.specs.declared.event.Event.TheVariants.{Enter, Leave, Read}
 use Rattle.lk_ast.specs.declared.place.Loc.{Loc}
 use Rattle.lk_ast.specs.declared.table.Row.{Row}
 use Rattle.lk_ast.specs.declared.value.Value.{Value}
-use Rattle.lk_ast.specs.declared.value.Value.TheVariants as value
 use Rattle.lk_sem.specs.Evaluation.{Language, client_call, reading, node, eval_to, eval}
 use Rattle.lk_sem.specs.Laws.{moved, shift, shifted}
-use Rattle.lk_sem.specs.Run.{Run, Entry, Out, Goes, Stops, Trapped, Stuck, Spent, Asked, Within, Callee, Crossing, Called, Returned, and_then, step, logs, enter_with}
+use Rattle.lk_sem.specs.Run.{Run, Entry, Out, Goes, Stops, Trapped, Stuck, Spent, Within, Callee, Crossing, Called, Returned, and_then, step, logs, enter_with}
 use Rattle.lk_sem.proofs.Walk.{Walk, node_walks}
 
 pub moved-append : (n : ℕ) (l m : List Entry) → moved n (l ++ m) ≡ moved n l ++ moved n m
