@@ -7,7 +7,6 @@ use Rattle.lk_ast.specs.declared.event.Event.{Event}
 use Rattle.lk_ast.specs.declared.event.Event.TheVariants.{Print, Enter, Leave, Read, Write}
 use Rattle.lk_ast.specs.declared.event.Trap.{Trap}
 use Rattle.lk_ast.specs.declared.event.Trap.TheVariants.{Divide, Head, Tail}
-use Rattle.lk_ast.specs.declared.value.Value.{Value}
 use Rattle.lk_ast.specs.declared.value.Value.TheVariants as value
 use Rattle.lk_sem.specs.Values.{text}
 use Rattle.lk_sem.specs.declared.run.SourceEnd.{SourceEnd}
