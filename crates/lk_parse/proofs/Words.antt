@@ -19,7 +19,7 @@ word_len-le bytes = go (is_ascii_lowercase (get_or bytes 0 0))
     go true = omega arith
     go false = omega arith
 
-pub word_end : (text bytes : List ℕ) (start len : ℕ) → IsUtf8 text → start ≤ length text → bytes ≡ drop start text → len ≡ word_len bytes → len ≢ 0 → len ≤ length bytes → IsCharBoundary text (start + len)
+pub word_end : (text bytes : List ℕ) (start len : ℕ) → IsUtf8 text → start ≤ length text → bytes ≡ drop start text → len ≡ word_len bytes → start ≢ start + len → len ≤ length bytes → IsCharBoundary text (start + len)
 word_end text bytes start len utf8 within rest is some fits =
     let le = word_len-le bytes in
     let last : len - 1 < prefix_len is_word_byte bytes = omega arith in
