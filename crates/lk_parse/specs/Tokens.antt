@@ -27,10 +27,11 @@ abbrev mutual
 abbrev pub is_word_byte : ℕ → Bool
 is_word_byte c = is_ascii_alphanumeric c || c == byte "_"
 
--- how many bytes the word in front has: from a small letter on all letters, digits and `_`; none without a small letter
+-- how many bytes the word in front has: from a letter `a` to `z` on, all letters, digits and `_`; else none
 abbrev pub word_len : List ℕ → ℕ
 word_len bytes = if is_ascii_lowercase (slice_index bytes 0) then prefix_len is_word_byte bytes else 0
 
+-- the words that name nothing
 abbrev pub keywords : List (List ℕ)
 keywords =
     codes "table" ∷ codes "with" ∷ codes "sig" ∷ codes "fun" ∷ codes "mutual" ∷ codes "client" ∷ codes "server"
@@ -39,10 +40,11 @@ keywords =
     ∷ codes "set" ∷ codes "delete" ∷ codes "true" ∷ codes "false" ∷ codes "mod" ∷ codes "print" ∷ codes "not"
     ∷ codes "hd" ∷ codes "tl" ∷ codes "empty" ∷ codes "intToString" ∷ []
 
--- a word that names nothing
+-- whether a word is one of them
 unfoldable pub is_keyword : List ℕ → Bool
 is_keyword word = list_any (bytes_eq word) keywords
 
+-- LF and CR
 abbrev pub ends_line : ℕ → Bool
 ends_line c = c == byte "\n" || c == byte "\r"
 
@@ -74,6 +76,7 @@ abbrev mutual
   escape [] = None
   escape (c ∷ rest) = escaped c >>= λ d. after (d ∷ []) 1 (content rest)
 
+-- what lies between two places
 abbrev pub span_of : ℕ → ℕ → Span
 span_of start end = record { start = start; end = end }
 

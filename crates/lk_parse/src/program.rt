@@ -17,9 +17,11 @@ const TEXT_LIMIT: usize = 1_048_576;
 #[tactic(auto, using(crate::proofs::Utf8::test_true, crate::proofs::Utf8::test_false), unfolding(crate::specs::Grammar::program_in))]
 pub fn parse(alloc: Global, text: &[u8]) -> Result<Program, ParseError>
     ensures program { IfOk result (λ program. program_in text.now ≡ Some program) }
-    ensures unexpected { (place : Span) → IsErrOf result (ParseError.Unexpected place) → program_in text.now ≡ None }
+    ensures unexpected { (place : Span) → IsErrOf result (ParseError.Unexpected place)
+        → program_in text.now ≡ None }
     // It doesn't say yet where the text goes wrong.
-    ensures place { (place : Span) → IsErrOf result (ParseError.Unexpected place) → place ≡ record { start = 0; end = 0 } }
+    ensures place { (place : Span) → IsErrOf result (ParseError.Unexpected place)
+        → place ≡ record { start = 0; end = 0 } }
 {
     if text.len() > TEXT_LIMIT {
         return Err(unexpected());
