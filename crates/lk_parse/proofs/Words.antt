@@ -1,7 +1,7 @@
 -- A word is ASCII, so it ends between characters.
-use Rattle.std.proofs.Common.{◌≡◌, ◌≢◌, ℕ, suc, ◌+◌, ◌-◌, ◌<◌, ◌≤◌, Bool, true, false, List, length, drop, get_or, arith, if◌then◌else◌, subst, ap, ◌∙◌, sym}
+use Rattle.std.proofs.Common.{◌≡◌, ◌≢◌, ℕ, ◌+◌, ◌-◌, ◌<◌, ◌≤◌, Bool, true, false, List, length, drop, get_or, arith, if◌then◌else◌, subst, ap}
 use Rattle.std.specs.List.{prefix_len}
-use Rattle.std.specs.Char.{is_ascii_lowercase, is_ascii_alphanumeric}
+use Rattle.std.specs.Char.{is_ascii_lowercase}
 use Rattle.std.specs.Str.{IsUtf8, IsCharBoundary}
 use Rattle.std.proofs.lemmas.Bool.Decides.{nat_tests}
 use Rattle.std.proofs.lemmas.List.{get_or-drop, length-drop}
@@ -19,7 +19,7 @@ word_len-le bytes = go (is_ascii_lowercase (get_or bytes 0 0))
     go true = omega arith
     go false = omega arith
 
-pub word_end : (text bytes : List ℕ) (start len : ℕ) → IsUtf8 text → start ≤ length text → bytes ≡ drop start text → len ≡ word_len bytes → len ≢ 0 → len ≤ length bytes → IsCharBoundary text (start + len)
+pub word_end : (text bytes : List ℕ) (start len : ℕ) → IsUtf8 text → start ≤ length text → bytes ≡ drop start text → len ≡ word_len bytes → start ≢ start + len → len ≤ length bytes → IsCharBoundary text (start + len)
 word_end text bytes start len utf8 within rest is some fits =
     let le = word_len-le bytes in
     let last : len - 1 < prefix_len is_word_byte bytes = omega arith in

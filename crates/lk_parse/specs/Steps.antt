@@ -1,4 +1,4 @@
--- Reading goes on from what it has read, and stops where that is nothing.
+-- A reading goes on from what it has read, and comes to nothing where that is nothing.
 use Rattle.std.specs.Prelude.{Option, option_and_then}
 
 infixl 10 ◌>>=◌

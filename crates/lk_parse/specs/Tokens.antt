@@ -1,38 +1,50 @@
--- The tokens of a text. Each begins where white space and comments behind the token before it end, and is as long as it
--- can be. Places are counted in bytes.
-use Rattle.std.specs.Prelude.{ℕ, ◌+◌, ◌<◌, Bool, ◌||◌, ◌==◌, nat_eq, nat_lt, if◌then◌else◌, List, [], ◌∷◌, ◌++◌, length, take, drop, slice_index, slice_range, Option, Some, None, codes, not}
+-- The tokens of a text. A token begins behind the white space and the comments that follow the token before it, and
+-- goes on as far as it can. A place in the text is a number of bytes from its beginning.
+use Rattle.std.specs.Prelude.{ℕ, ◌+◌, Bool, ◌||◌, ◌==◌, nat_eq, if◌then◌else◌, List, [], ◌∷◌, ◌++◌, length, drop, slice_index, slice_range, Option, Some, None, codes}
 use Rattle.std.specs.List.{list_any, prefix_len, starts_with}
 use Rattle.std.specs.Char.{is_ascii_lowercase, is_ascii_alphanumeric}
 use Rattle.std.specs.Str.{byte, bytes_eq}
 use Rattle.lk_ast.specs.declared.place.Span.{Span}
 use Rattle.lk_ast.specs.declared.place.Word.{Word}
-use Rattle.lk_ast.specs.declared.expression.Expr.{Expr}
-use Rattle.lk_ast.specs.declared.expression.Node.TheVariants as node
 use Rattle.lk_parse.specs.Steps.{◌>>=◌}
 
 -- space, tab, CR and LF
 abbrev pub is_white : ℕ → Bool
 is_white c = c == byte " " || c == byte "\t" || c == byte "\r" || c == byte "\n"
 
--- ASCII letters, digits and `_`
-abbrev pub is_word_byte : ℕ → Bool
-is_word_byte c = is_ascii_alphanumeric c || c == byte "_"
-
--- How many bytes of white space and comments are in front. A comment goes from `#` to the end of the line.
+-- how many bytes of white space and comments stand in front
 abbrev mutual
   pub gap_len : List ℕ → ℕ
   gap_len [] = 0
   gap_len (c ∷ rest) = if is_white c then 1 + gap_len rest else if c == byte "#" then 1 + comment_len rest else 0
 
-  -- the same, in a comment
+  -- the same inside a comment, which a line feed ends
   pub comment_len : List ℕ → ℕ
   comment_len [] = 0
   comment_len (c ∷ rest) = 1 + (if c == byte "\n" then gap_len rest else comment_len rest)
 
--- how many bytes the word in front has: none, or a small letter and all letters, digits and `_` after it
+-- ASCII letters, digits and `_`
+abbrev pub is_word_byte : ℕ → Bool
+is_word_byte c = is_ascii_alphanumeric c || c == byte "_"
+
+-- how many bytes the word in front has: from a letter `a` to `z` on, all letters, digits and `_`; else none
 abbrev pub word_len : List ℕ → ℕ
 word_len bytes = if is_ascii_lowercase (slice_index bytes 0) then prefix_len is_word_byte bytes else 0
 
+-- the words that name nothing
+abbrev pub keywords : List (List ℕ)
+keywords =
+    codes "table" ∷ codes "with" ∷ codes "sig" ∷ codes "fun" ∷ codes "mutual" ∷ codes "client" ∷ codes "server"
+    ∷ codes "var" ∷ codes "if" ∷ codes "else" ∷ codes "for" ∷ codes "where" ∷ codes "switch" ∷ codes "case"
+    ∷ codes "query" ∷ codes "orderby" ∷ codes "desc" ∷ codes "insert" ∷ codes "values" ∷ codes "update"
+    ∷ codes "set" ∷ codes "delete" ∷ codes "true" ∷ codes "false" ∷ codes "mod" ∷ codes "print" ∷ codes "not"
+    ∷ codes "hd" ∷ codes "tl" ∷ codes "empty" ∷ codes "intToString" ∷ []
+
+-- whether a word is one of them
+unfoldable pub is_keyword : List ℕ → Bool
+is_keyword word = list_any (bytes_eq word) keywords
+
+-- LF and CR
 abbrev pub ends_line : ℕ → Bool
 ends_line c = c == byte "\n" || c == byte "\r"
 
@@ -45,11 +57,11 @@ escaped c =
     else if c == byte "t" then Some (byte "\t")
     else None
 
--- n bytes that stand for `front` before those that were read
+-- what was read, behind n more bytes, which stand for `front`
 abbrev pub after : List ℕ → ℕ → Option (List ℕ × ℕ) → Option (List ℕ × ℕ)
-after front n read = read >>= λ x. Some (front ++ x.0, n + x.1)
+after front n read = read >>= λ (held, len). Some (front ++ held, n + len)
 
--- What the bytes up to a closing quote stand for, and how many they are with the quote.
+-- what the bytes up to a closing quote stand for, and how many they are with the quote
 abbrev mutual
   pub content : List ℕ → Option (List ℕ × ℕ)
   content [] = None
@@ -59,51 +71,37 @@ abbrev mutual
       else if ends_line c then None
       else after (c ∷ []) 1 (content rest)
 
-  -- the same, behind a backslash
+  -- the same behind a backslash
   pub escape : List ℕ → Option (List ℕ × ℕ)
   escape [] = None
   escape (c ∷ rest) = escaped c >>= λ d. after (d ∷ []) 1 (content rest)
 
+-- what lies between two places
 abbrev pub span_of : ℕ → ℕ → Span
 span_of start end = record { start = start; end = end }
 
-abbrev pub keywords : List (List ℕ)
-keywords =
-    codes "table" ∷ codes "with" ∷ codes "sig" ∷ codes "fun" ∷ codes "mutual" ∷ codes "client" ∷ codes "server"
-    ∷ codes "var" ∷ codes "if" ∷ codes "else" ∷ codes "for" ∷ codes "where" ∷ codes "switch" ∷ codes "case"
-    ∷ codes "query" ∷ codes "orderby" ∷ codes "desc" ∷ codes "insert" ∷ codes "values" ∷ codes "update" ∷ codes "set"
-    ∷ codes "delete" ∷ codes "true" ∷ codes "false" ∷ codes "mod" ∷ codes "print" ∷ codes "not" ∷ codes "hd"
-    ∷ codes "tl" ∷ codes "empty" ∷ codes "intToString" ∷ []
-
-unfoldable pub is_keyword : List ℕ → Bool
-is_keyword word = list_any (bytes_eq word) keywords
-
 module _ (text : List ℕ) where
   -- where the first token from this place on begins
-  unfoldable pub next : ℕ → ℕ
-  next at = at + gap_len (drop at text)
+  unfoldable pub token_start : ℕ → ℕ
+  token_start at = at + gap_len (drop at text)
 
-  -- the word that is the next token
+  -- the next token, a word
   unfoldable pub word : ℕ → Option Word
   word at =
-      let start = next at in
-      let len = word_len (drop start text) in
-      if len == 0 then None else Some (record { at = span_of start (start + len); text = take len (drop start text) })
+      let start = token_start at in
+      let end = start + word_len (drop start text) in
+      if start == end then None else Some (record { at = span_of start end; text = slice_range text start end })
 
-  -- the same, if it is this word
+  -- the next token, this word
   unfoldable pub this_word : List ℕ → ℕ → Option Word
   this_word wanted at = word at >>= λ found. if bytes_eq found.text wanted then Some found else None
 
-  -- the same, if it can name something
+  -- the next token, a word that can name something
   unfoldable pub name : ℕ → Option Word
   name at = word at >>= λ found. if is_keyword found.text then None else Some found
 
-  -- the sign that is the next token, if it is this one
+  -- the next token, this sign
   unfoldable pub sign : List ℕ → ℕ → Option Span
   sign wanted at =
-      let start = next at in
+      let start = token_start at in
       if starts_with nat_eq (drop start text) wanted then Some (span_of start (start + length wanted)) else None
-
-  -- the text literal whose opening quote stands here
-  unfoldable pub literal : ℕ → Option Expr
-  literal start = content (drop (start + 1) text) >>= λ x. Some (record { span = span_of start (start + 1 + x.1); node = node.Text x.0 })

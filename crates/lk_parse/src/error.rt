@@ -4,14 +4,14 @@ ghost use Rattle.lk_parse.specs.declared.error.ParseError.TheVariants as errors;
 ghost use Rattle.std.specs.Prelude.{◌≡◌};
 
 use lk_ast::{NoMemory, Span};
-use std::alloc::{AllocError, AllocFailed};
+use std::alloc::AllocFailed;
 use thiserror::Error;
 
 /// Why a text isn't parsed.
 #[derive(Debug, Drop, Error)]
 pub enum ParseError {
-    /// The text isn't a program. The place is that of its beginning.
-    #[error("unexpected text at {}", .0.start)]
+    /// The text is no program.
+    #[error("unexpected text at byte {}", .0.start)]
     Unexpected(Span),
     #[error("out of memory")]
     NoMemory,
@@ -25,14 +25,6 @@ impl From<NoMemory> for ParseError {
     }
 }
 
-impl From<AllocError> for ParseError {
-    ghost from_gives = { λ _ error. error ≡ errors.NoMemory };
-
-    fn from(_error: AllocError) -> ParseError {
-        ParseError::NoMemory
-    }
-}
-
 impl<T: Drop> From<AllocFailed<T>> for ParseError {
     ghost from_gives = { λ _ error. error ≡ errors.NoMemory };
 
@@ -41,7 +33,7 @@ impl<T: Drop> From<AllocFailed<T>> for ParseError {
     }
 }
 
-/// The refusal of a text that isn't a program.
+/// The refusal of a text that is no program, which doesn't say yet where the text goes wrong.
 pub fn unexpected() -> ParseError
     ensures { result ≡ errors.Unexpected (record { start = 0; end = 0 }) }
 {

@@ -1,4 +1,7 @@
-//! The parser.
+//! The parser, for the smallest language that can be run: `fun main(x) client { e ^^ e }`, where each `e` is a text
+//! literal or `x`.
+//!
+//! `specs/Tokens` has the tokens and `specs/Grammar` the grammar; the code follows them function by function.
 #![tactic(auto)]
 
 mod error;
@@ -7,6 +10,8 @@ mod keywords;
 mod lengths;
 mod literals;
 mod program;
+#[cfg(test)]
+mod tests;
 mod tokens;
 
 pub use error::ParseError;

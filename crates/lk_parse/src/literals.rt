@@ -39,7 +39,7 @@ fn text_of(bytes: Vec<u8>) -> Text
 }
 
 /// What the bytes up to a closing quote stand for, and how many they are with the quote.
-#[tactic(auto, using(crate::proofs::Contents::reads_plain, crate::proofs::Contents::reads_backslash, crate::proofs::Contents::reads_escape, crate::proofs::Contents::held_utf8))]
+#[tactic(auto, using(crate::proofs::Contents::held_utf8))]
 pub fn content(alloc: Global, bytes: &[u8]) -> Result<(Text, usize), ParseError>
     requires { IsUtf8 bytes.now }
     ensures found { Gives result (content bytes.now) }

@@ -1,7 +1,7 @@
 //! From a text to its program.
 
-ghost use Rattle.lk_parse.specs.Grammar.{program_in};
 ghost use Rattle.lk_ast.specs.declared.place.Span.{Span};
+ghost use Rattle.lk_parse.specs.Grammar.{program_in};
 ghost use Rattle.std.specs.Prelude.{◌≡◌, IfOk, IsErrOf};
 
 use crate::error::{ParseError, unexpected};
@@ -10,16 +10,18 @@ use lk_ast::Program;
 use std::alloc::Global;
 use std::str;
 
-/// The largest text that is parsed, in bytes.
+/// How many bytes a program's text can have.
 const TEXT_LIMIT: usize = 1_048_576;
 
-/// The program that a text is. Want of memory is the only refusal of a program.
+/// The program that a text is.
 #[tactic(auto, using(crate::proofs::Utf8::test_true, crate::proofs::Utf8::test_false), unfolding(crate::specs::Grammar::program_in))]
 pub fn parse(alloc: Global, text: &[u8]) -> Result<Program, ParseError>
     ensures program { IfOk result (λ program. program_in text.now ≡ Some program) }
-    ensures unexpected { (place : Span) → IsErrOf result (ParseError.Unexpected place) → program_in text.now ≡ None }
-    // Until the grammar is whole, the place is the beginning of the text.
-    ensures place { (place : Span) → IsErrOf result (ParseError.Unexpected place) → place ≡ record { start = 0; end = 0 } }
+    ensures unexpected { (place : Span) → IsErrOf result (ParseError.Unexpected place)
+        → program_in text.now ≡ None }
+    // It doesn't say yet where the text goes wrong.
+    ensures place { (place : Span) → IsErrOf result (ParseError.Unexpected place)
+        → place ≡ record { start = 0; end = 0 } }
 {
     if text.len() > TEXT_LIMIT {
         return Err(unexpected());

@@ -1,7 +1,7 @@
 //! The tokens of a text, one at a time.
 
 ghost use Rattle.lk_parse.specs.Answers.{Gives, IsPlace};
-ghost use Rattle.lk_parse.specs.Tokens.{next, word, this_word, name, sign, literal, is_keyword};
+ghost use Rattle.lk_parse.specs.Tokens.{token_start, word, this_word, name, sign};
 ghost use Rattle.std.specs.Prelude.{◌≡◌, ◌≤◌, length, drop, IfOk};
 
 use crate::error::{ParseError, unexpected};
@@ -19,31 +19,31 @@ pub fn rest(text: &str, at: u32) -> &[u8]
 }
 
 /// Where the first token from this place on begins.
-#[tactic(auto, unfolding(crate::specs::Tokens::next))]
-pub fn next(text: &str, at: u32) -> u32
+#[tactic(auto, unfolding(crate::specs::Tokens::token_start))]
+pub fn token_start(text: &str, at: u32) -> u32
     requires { IsPlace text.now at }
-    ensures start { result ≡ next text.now at }
+    ensures start { result ≡ token_start text.now at }
     ensures place { IsPlace text.now result }
 {
     at + gap_len(rest(text, at)) as u32
 }
 
-/// The word that is the next token.
+/// The next token, if it is a word.
 #[tactic(auto, unfolding(crate::specs::Tokens::word))]
 fn word(alloc: Global, text: &str, at: u32) -> Result<Word, ParseError>
     requires { IsPlace text.now at }
     ensures found { Gives result (word text.now at) }
-    ensures place { IfOk result (λ word. IsPlace text.now word.at.end) }
+    ensures place { IfOk result (λ found. IsPlace text.now found.at.end) }
 {
-    let start = next(text, at);
-    let len = word_len(rest(text, start)) as u32;
-    if len == 0 {
+    let start = token_start(text, at);
+    let end = start + word_len(rest(text, start)) as u32;
+    if start == end {
         return Err(unexpected());
     }
-    let end = start + len;
-    let text = Text::from_str(alloc, &text[start as usize..end as usize])?;
-    let at = Span { start, end };
-    Ok(Word { at, text })
+    Ok(Word {
+        at: Span { start, end },
+        text: Text::from_str(alloc, &text[start as usize..end as usize])?,
+    })
 }
 
 /// The next token, if it is this word.
@@ -51,7 +51,7 @@ fn word(alloc: Global, text: &str, at: u32) -> Result<Word, ParseError>
 pub fn this_word(alloc: Global, text: &str, at: u32, wanted: &str) -> Result<Word, ParseError>
     requires { IsPlace text.now at }
     ensures found { Gives result (this_word text.now wanted.now at) }
-    ensures place { IfOk result (λ word. IsPlace text.now word.at.end) }
+    ensures place { IfOk result (λ found. IsPlace text.now found.at.end) }
 {
     let found = word(alloc, text, at)?;
     if found.text.as_str() == wanted {
@@ -66,7 +66,7 @@ pub fn this_word(alloc: Global, text: &str, at: u32, wanted: &str) -> Result<Wor
 pub fn name(alloc: Global, text: &str, at: u32) -> Result<Word, ParseError>
     requires { IsPlace text.now at }
     ensures found { Gives result (name text.now at) }
-    ensures place { IfOk result (λ word. IsPlace text.now word.at.end) }
+    ensures place { IfOk result (λ found. IsPlace text.now found.at.end) }
 {
     let found = word(alloc, text, at)?;
     if is_keyword(found.text.as_str()) {
@@ -81,9 +81,9 @@ pub fn name(alloc: Global, text: &str, at: u32) -> Result<Word, ParseError>
 pub fn sign(text: &str, at: u32, wanted: &str) -> Result<Span, ParseError>
     requires { IsPlace text.now at }
     ensures found { Gives result (sign text.now wanted.now at) }
-    ensures place { IfOk result (λ span. IsPlace text.now span.end) }
+    ensures place { IfOk result (λ found. IsPlace text.now found.end) }
 {
-    let start = next(text, at);
+    let start = token_start(text, at);
     if rest(text, start).starts_with(wanted.as_bytes()) {
         let end = start + wanted.len() as u32;
         Ok(Span { start, end })

@@ -10,6 +10,6 @@ pub loop-i-preserved : goal.loop-i-preserved
 loop-i-preserved c =
     let reads = rw c.if-in_escape.false at c.loop-i.invariant in
     elim c.match-byte.branch [
-      in-92 w ↦ rw (w.held-is, w.in_escape-is) (reads_backslash _ _ _ c.loop-i-test.true reads w.in-92.is)
-    | in_default-byte+in_ok-push-in_default-byte w ↦ rw (w.held-is, w.in_escape-is, c.if-in_escape.false) (reads_plain _ _ _ c.loop-i-test.true _ reads (omega arith) (omega arith) (sym c.ends_line.ensures ∙ c.if-ends_line.false) w.in_ok-push-in_default-byte.ensures.items)
+      | in-92 w ↦ rw (w.held-is, w.in_escape-is) (reads_backslash _ _ _ c.loop-i-test.true reads w.in-92.is)
+      | in_default-byte+in_ok-push-in_default-byte w ↦ rw (w.held-is, w.in_escape-is, c.if-in_escape.false) (reads_plain _ _ _ c.loop-i-test.true _ reads (omega arith) (omega arith) (sym c.ends_line.ensures ∙ c.if-ends_line.false) w.in_ok-push-in_default-byte.ensures.items)
     ]
