@@ -7,7 +7,7 @@ use Rattle.std.proofs.lemmas.Bool.{leb-true, leb-false}
 use Rattle.std.proofs.lemmas.List.{length-take-le, take_all}
 use Rattle.lk_ast.specs.declared.declaration.Program.{Program}
 use Rattle.lk_outside.specs.Files.{Contents, IsFront}
-use Rattle.lk_parse.specs.Grammar.{program, program_in}
+use Rattle.lk_parse.specs.Grammar.{program, program_in, text_limit}
 use Rattle.lk_cli.specs.declared.TheConstants.{READ_MAX}
 
 above : (n m : ℕ) → m < n → nat_le n m ≡ false
@@ -18,9 +18,9 @@ above n m h = go (nat_le n m) refl
     go false e = e
 
 -- a longer text than a program may have is none
-too_long : (text : List ℕ) → 1_048_576 < length text → program_in text ≡ None
+too_long : (text : List ℕ) → text_limit < length text → program_in text ≡ None
 unfolding program_in
-too_long text h = ap (λ b. if is_utf8 text && b then program text else None) (above (length text) 1_048_576 h) ∙ go (is_utf8 text)
+too_long text h = ap (λ b. if is_utf8 text && b then program text else None) (above (length text) text_limit h) ∙ go (is_utf8 text)
   where
     go : (b : Bool) → (if b && false then program text else None) ≡ None
     go true = refl
