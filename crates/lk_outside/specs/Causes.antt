@@ -3,11 +3,11 @@ use Rattle.std.specs.Prelude.{ℕ, ◌+◌, ◌-◌, ◌^◌, ◌≤◌, min, Re
 use Rattle.lk_outside.specs.declared.fault.OutFault.{OutFault}
 use Rattle.lk_outside.specs.declared.fault.OutFault.TheVariants.{Failed, NoMemory}
 
--- one more than a count of type u64, which stays at its last value
+-- one more than a count of type u64, whose greatest value stays
 abbrev pub next_count : ℕ → ℕ
 next_count count = min (count + 1) (2 ^ 64 - 1)
 
--- the count rose, or stands at its last value
+-- the count rose, or stands at the greatest value of u64
 abbrev pub Rose : ℕ → ℕ → Type 0
 Rose before now = next_count before ≤ now
 

@@ -9,7 +9,7 @@ pub record Failures : Type 0 where
   pub failed : List ℕ
   pub faults : ℕ
 
--- the same after a read of this name
+-- that name and that count after a read of this name
 abbrev pub failures_after : {T : Type 0} → Result T OutFault → List ℕ → Failures → Failures
 failures_after result name before =
     record { failed = last_failed result name before.failed; faults = count_after result before.faults }

@@ -1,10 +1,11 @@
 -- What a sink takes.
-use Rattle.std.specs.Prelude.{◌≡◌, ℕ, List, ◌++◌, Option, Some, IfSome, take}
+use Rattle.std.specs.Prelude.{◌≡◌, ℕ, List, ◌++◌, Option, take}
+use Rattle.std.specs.Option.{option_map}
 
--- where the bytes taken were told, they are those and this piece
+-- the bytes taken are told as before, with this piece at their end
 abbrev pub Appends : Option (List ℕ) → Option (List ℕ) → List ℕ → Type 0
-Appends old new piece = IfSome old (λ before. new ≡ Some (before ++ piece))
+Appends old new piece = new ≡ option_map (λ before. before ++ piece) old
 
--- where the bytes taken were told, they are those and some first bytes of this piece
+-- the bytes taken are told as before, with some first bytes of this piece at their end
 abbrev pub AppendsFront : Option (List ℕ) → Option (List ℕ) → List ℕ → Type 0
 AppendsFront old new piece = (n : ℕ) × Appends old new (take n piece)

@@ -24,7 +24,7 @@ impl Model for FailedReads {
 }
 
 impl FailedReads {
-    /// None yet.
+    /// No read has failed yet.
     pub(crate) fn new() -> FailedReads
         ensures { result ≡ record { failed = []; faults = 0 } }
     {
@@ -34,7 +34,8 @@ impl FailedReads {
         }
     }
 
-    /// Refuses a read of this name: with `Failed`, and counts it, or with `NoMemory` where none is found for the name.
+    /// Refuses a read of this name: with `Failed`, and counts it, or with `NoMemory` where no memory is found to keep
+    /// the name.
     pub(crate) fn refuse(&mut self, alloc: Global, name: &str) -> Result<Bytes, OutFault>
         ensures refused { IsErr result }
         ensures after { self.new ≡ failures_after result name.now self.old }

@@ -8,13 +8,13 @@ use std::alloc::Global;
 
 /// Files, which are read by name.
 pub trait Files {
-    /// What they contain, where that is told.
+    /// What they contain, or `None` where that isn't told.
     ghost contents: { Self → Option Contents };
 
-    /// The name of the last read that was `Failed`, at first the empty text.
+    /// The name of the last read that answered `Failed`, at first the empty text.
     ghost failed: { Self → List ℕ };
 
-    /// The count of faults.
+    /// The count of faults. A call that answers `Failed` raises it.
     ghost faults: { Self → ℕ };
 
     /// The first `max` bytes of a file, or all of it where it has fewer. A failed read that finds no memory to keep
@@ -27,11 +27,11 @@ pub trait Files {
         ensures failed { failed self.new ≡ last_failed result name.now (failed self.old) }
         ensures cause { HasCause (faults self.old) (faults self.new) result };
 
-    /// The name of the last read that was `Failed`, at first the empty text.
+    /// The name of the last read that answered `Failed`, at first the empty text.
     fn failed(&self) -> &str
         ensures { result.now ≡ failed self.now };
 
-    /// The count of faults, which stays at its last value once it is there.
+    /// The count of faults, which stays at the greatest `u64` once it is there.
     fn faults(&self) -> u64
         ensures { result ≡ faults self.now };
 }

@@ -12,7 +12,7 @@ use lk_ast::{Bytes, List, NoMemory};
 use std::alloc::Global;
 use std::marker::Model;
 
-/// Files in memory. A read fails by its number, or where no file has the name.
+/// Files in memory. The reads of given numbers fail, and those of a name that no file has.
 #[derive(Debug, Drop)]
 pub struct MemFiles {
     files: List<FileEntry>,
@@ -30,7 +30,8 @@ impl Model for MemFiles {
 }
 
 impl MemFiles {
-    /// These files; of two with one name the first counts. The reads of the numbers in `failing`, from 0, fail.
+    /// These files; of two with one name the first counts. The reads whose numbers, from 0, are in `failing`
+    /// fail.
     pub fn new(files: List<FileEntry>, failing: List<u64>) -> MemFiles
         ensures files { result.files ≡ files }
         ensures calls { result.calls ≡ record { failing = failing; made = 0 } }

@@ -9,7 +9,7 @@ use lk_ast::{Bytes, List};
 use std::alloc::Global;
 use std::marker::Model;
 
-/// A sink that keeps what it took. A write fails by its number, and takes nothing then.
+/// A sink that keeps what it took. The writes of given numbers fail. A refused write takes nothing.
 #[derive(Debug, Drop)]
 pub struct MemSink {
     taken: Bytes,
@@ -26,7 +26,7 @@ impl Model for MemSink {
 }
 
 impl MemSink {
-    /// Nothing taken yet. The writes of the numbers in `failing`, from 0, fail.
+    /// Nothing taken yet. The writes whose numbers, from 0, are in `failing` fail.
     pub fn new(alloc: Global, failing: List<u64>) -> MemSink
         ensures taken { result.taken ≡ [] }
         ensures calls { result.calls ≡ record { failing = failing; made = 0 } }

@@ -8,7 +8,7 @@ use std::io::{ErrorKind, Read};
 use std::rt::Files as SystemFiles;
 use std::{fs, io};
 
-/// The system's files, which tell nothing of what they contain.
+/// The system's files. What they contain isn't told.
 #[derive(Drop)]
 pub struct OsFiles<'a, R> {
     rt: &'a R,
@@ -66,7 +66,7 @@ fn front_of<F: Read + Drop>(reader: F, alloc: Global, max: u64) -> io::Result<By
 {
     let mut bytes = Vec::new(alloc);
     reader.take(max).read_to_end(&mut bytes)?;
-    // No more was read, which `read_to_end` says only of a reader whose bytes are known.
+    // No more than `max` were read, but `read_to_end` says so only of a reader whose bytes are known.
     bytes.truncate(max as usize);
     Ok(Bytes::from_vec(bytes))
 }

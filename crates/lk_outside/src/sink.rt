@@ -6,20 +6,20 @@ use crate::OutFault;
 
 /// Where output goes.
 pub trait Sink {
-    /// The bytes that it took, where that is told.
+    /// The bytes that it took, or `None` where that isn't told.
     ghost taken: { Self → Option (List ℕ) };
 
-    /// The count of faults.
+    /// The count of faults. A call that answers `Failed` raises it.
     ghost faults: { Self → ℕ };
 
-    /// Takes a piece. A refusal may have taken some first bytes of it. A sink that takes nothing of a piece that isn't
-    /// empty has failed.
+    /// Takes a piece. `Ok` says that the whole piece was taken; where it is refused, a first part of it may have been
+    /// taken.
     fn write(&mut self, piece: &[u8]) -> Result<(), OutFault>
         ensures ok { OnOk result (Appends (taken self.old) (taken self.new) piece.now) }
         ensures refused { OnErr result (AppendsFront (taken self.old) (taken self.new) piece.now) }
         ensures cause { HasCause (faults self.old) (faults self.new) result };
 
-    /// The count of faults, which stays at its last value once it is there.
+    /// The count of faults, which stays at the greatest `u64` once it is there.
     fn faults(&self) -> u64
         ensures { result ≡ faults self.now };
 }

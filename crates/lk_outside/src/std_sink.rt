@@ -2,7 +2,7 @@ ghost use Rattle.std.specs.Prelude.{◌≡◌, None};
 
 use crate::{OutFault, Sink};
 
-/// The standard output, which tells nothing of what it took.
+/// The standard output. What it took isn't told.
 #[derive(Drop)]
 pub struct StdSink<'a, R> {
     rt: &'a R,

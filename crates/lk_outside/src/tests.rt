@@ -23,10 +23,12 @@ fn files_of_the_system(rt: HostRuntime) -> Result<(), Fail> {
     Ok(())
 }
 
-// An output that takes nothing.
-struct Closed;
+const LINE: &[u8] = b"one line\n";
 
-impl Print for Closed {
+// An output that takes the bytes of `LINE`, written at once, and refuses all else.
+struct OneLine;
+
+impl Print for OneLine {
     fn print<D: Display + Drop>(&self, _value: D) -> io::Result<()> {
         Err(io::Error::from(ErrorKind::BrokenPipe))
     }
@@ -35,20 +37,24 @@ impl Print for Closed {
         Err(io::Error::from(ErrorKind::BrokenPipe))
     }
 
-    fn write_all(&self, _bytes: &[u8]) -> io::Result<()> {
-        Err(io::Error::from(ErrorKind::BrokenPipe))
+    fn write_all(&self, bytes: &[u8]) -> io::Result<()> {
+        if bytes == LINE {
+            Ok(())
+        } else {
+            Err(io::Error::from(ErrorKind::BrokenPipe))
+        }
     }
 }
 
 #[test]
 fn standard_output(rt: HostRuntime) -> Result<(), Fail> {
-    let mut out = StdSink::new(&rt);
-    out.write(b"one line\n")?;
+    StdSink::new(&rt).write(LINE)?;
+    let mut out = StdSink::new(&OneLine);
+    out.write(LINE)?;
     assert_eq!(rt; out.faults(), 0);
-    let mut closed = StdSink::new(&Closed);
-    let refused = closed.write(b"one line\n").err();
+    let refused = out.write(b"another line\n").err();
     assert_eq!(rt; refused, Some(OutFault::Failed));
-    assert_eq!(rt; closed.faults(), 1);
+    assert_eq!(rt; out.faults(), 1);
     Ok(())
 }
 
