@@ -73,6 +73,51 @@ fn refuses_what_is_no_program(rt: HostRuntime) -> Result<(), Fail> {
     check(&rt, alloc, &line, List::new(alloc), List::new(alloc), want)
 }
 
+/// Runs `source` on a file with this text, and asserts that it is refused by this line.
+fn check_refused(rt: &impl Abort, alloc: Global, text: &[u8], want: &str) -> Result<(), Fail> {
+    let mut entries = List::new(alloc);
+    entries.push(FileEntry {
+        name: Text::from_str(alloc, "text.links")?,
+        content: Bytes::from_slice(alloc, text)?,
+    })?;
+    let words = words(alloc, &["source", "text.links", "ann"])?;
+    let mut files = MemFiles::new(entries, List::new(alloc));
+    let mut out = MemSink::new(alloc, List::new(alloc));
+    let status = links_main(alloc, &words, &mut files, &mut out);
+    assert_eq!(rt; status, 1);
+    assert_eq!(rt; out.taken().as_slice(), want.as_bytes());
+    Ok(())
+}
+
+#[test]
+fn refuses_texts_that_have_no_tokens(rt: HostRuntime) -> Result<(), Fail> {
+    let alloc = rt.alloc();
+    let open = b"fun main(a) client { a ^^ \"x }";
+    check_refused(&rt, alloc, open, "refused 2 BadToken 26 27\n")?;
+    let accent = "fun main(a) client { \"é\" ^^ é }".as_bytes();
+    check_refused(&rt, alloc, accent, "refused 2 BadToken 29 31\n")?;
+    // No token begins at the `@` before the byte that is no UTF-8.
+    check_refused(&rt, alloc, b"fun @ \xff", "refused 1 NotUtf8 6\n")?;
+    // Nor is the byte UTF-8 in a text that is too long.
+    let mut long = Vec::from_slice(alloc, b"fun @ \xff")?;
+    long.resize(1_048_577, b'#')?;
+    check_refused(&rt, alloc, &long, "refused 5 TextTooLong\n")?;
+    long.push(b'#')?;
+    check_refused(&rt, alloc, &long, "refused 5 TextTooLong\n")
+}
+
+#[test]
+fn refuses_texts_that_nest_too_deep(rt: HostRuntime) -> Result<(), Fail> {
+    let alloc = rt.alloc();
+    let mut deep = Vec::from_slice(alloc, b"fun main(a) client { ")?;
+    for _ in 0..250 {
+        deep.push(b'(')?;
+    }
+    check_refused(&rt, alloc, &deep, "refused 4 TooNested 218 219\n")?;
+    deep.push(b'@')?;
+    check_refused(&rt, alloc, &deep, "refused 2 BadToken 271 272\n")
+}
+
 #[test]
 fn refuses_words_without_a_form(rt: HostRuntime) -> Result<(), Fail> {
     let alloc = rt.alloc();

@@ -22,6 +22,7 @@ mod table;
 #[cfg(test)]
 mod tests;
 mod text;
+mod token;
 mod value;
 
 pub use boxed::Boxed;
@@ -40,4 +41,5 @@ pub use shared::Shared;
 pub use signature::{Sig, SigField, SigType};
 pub use table::{Base, BaseKind, Cell, Column, Row, TableDef};
 pub use text::Text;
+pub use token::{Token, TokenKind};
 pub use value::{Field, FunValue, Value};

@@ -1,10 +1,13 @@
 -- The answers to a command line: which come, with their causes; what is printed for each, and the status.
-use Rattle.std.specs.Prelude.{◌≡◌, ◌⊎◌, ℕ, List, [], ◌∷◌, Option, Some, None, Result, Ok, Err, MatchResult, codes, decimal}
+use Rattle.std.specs.Prelude.{◌≡◌, ◌⊎◌, ℕ, List, [], ◌∷◌, Option, Some, None, Result, Ok, Err, MatchResult, length, ◌<◌, codes, decimal}
+use Rattle.lk_ast.specs.declared.place.Span.{Span}
 use Rattle.lk_ast.specs.declared.declaration.FunDef.{FunDef}
 use Rattle.lk_ast.specs.declared.declaration.Program.{Program}
 use Rattle.lk_outside.specs.Causes.{Rose}
 use Rattle.lk_outside.specs.Sink.{Appends, AppendsFront}
-use Rattle.lk_parse.specs.Grammar.{program_in}
+use Rattle.lk_parse.specs.Refusals.{IsProgramText, IsRefused}
+use Rattle.lk_parse.specs.declared.error.ParseError.{ParseError}
+use Rattle.lk_parse.specs.declared.error.ParseError.TheVariants as parse
 use Rattle.lk_sem.specs.Names.{main_of}
 use Rattle.lk_sem.specs.SourceRuns.{IsRunOf}
 use Rattle.lk_sem.specs.Source.{session}
@@ -13,8 +16,9 @@ use Rattle.lk_sem.specs.declared.run.SourceEnd.TheVariants as end
 use Rattle.lk_sem.specs.declared.run.SourceRun.{SourceRun}
 use Rattle.lk_cli.specs.Report.{line, report_of}
 use Rattle.lk_cli.specs.Seen.{FilesSeen, HasText}
+use Rattle.lk_parse.specs.Tokens.{text_limit}
 use Rattle.lk_cli.specs.declared.answer.Refusal.{Refusal}
-use Rattle.lk_cli.specs.declared.answer.Refusal.TheVariants.{Words, ReadFault, Unexpected, NoMain, NoMemory}
+use Rattle.lk_cli.specs.declared.answer.Refusal.TheVariants.{Words, ReadFault, TextTooLong, NotUtf8, BadToken, TooNested, Unexpected, NoMain, NoMemory}
 use Rattle.lk_cli.specs.declared.command.SourceCommand.{SourceCommand}
 
 -- how many nodes the evaluation of `source` may enter
@@ -23,7 +27,7 @@ source_fuel = 1_000_000
 
 -- the program that the text of that file is
 abbrev pub IsProgram : FilesSeen → List ℕ → Program → Type 0
-IsProgram files name program = (text : List ℕ) × HasText files name text × (program_in text ≡ Some program)
+IsProgram files name program = (text : List ℕ) × HasText files name text × IsProgramText text program
 
 -- the run is the evaluation of the program's session with this argument
 abbrev pub IsSession : Program → List ℕ → SourceRun → Type 0
@@ -34,12 +38,29 @@ abbrev pub Gives : FilesSeen → Option SourceCommand → SourceRun → Type 0
 Gives files (Some command) run = (program : Program) × IsProgram files command.program program × IsSession program command.arg run
 Gives files None run = ⊥
 
+-- the text of that file is refused for this reason
+abbrev pub IsRefusedText : FilesSeen → List ℕ → ParseError → Type 0
+IsRefusedText files name reason = (text : List ℕ) × HasText files name text × IsRefused text reason
+
 -- why no program comes of that file: it couldn't be read, and this was the last failed read; or its text is no program
 abbrev pub HasNoProgram : FilesSeen → List ℕ → Refusal → Type 0
 HasNoProgram files name (ReadFault failed) = Rose files.before files.after × (failed ≡ files.failed) × (failed ≡ name)
-HasNoProgram files name (Unexpected at) = (at ≡ record { start = 0; end = 0 }) × ((text : List ℕ) × HasText files name text × (program_in text ≡ None))
+HasNoProgram files name TextTooLong = (text : List ℕ) × HasText files name text × (text_limit < length text)
+HasNoProgram files name (NotUtf8 at) = IsRefusedText files name (parse.NotUtf8 at)
+HasNoProgram files name (BadToken at) = IsRefusedText files name (parse.BadToken at)
+HasNoProgram files name (TooNested at) = IsRefusedText files name (parse.TooNested at)
+HasNoProgram files name (Unexpected at) = IsRefusedText files name (parse.Unexpected at)
 HasNoProgram files name NoMemory = Unit {0}
 HasNoProgram files name refusal = ⊥
+
+-- a reason of the parser as a refusal
+abbrev pub refusal_of : ParseError → Refusal
+refusal_of (parse.TextTooLong bytes) = TextTooLong
+refusal_of (parse.NotUtf8 at) = NotUtf8 at
+refusal_of (parse.BadToken at) = BadToken at
+refusal_of (parse.TooNested at) = TooNested at
+refusal_of (parse.Unexpected at) = Unexpected at
+refusal_of parse.NoMemory = NoMemory
 
 -- why a program has no session: there is no `main`
 abbrev pub HasNoSession : Program → Refusal → Type 0
@@ -58,12 +79,20 @@ RefusedBy files (Some command) refusal = HasNoProgram files command.program refu
 abbrev pub Answers : FilesSeen → Option SourceCommand → Result SourceRun Refusal → Type 0
 Answers files command answer = MatchResult answer (Gives files command) (RefusedBy files command)
 
+-- a refusal by its number and name, with a place in the program's text
+abbrev pub refused_at : ℕ → List ℕ → Span → List ℕ
+refused_at number name at = line (codes "refused" ∷ decimal number ∷ name ∷ decimal at.start ∷ decimal at.end ∷ [])
+
 -- what is printed: `words`, `read fault NAME`, or `refused` with the number, the name and the fields of a refusal
 abbrev pub printed : Result SourceRun Refusal → List ℕ
 printed (Ok run) = report_of run
 printed (Err Words) = line (codes "words" ∷ [])
 printed (Err (ReadFault name)) = line (codes "read" ∷ codes "fault" ∷ name ∷ [])
-printed (Err (Unexpected at)) = line (codes "refused" ∷ codes "3" ∷ codes "Unexpected" ∷ decimal at.start ∷ decimal at.end ∷ [])
+printed (Err (NotUtf8 at)) = line (codes "refused" ∷ codes "1" ∷ codes "NotUtf8" ∷ decimal at ∷ [])
+printed (Err (BadToken at)) = refused_at 2 (codes "BadToken") at
+printed (Err (Unexpected at)) = refused_at 3 (codes "Unexpected") at
+printed (Err (TooNested at)) = refused_at 4 (codes "TooNested") at
+printed (Err TextTooLong) = line (codes "refused" ∷ codes "5" ∷ codes "TextTooLong" ∷ [])
 printed (Err NoMain) = line (codes "refused" ∷ codes "8" ∷ codes "NoMain" ∷ [])
 printed (Err NoMemory) = []
 
@@ -75,7 +104,11 @@ end_status (end.Stuck at) = 8
 
 abbrev pub status_of : Result SourceRun Refusal → ℕ
 status_of (Ok run) = end_status run.end
+status_of (Err (NotUtf8 at)) = 1
+status_of (Err (BadToken at)) = 1
 status_of (Err (Unexpected at)) = 1
+status_of (Err (TooNested at)) = 1
+status_of (Err TextTooLong) = 1
 status_of (Err NoMain) = 1
 status_of (Err Words) = 2
 status_of (Err (ReadFault name)) = 3

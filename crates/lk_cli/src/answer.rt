@@ -1,10 +1,11 @@
 //! Answers to a command line, their texts and their statuses.
 
 ghost use Rattle.std.specs.Prelude.{◌≡◌, IfOk};
-ghost use Rattle.lk_cli.specs.Answers.{printed, status_of, end_status};
+ghost use Rattle.lk_cli.specs.Answers.{printed, refused_at, status_of, end_status};
 
 use crate::report::report;
 use lk_ast::{NoMemory as OutOfMemory, Span, Text};
+use lk_parse::ParseError;
 use lk_sem::{SourceEnd, SourceRun};
 use std::alloc::Global;
 use thiserror::Error;
@@ -16,6 +17,14 @@ pub enum Refusal {
     Words,
     #[error("a file could not be read")]
     ReadFault(Text),
+    #[error("the text is too long")]
+    TextTooLong,
+    #[error("the text is not UTF-8")]
+    NotUtf8(u32),
+    #[error("no token begins here")]
+    BadToken(Span),
+    #[error("the text nests too deep")]
+    TooNested(Span),
     #[error("the text is not a program")]
     Unexpected(Span),
     #[error("the program has no main function")]
@@ -34,6 +43,31 @@ impl From<OutOfMemory> for Refusal {
     }
 }
 
+impl From<ParseError> for Refusal {
+    ghost use Rattle.lk_cli.specs.Answers.{refusal_of};
+
+    ghost from_gives = { λ error refusal. refusal ≡ refusal_of error };
+
+    fn from(error: ParseError) -> Self {
+        match error {
+            ParseError::TextTooLong(_) => Refusal::TextTooLong,
+            ParseError::NotUtf8(at) => Refusal::NotUtf8(at),
+            ParseError::BadToken(at) => Refusal::BadToken(at),
+            ParseError::TooNested(at) => Refusal::TooNested(at),
+            ParseError::Unexpected(at) => Refusal::Unexpected(at),
+            ParseError::NoMemory => Refusal::NoMemory,
+        }
+    }
+}
+
+/// The line of a refusal that has a place in the program's text.
+fn refused_at(alloc: Global, number: u8, name: &str, at: Span) -> Result<Text, OutOfMemory>
+    ensures { IfOk result (λ text. text ≡ refused_at number name.now at) }
+{
+    let line = format!(in alloc; "refused {} {} {} {}\n", number, name, at.start, at.end)?;
+    Ok(Text::from_string(line))
+}
+
 /// What is printed for an answer.
 pub fn print_answer(alloc: Global, answer: &Result<SourceRun, Refusal>) -> Result<Text, OutOfMemory>
     ensures { IfOk result (λ text. text ≡ printed answer.now) }
@@ -45,10 +79,14 @@ pub fn print_answer(alloc: Global, answer: &Result<SourceRun, Refusal>) -> Resul
             let line = format!(in alloc; "read fault {}\n", name.as_str())?;
             Ok(Text::from_string(line))
         }
-        Err(Refusal::Unexpected(at)) => {
-            let line = format!(in alloc; "refused 3 Unexpected {} {}\n", at.start, at.end)?;
+        Err(Refusal::NotUtf8(at)) => {
+            let line = format!(in alloc; "refused 1 NotUtf8 {}\n", *at)?;
             Ok(Text::from_string(line))
         }
+        Err(Refusal::BadToken(at)) => refused_at(alloc, 2, "BadToken", *at),
+        Err(Refusal::Unexpected(at)) => refused_at(alloc, 3, "Unexpected", *at),
+        Err(Refusal::TooNested(at)) => refused_at(alloc, 4, "TooNested", *at),
+        Err(Refusal::TextTooLong) => Ok(Text::from_str(alloc, "refused 5 TextTooLong\n")?),
         Err(Refusal::NoMain) => Ok(Text::from_str(alloc, "refused 8 NoMain\n")?),
         Err(Refusal::NoMemory) => Ok(Text::new(alloc)),
     }
@@ -60,7 +98,12 @@ pub fn answer_status(answer: &Result<SourceRun, Refusal>) -> u8
 {
     match answer {
         Ok(run) => status_of_end(&run.end),
-        Err(Refusal::Unexpected(_)) | Err(Refusal::NoMain) => 1,
+        Err(Refusal::TextTooLong)
+        | Err(Refusal::NotUtf8(_))
+        | Err(Refusal::BadToken(_))
+        | Err(Refusal::TooNested(_))
+        | Err(Refusal::Unexpected(_))
+        | Err(Refusal::NoMain) => 1,
         Err(Refusal::Words) => 2,
         Err(Refusal::ReadFault(_)) => 3,
         Err(Refusal::NoMemory) => 5,

@@ -12,7 +12,7 @@ use crate::command::{SourceCommand, read_words};
 use crate::{FUEL, READ_MAX};
 use lk_ast::{Program, Text};
 use lk_outside::{Files, OutFault, Sink};
-use lk_parse::{ParseError, parse};
+use lk_parse::parse;
 use lk_sem::{SourceRun, main_of, source_run};
 use std::alloc::Global;
 
@@ -85,11 +85,7 @@ fn read_program<F: Files>(alloc: Global, name: &str, files: &mut F) -> Result<Pr
             return Err(Refusal::ReadFault(Text::from_str(alloc, files.failed())?));
         }
     };
-    match parse(alloc, text.as_slice()) {
-        Ok(program) => Ok(program),
-        Err(ParseError::Unexpected(at)) => Err(Refusal::Unexpected(at)),
-        Err(ParseError::NoMemory) => Err(Refusal::NoMemory),
-    }
+    Ok(parse(alloc, text.as_slice())?)
 }
 
 /// The evaluation of the session of a program with this argument.

@@ -1,3 +1,11 @@
-pub mod Contents
-pub mod Words
-pub mod Utf8
+pub mod Content
+pub mod Digits
+pub mod Integers
+pub mod Lexemes
+pub mod LongestSign
+pub mod Passes
+pub mod Readings
+pub mod Runs
+pub mod Shapes
+pub mod TextLiterals
+pub mod Weights

@@ -1,60 +1,87 @@
--- The grammar of programs, read from left to right.
-use Rattle.std.specs.Prelude.{ℕ, ◌+◌, ◌&&◌, ◌==◌, nat_le, if◌then◌else◌, List, [], ◌∷◌, length, drop, slice_index, Option, Some, None, codes}
-use Rattle.std.specs.Str.{byte, is_utf8}
+-- The grammar of programs over tokens.
+use Rattle.std.specs.Prelude.{◌+◌, ◌==◌, ℕ, if◌then◌else◌, List, [], ◌∷◌, length, slice_get, Option, Some, None, codes}
+use Rattle.std.specs.Option.{option_or}
+use Rattle.std.specs.Str.{bytes_eq}
 use Rattle.lk_ast.specs.declared.declaration.Decl.TheVariants as decl
 use Rattle.lk_ast.specs.declared.declaration.Program.{Program}
 use Rattle.lk_ast.specs.declared.expression.Expr.{Expr}
 use Rattle.lk_ast.specs.declared.expression.Node.TheVariants as node
 use Rattle.lk_ast.specs.declared.place.Loc.TheVariants as loc
+use Rattle.lk_ast.specs.declared.place.Span.{Span}
 use Rattle.lk_ast.specs.declared.place.Word.{Word}
+use Rattle.lk_ast.specs.declared.token.Token.{Token}
+use Rattle.lk_ast.specs.declared.token.TokenKind.{TokenKind}
+use Rattle.lk_ast.specs.declared.token.TokenKind.TheVariants as kind
+use Rattle.lk_parse.specs.Keywords.{is_keyword}
 use Rattle.lk_parse.specs.Steps.{◌>>=◌}
-use Rattle.lk_parse.specs.Tokens.{content, span_of, token_start, this_word, name, sign}
 
 -- the program of one function, which is at the client
-abbrev pub program_of : Word → Word → Expr → Program
-program_of name param body =
+abbrev pub program_with : Word → Word → Expr → Program
+program_with name param body =
     record { decls = decl.Fun (record { name = name; sig = None; params = param ∷ []; place = loc.Client; body = body }) ∷ [] }
 
-module _ (text : List ℕ) where
-  -- a text literal, whose opening quote stands at `start`
+-- what lies between two places
+abbrev pub span_of : ℕ → ℕ → Span
+span_of start end = record { start = start; end = end }
+
+-- a token that is a word
+abbrev pub word_at : Span → TokenKind → Option Word
+word_at span (kind.Word text) = Some (record { at = span; text = text })
+word_at span other = None
+
+-- a text literal
+abbrev pub literal_at : Span → TokenKind → Option Expr
+literal_at span (kind.Text text) = Some (record { span = span; node = node.Text text })
+literal_at span other = None
+
+-- the span of a token that is this sign
+abbrev pub sign_at : List ℕ → Span → TokenKind → Option Span
+sign_at wanted span (kind.Sign sign) = if bytes_eq sign wanted then Some span else None
+sign_at wanted span other = None
+
+module _ (tokens : List Token) where
+  -- the token of this number, a word
+  unfoldable pub word : ℕ → Option Word
+  word at = slice_get tokens at >>= λ token. word_at token.span token.kind
+
+  -- this word
+  unfoldable pub this_word : List ℕ → ℕ → Option Word
+  this_word wanted at = word at >>= λ found. if bytes_eq found.text wanted then Some found else None
+
+  -- a word that can name something
+  unfoldable pub name : ℕ → Option Word
+  name at = word at >>= λ found. if is_keyword found.text then None else Some found
+
+  -- this sign
+  unfoldable pub sign : List ℕ → ℕ → Option Span
+  sign wanted at = slice_get tokens at >>= λ token. sign_at wanted token.span token.kind
+
+  -- a text literal
   unfoldable pub literal : ℕ → Option Expr
-  literal start = do
-    found ← content (drop (start + 1) text)
-    Some (record { span = span_of start (start + 1 + found.1); node = node.Text found.0 })
+  literal at = slice_get tokens at >>= λ token. literal_at token.span token.kind
 
   -- a text literal, or the name `param`
   unfoldable pub operand : List ℕ → ℕ → Option Expr
-  operand param at =
-      let start = token_start text at in
-      if slice_index text start == byte "\"" then literal start
-      else (this_word text param at >>= λ found. Some (record { span = found.at; node = node.Name found.text }))
+  operand param at = option_or (literal at) (this_word param at >>= λ found. Some (record { span = found.at; node = node.Name found.text }))
 
   -- operand ^^ operand
   unfoldable pub concatenation : List ℕ → ℕ → Option Expr
   concatenation param at = do
     left ← operand param at
-    between ← sign text (codes "^^") left.span.end
-    right ← operand param between.end
+    between ← sign (codes "^^") (at + 1)
+    right ← operand param (at + 2)
     Some (record { span = span_of left.span.start right.span.end; node = node.Concat left right })
 
   -- fun main(param) client { concatenation }, and nothing behind it
-  unfoldable pub program : Option Program
-  program = do
-    fun ← this_word text (codes "fun") 0
-    main ← this_word text (codes "main") fun.at.end
-    open_paren ← sign text (codes "(") main.at.end
-    param ← name text open_paren.end
-    close_paren ← sign text (codes ")") param.at.end
-    client ← this_word text (codes "client") close_paren.end
-    open_brace ← sign text (codes "{") client.at.end
-    body ← concatenation param.text open_brace.end
-    close_brace ← sign text (codes "}") body.span.end
-    if token_start text close_brace.end == length text then Some (program_of main param body) else None
-
--- how many bytes a program's text can have
-abbrev pub text_limit : ℕ
-text_limit = 1_048_576
-
--- the program that a text is, if it is one
-unfoldable pub program_in : List ℕ → Option Program
-program_in text = if is_utf8 text && nat_le (length text) text_limit then program text else None
+  unfoldable pub program_of : Option Program
+  program_of = do
+    fun ← this_word (codes "fun") 0
+    main ← this_word (codes "main") 1
+    open_paren ← sign (codes "(") 2
+    param ← name 3
+    close_paren ← sign (codes ")") 4
+    client ← this_word (codes "client") 5
+    open_brace ← sign (codes "{") 6
+    body ← concatenation param.text 7
+    close_brace ← sign (codes "}") 10
+    if length tokens == 11 then Some (program_with main param body) else None

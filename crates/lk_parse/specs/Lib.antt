@@ -1,4 +1,9 @@
+pub mod Answers
+pub mod Grammar
+pub mod Keywords
+pub mod Nesting
+pub mod Pieces
+pub mod Refusals
+pub mod Scanner
 pub mod Steps
 pub mod Tokens
-pub mod Grammar
-pub mod Answers

@@ -4,12 +4,23 @@ ghost use Rattle.lk_parse.specs.declared.error.ParseError.TheVariants as errors;
 ghost use Rattle.std.specs.Prelude.{◌≡◌};
 
 use lk_ast::{NoMemory, Span};
-use std::alloc::AllocFailed;
 use thiserror::Error;
 
-/// Why a text isn't parsed.
+/// Why a text isn't parsed, the reason that counts first being answered.
 #[derive(Debug, Drop, Error)]
 pub enum ParseError {
+    /// The text has so many bytes, which is more than 1,048,576.
+    #[error("the text has {0} bytes, which are too many")]
+    TextTooLong(u64),
+    /// The text isn't UTF-8 (RFC 3629) from this byte on.
+    #[error("the text is not UTF-8 at byte {0}")]
+    NotUtf8(u32),
+    /// At this character no token, white space or comment begins.
+    #[error("no token begins at byte {}", .0.start)]
+    BadToken(Span),
+    /// With this token the text nests too deep.
+    #[error("the text nests too deep at byte {}", .0.start)]
+    TooNested(Span),
     /// The text is no program.
     #[error("unexpected text at byte {}", .0.start)]
     Unexpected(Span),
@@ -25,15 +36,7 @@ impl From<NoMemory> for ParseError {
     }
 }
 
-impl<T: Drop> From<AllocFailed<T>> for ParseError {
-    ghost from_gives = { λ _ error. error ≡ errors.NoMemory };
-
-    fn from(_error: AllocFailed<T>) -> ParseError {
-        ParseError::NoMemory
-    }
-}
-
-/// The refusal of a text that is no program, which doesn't say yet where the text goes wrong.
+/// The refusal of tokens that are no program, which doesn't say yet where they go wrong.
 pub fn unexpected() -> ParseError
     ensures { result ≡ errors.Unexpected (record { start = 0; end = 0 }) }
 {

@@ -1,68 +1,127 @@
-//! The grammar, read from left to right.
+//! The grammar, read token by token.
 
-ghost use Rattle.lk_parse.specs.Answers.{Gives, IsPlace};
-ghost use Rattle.lk_parse.specs.Grammar.{literal, operand, concatenation, program, program_of, text_limit};
-ghost use Rattle.std.specs.Prelude.{◌≡◌, ◌==◌, ◌≤◌, ◌<◌, length, slice_index, IfOk, IsTrue};
-ghost use Rattle.std.specs.Str.{byte};
+ghost use Rattle.lk_parse.specs.Answers.{Gives};
+ghost use Rattle.lk_parse.specs.Grammar.{word, this_word, name, sign, literal, operand, concatenation, program_of, program_with};
+ghost use Rattle.std.specs.Prelude.{◌≡◌, ◌<◌, IfOk};
 
 use crate::error::{ParseError, unexpected};
-use crate::literals::content;
-use crate::tokens::{name, rest, sign, this_word, token_start};
-use lk_ast::{Boxed, Decl, Expr, FunDef, List, Loc, NoMemory, Node, Program, Span, Word};
+use crate::tables::is_keyword;
+use lk_ast::{
+    Boxed, Decl, Expr, FunDef, List, Loc, NoMemory, Node, Program, Span, Token, TokenKind, Word,
+};
 use std::alloc::Global;
 
-/// Whether a quote stands here.
-fn has_quote(text: &str, at: u32) -> bool
-    requires { IsPlace text.now at }
-    ensures { result ≡ (slice_index text.now at == byte "\"") }
+/// The token of this number, if it is a word.
+#[tactic(auto, unfolding(crate::specs::Grammar::word))]
+fn word(alloc: Global, tokens: &[Token], at: usize) -> Result<Word, ParseError>
+    ensures { Gives result (word tokens.now at) }
 {
-    matches!(rest(text, at), [b'"', ..])
+    match tokens.get(at) {
+        Some(
+            Token {
+                span,
+                kind: TokenKind::Word(text),
+            },
+        ) => Ok(Word {
+            at: *span,
+            text: text.copy(alloc)?,
+        }),
+        _ => Err(unexpected()),
+    }
 }
 
-/// A text literal, whose opening quote stands at `start`.
-#[tactic(auto, unfolding(crate::specs::Grammar::literal))]
-fn literal(alloc: Global, text: &str, start: u32) -> Result<Expr, ParseError>
-    requires place { IsPlace text.now start }
-    requires quote { slice_index text.now start ≡ byte "\"" }
-    ensures found { Gives result (literal text.now start) }
-    ensures place { IfOk result (λ found. IsPlace text.now found.span.end) }
+/// The token of this number, if it is this word.
+#[tactic(auto, unfolding(crate::specs::Grammar::this_word))]
+fn this_word(alloc: Global, tokens: &[Token], at: usize, wanted: &str) -> Result<Word, ParseError>
+    ensures { Gives result (this_word tokens.now wanted.now at) }
 {
-    let (held, len) = content(alloc, rest(text, start + 1))?;
-    let end = start + 1 + len as u32;
-    Ok(Expr {
-        span: Span { start, end },
-        node: Boxed::new(alloc, Node::Text(held))?,
-    })
+    let found = word(alloc, tokens, at)?;
+    if found.text.as_str() == wanted {
+        Ok(found)
+    } else {
+        Err(unexpected())
+    }
+}
+
+/// The token of this number, if it is a word that can name something.
+#[tactic(auto, unfolding(crate::specs::Grammar::name))]
+fn name(alloc: Global, tokens: &[Token], at: usize) -> Result<Word, ParseError>
+    ensures { Gives result (name tokens.now at) }
+{
+    let found = word(alloc, tokens, at)?;
+    if is_keyword(found.text.as_str()) {
+        Err(unexpected())
+    } else {
+        Ok(found)
+    }
+}
+
+/// The token of this number, if it is this sign.
+#[tactic(auto, unfolding(crate::specs::Grammar::sign))]
+fn sign(tokens: &[Token], at: usize, wanted: &str) -> Result<Span, ParseError>
+    ensures { Gives result (sign tokens.now wanted.now at) }
+{
+    match tokens.get(at) {
+        Some(
+            Token {
+                span,
+                kind: TokenKind::Sign(text),
+            },
+        ) if text.as_str() == wanted => Ok(*span),
+        _ => Err(unexpected()),
+    }
+}
+
+/// The token of this number, if it is a text literal.
+#[tactic(auto, unfolding(crate::specs::Grammar::literal))]
+fn literal(alloc: Global, tokens: &[Token], at: usize) -> Result<Expr, ParseError>
+    ensures { Gives result (literal tokens.now at) }
+{
+    match tokens.get(at) {
+        Some(
+            Token {
+                span,
+                kind: TokenKind::Text(text),
+            },
+        ) => Ok(Expr {
+            span: *span,
+            node: Boxed::new(alloc, Node::Text(text.copy(alloc)?))?,
+        }),
+        _ => Err(unexpected()),
+    }
 }
 
 /// A text literal, or the name `param`.
 #[tactic(auto, unfolding(crate::specs::Grammar::operand))]
-fn operand(alloc: Global, text: &str, at: u32, param: &str) -> Result<Expr, ParseError>
-    requires { IsPlace text.now at }
-    ensures found { Gives result (operand text.now param.now at) }
-    ensures place { IfOk result (λ found. IsPlace text.now found.span.end) }
+fn operand(alloc: Global, tokens: &[Token], at: usize, param: &str) -> Result<Expr, ParseError>
+    ensures { Gives result (operand tokens.now param.now at) }
 {
-    let start = token_start(text, at);
-    if has_quote(text, start) {
-        return literal(alloc, text, start);
+    match literal(alloc, tokens, at) {
+        Err(ParseError::Unexpected(_)) => {
+            let found = this_word(alloc, tokens, at, param)?;
+            Ok(Expr {
+                span: found.at,
+                node: Boxed::new(alloc, Node::Name(found.text))?,
+            })
+        }
+        found => found,
     }
-    let found = this_word(alloc, text, at, param)?;
-    Ok(Expr {
-        span: found.at,
-        node: Boxed::new(alloc, Node::Name(found.text))?,
-    })
 }
 
 /// `operand ^^ operand`.
 #[tactic(auto, unfolding(crate::specs::Grammar::concatenation))]
-fn concatenation(alloc: Global, text: &str, at: u32, param: &str) -> Result<Expr, ParseError>
-    requires { IsPlace text.now at }
-    ensures found { Gives result (concatenation text.now param.now at) }
-    ensures place { IfOk result (λ found. IsPlace text.now found.span.end) }
+fn concatenation(
+    alloc: Global,
+    tokens: &[Token],
+    at: usize,
+    param: &str,
+) -> Result<Expr, ParseError>
+    requires { at < 1000 }
+    ensures { Gives result (concatenation tokens.now param.now at) }
 {
-    let left = operand(alloc, text, at, param)?;
-    let between = sign(text, left.span.end, "^^")?;
-    let right = operand(alloc, text, between.end, param)?;
+    let left = operand(alloc, tokens, at, param)?;
+    sign(tokens, at + 1, "^^")?;
+    let right = operand(alloc, tokens, at + 2, param)?;
     let span = Span {
         start: left.span.start,
         end: right.span.end,
@@ -72,8 +131,8 @@ fn concatenation(alloc: Global, text: &str, at: u32, param: &str) -> Result<Expr
 }
 
 /// The program of one function, which is at the client.
-fn program_of(alloc: Global, name: Word, param: Word, body: Expr) -> Result<Program, NoMemory>
-    ensures { IfOk result (λ program. program ≡ program_of name param body) }
+fn program_with(alloc: Global, name: Word, param: Word, body: Expr) -> Result<Program, NoMemory>
+    ensures { IfOk result (λ program. program ≡ program_with name param body) }
 {
     let mut params = List::new(alloc);
     params.push(param)?;
@@ -90,22 +149,21 @@ fn program_of(alloc: Global, name: Word, param: Word, body: Expr) -> Result<Prog
 }
 
 /// `fun main(param) client { concatenation }`, and nothing behind it.
-#[tactic(auto, unfolding(crate::specs::Grammar::program))]
-pub fn program(alloc: Global, text: &str) -> Result<Program, ParseError>
-    requires { length text.now ≤ text_limit }
-    ensures { Gives result (program text.now) }
+#[tactic(auto, unfolding(crate::specs::Grammar::program_of))]
+pub fn program_of(alloc: Global, tokens: &[Token]) -> Result<Program, ParseError>
+    ensures { Gives result (program_of tokens.now) }
 {
-    let fun = this_word(alloc, text, 0, "fun")?;
-    let main = this_word(alloc, text, fun.at.end, "main")?;
-    let open_paren = sign(text, main.at.end, "(")?;
-    let param = name(alloc, text, open_paren.end)?;
-    let close_paren = sign(text, param.at.end, ")")?;
-    let client = this_word(alloc, text, close_paren.end, "client")?;
-    let open_brace = sign(text, client.at.end, "{")?;
-    let body = concatenation(alloc, text, open_brace.end, param.text.as_str())?;
-    let close_brace = sign(text, body.span.end, "}")?;
-    if token_start(text, close_brace.end) as usize == text.len() {
-        Ok(program_of(alloc, main, param, body)?)
+    this_word(alloc, tokens, 0, "fun")?;
+    let main = this_word(alloc, tokens, 1, "main")?;
+    sign(tokens, 2, "(")?;
+    let param = name(alloc, tokens, 3)?;
+    sign(tokens, 4, ")")?;
+    this_word(alloc, tokens, 5, "client")?;
+    sign(tokens, 6, "{")?;
+    let body = concatenation(alloc, tokens, 7, param.text.as_str())?;
+    sign(tokens, 10, "}")?;
+    if tokens.len() == 11 {
+        Ok(program_with(alloc, main, param, body)?)
     } else {
         Err(unexpected())
     }

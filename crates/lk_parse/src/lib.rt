@@ -1,18 +1,25 @@
-//! The parser, for the smallest language that can be run: `fun main(x) client { e ^^ e }`, where each `e` is a text
-//! literal or `x`.
+//! The parser. `tokens` reads a text's tokens, `check_nesting` how deeply they nest, `parse` the program.
 //!
-//! `specs/Tokens` has the tokens and `specs/Grammar` the grammar; the code follows them function by function.
+//! The grammar is that of the smallest language that can be run: `fun main(x) client { e ^^ e }`, where each `e` is a
+//! text literal or `x`. `specs/Pieces` and `specs/Tokens` have the tokens, `specs/Nesting` the weight, `specs/Grammar`
+//! the grammar and `specs/Refusals` what is refused and why.
 #![tactic(auto)]
 
 mod error;
 mod grammar;
-mod keywords;
-mod lengths;
 mod literals;
+mod nesting;
+mod piece;
 mod program;
+mod scan;
+mod signs;
+mod start;
+mod tables;
 #[cfg(test)]
 mod tests;
-mod tokens;
 
 pub use error::ParseError;
+pub use lk_ast::{Token, TokenKind};
+pub use nesting::check_nesting;
 pub use program::parse;
+pub use scan::tokens;

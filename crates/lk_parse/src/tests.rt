@@ -1,19 +1,64 @@
-use crate::{ParseError, parse};
+//! Tables of texts, worked by hand.
+
+use crate::{ParseError, Token, TokenKind, check_nesting, parse, tokens};
 use lk_ast::{Decl, Expr, Loc, Node, Program, Span};
 use std::alloc::{AllocError, Global};
+use std::process::Abort;
 use std::test::Fail;
+
+mod programs;
+mod token_lists;
+mod weights;
+
+/// What a text is given to.
+#[derive(Clone, Copy, Debug)]
+enum Reader {
+    Tokens,
+    Nesting,
+    Program,
+}
+
+/// A long text: pieces, each so many times.
+type Pieces = &'static [(usize, &'static str)];
+
+fn shown_refusal(alloc: Global, refusal: &ParseError) -> Result<String, AllocError> {
+    match refusal {
+        ParseError::TextTooLong(bytes) => format!(in alloc; "TextTooLong {bytes}"),
+        ParseError::NotUtf8(at) => format!(in alloc; "NotUtf8 {at}"),
+        ParseError::BadToken(at) => format!(in alloc; "BadToken {} {}", at.start, at.end),
+        ParseError::TooNested(at) => format!(in alloc; "TooNested {} {}", at.start, at.end),
+        ParseError::Unexpected(at) => format!(in alloc; "Unexpected {} {}", at.start, at.end),
+        ParseError::NoMemory => format!(in alloc; "NoMemory"),
+    }
+}
+
+fn shown_token(alloc: Global, token: &Token) -> Result<String, AllocError> {
+    let Span { start, end } = token.span;
+    match &token.kind {
+        TokenKind::Word(text) => format!(in alloc; "word {} {start} {end}", text.as_str()),
+        TokenKind::Tag(text) => format!(in alloc; "tag {} {start} {end}", text.as_str()),
+        TokenKind::Int(number) => format!(in alloc; "int {number} {start} {end}"),
+        TokenKind::Text(text) => format!(in alloc; "text {:?} {start} {end}", text.as_str()),
+        TokenKind::Sign(text) => format!(in alloc; "sign {} {start} {end}", text.as_str()),
+    }
+}
+
+fn shown_tokens(alloc: Global, found: &[Token]) -> Result<String, AllocError> {
+    let mut line = String::new(alloc);
+    for token in found {
+        if !line.is_empty() {
+            line.push_str(", ")?;
+        }
+        line.push_str(shown_token(alloc, token)?.as_str())?;
+    }
+    Ok(line)
+}
 
 fn shown_operand(alloc: Global, operand: &Expr) -> Result<String, AllocError> {
     let Span { start, end } = operand.span;
     match operand.node.get() {
-        Node::Text(text) => {
-            let text = text.as_str();
-            format!(in alloc; "{text:?} at {start} to {end}")
-        }
-        Node::Name(name) => {
-            let name = name.as_str();
-            format!(in alloc; "{name} at {start} to {end}")
-        }
+        Node::Text(text) => format!(in alloc; "{:?} at {start} to {end}", text.as_str()),
+        Node::Name(name) => format!(in alloc; "{} at {start} to {end}", name.as_str()),
         _ => format!(in alloc; "no operand"),
     }
 }
@@ -28,7 +73,7 @@ fn shown_body(alloc: Global, body: &Expr) -> Result<String, AllocError> {
     format!(in alloc; "{start} to {end}: {left}, {right}")
 }
 
-fn shown(alloc: Global, program: &Program) -> Result<String, AllocError> {
+fn shown_program(alloc: Global, program: &Program) -> Result<String, AllocError> {
     let [Decl::Fun(fun)] = program.decls.as_slice() else {
         return format!(in alloc; "no function alone");
     };
@@ -46,88 +91,78 @@ fn shown(alloc: Global, program: &Program) -> Result<String, AllocError> {
     )
 }
 
-#[test]
-fn concatenates(rt: HostRuntime) -> Result<(), Fail> {
-    let alloc = rt.alloc();
-    let program = parse(alloc, b"fun main(a) client { \"hi \" ^^ a }")?;
-    let want = "main at 4 to 8, a at 9 to 10, 21 to 31: \"hi \" at 21 to 26, a at 30 to 31";
-    assert_eq!(rt; shown(alloc, &program)?.as_str(), want);
-    Ok(())
+/// Reads the tokens of a text and how deeply they nest.
+fn nesting(alloc: Global, text: &[u8]) -> Result<(), ParseError> {
+    let found = tokens(alloc, text)?;
+    check_nesting(alloc, found.as_slice())
 }
 
-#[test]
-fn needs_no_white_space(rt: HostRuntime) -> Result<(), Fail> {
-    let alloc = rt.alloc();
-    let program = parse(alloc, b"fun main(a)client{a^^a}")?;
-    let want = "main at 4 to 8, a at 9 to 10, 18 to 22: a at 18 to 19, a at 21 to 22";
-    assert_eq!(rt; shown(alloc, &program)?.as_str(), want);
-    Ok(())
-}
-
-#[test]
-fn skips_gaps_and_replaces_escapes(rt: HostRuntime) -> Result<(), Fail> {
-    let alloc = rt.alloc();
-    let text = "#c\n fun\tmain\r\n(x1_Y)client{\"\\\"\\\\\\n\\r\\té\"^^#\"\nx1_Y}# end";
-    let program = parse(alloc, text.as_bytes())?;
-    let want =
-        "main at 8 to 12, x1_Y at 15 to 19, 27 to 50: \"\\\"\\\\\\n\\r\\té\" at 27 to 41, x1_Y at 46 to 50";
-    assert_eq!(rt; shown(alloc, &program)?.as_str(), want);
-    Ok(())
-}
-
-#[test]
-fn main_is_an_ordinary_word(rt: HostRuntime) -> Result<(), Fail> {
-    let alloc = rt.alloc();
-    let program = parse(alloc, b"fun main(main) client { main ^^ \"x\" }")?;
-    let want = "main at 4 to 8, main at 9 to 13, 24 to 35: main at 24 to 28, \"x\" at 32 to 35";
-    assert_eq!(rt; shown(alloc, &program)?.as_str(), want);
-    Ok(())
-}
-
-/// Whether the text is refused, at its beginning.
-fn is_refused(alloc: Global, text: &[u8]) -> bool {
-    matches!(
-        parse(alloc, text),
-        Err(ParseError::Unexpected(Span { start: 0, end: 0 }))
-    )
-}
-
-#[test]
-fn refuses_every_other_text(rt: HostRuntime) -> Result<(), Fail> {
-    let alloc = rt.alloc();
-    let texts = [
-        "",
-        "funmain(a) client { a ^^ a }",
-        "fun mainx(a) client { a ^^ a }",
-        "fun main(fun) client { \"x\" ^^ \"x\" }",
-        "fun main(A) client { A ^^ A }",
-        "fun main() client { \"x\" ^^ \"x\" }",
-        "fun main(a) server { a ^^ a }",
-        "fun main(a) client { b ^^ a }",
-        "fun main(a) client { a }",
-        "fun main(a) client { a ^^ a ^^ a }",
-        "fun main(a) client { a ^^^ a }",
-        "fun main(a) client { \"x ^^ a }",
-        "fun main(a) client { \"\\x\" ^^ a }",
-        "fun main(a) client { \"\n\" ^^ a }",
-        "fun main(a) client { \"\r\" ^^ a }",
-        "fun main(a) client { a ^^ a } a",
-        "fun main(a) client { a ^^ a # }",
-    ];
-    for text in texts {
-        assert!(rt; is_refused(alloc, text.as_bytes()), "{text}");
+/// What the reader answers, as a line of text; `light` is said of tokens that don't nest too deep.
+fn shown(alloc: Global, reader: Reader, text: &[u8]) -> Result<String, AllocError> {
+    match reader {
+        Reader::Tokens => match tokens(alloc, text) {
+            Ok(found) => shown_tokens(alloc, found.as_slice()),
+            Err(refusal) => shown_refusal(alloc, &refusal),
+        },
+        Reader::Nesting => match nesting(alloc, text) {
+            Ok(()) => format!(in alloc; "light"),
+            Err(refusal) => shown_refusal(alloc, &refusal),
+        },
+        Reader::Program => match parse(alloc, text) {
+            Ok(program) => shown_program(alloc, &program),
+            Err(refusal) => shown_refusal(alloc, &refusal),
+        },
     }
-    assert!(rt; is_refused(alloc, b"fun main(a) client { a ^^ a } # \xff"));
+}
+
+/// Asserts what the reader answers to a text.
+fn check_one(
+    rt: &impl Abort,
+    alloc: Global,
+    reader: Reader,
+    text: &[u8],
+    want: &str,
+) -> Result<(), Fail> {
+    let answer = shown(alloc, reader, text)?;
+    assert_eq!(rt; answer.as_str(), want);
     Ok(())
 }
 
-#[test]
-fn takes_a_text_of_a_mebibyte(rt: HostRuntime) -> Result<(), Fail> {
-    let alloc = rt.alloc();
-    let mut text = Vec::from_slice(alloc, b"fun main(a)client{a^^a}#")?;
-    text.resize(1_048_576, b'c')?;
-    assert!(rt; parse(alloc, text.as_slice()).is_ok());
-    text.push(b'c')?;
-    assert!(rt; is_refused(alloc, text.as_slice()));
+/// Asserts what the reader answers to each text.
+fn check(
+    rt: &impl Abort,
+    alloc: Global,
+    reader: Reader,
+    table: &[(&str, &str)],
+) -> Result<(), Fail> {
+    for (text, want) in table {
+        let answer = shown(alloc, reader, text.as_bytes())?;
+        assert_eq!(rt; answer.as_str(), *want, "{reader:?} of {text:?}");
+    }
+    Ok(())
+}
+
+fn repeated(alloc: Global, pieces: Pieces) -> Result<String, AllocError> {
+    let mut text = String::new(alloc);
+    for (times, piece) in pieces {
+        for _time in 0..*times {
+            text.push_str(piece)?;
+        }
+    }
+    Ok(text)
+}
+
+/// Asserts what the reader answers to each long text.
+fn check_long(
+    rt: &impl Abort,
+    alloc: Global,
+    reader: Reader,
+    table: &[(Pieces, &str)],
+) -> Result<(), Fail> {
+    for (pieces, want) in table {
+        let text = repeated(alloc, pieces)?;
+        let answer = shown(alloc, reader, text.as_bytes())?;
+        assert_eq!(rt; answer.as_str(), *want, "{reader:?} of {pieces:?}");
+    }
     Ok(())
 }

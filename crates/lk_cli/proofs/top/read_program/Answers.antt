@@ -1,17 +1,16 @@
-use Rattle.std.proofs.Common.{Err, sym, ◌∙◌, ap}
-use Rattle.lk_parse.specs.Grammar.{program_in}
-use Rattle.lk_cli.proofs.Limits.{whole_text}
+use Rattle.std.proofs.lemmas.Result.{err_from_is_err_and}
+use Rattle.lk_cli.specs.Seen.{seen}
+use Rattle.lk_cli.proofs.Limits.{whole_program, whole_reason}
 use Rattle.lk_cli.proofs.top.read_program.Goals as goal
 
-pub returns-in-Ok-parse-clause-program : goal.returns-in-Ok-parse-clause-program
-returns-in-Ok-parse-clause-program g c =
-    whole_text (g.F.Files.contents c.args.files.now) c.args.name.now c.in-Ok.text _ c.in-Ok.ensures.front
-    (ap program_in (sym c.as_slice.ensures) ∙ c.in-Ok-parse.ensures.program)
+pub returns-in_err-parse-clause-refused : goal.returns-in_err-parse-clause-refused
+returns-in_err-parse-clause-refused g c =
+    let files = seen g.F.Files.contents g.F.Files.failed g.F.Files.faults c.args.files.now c.read.new.self in
+    let why = whole_reason files c.args.name.now c.in-Ok.text c.in_err-parse.field-0.0 c.in-Ok.ensures.front (rw c.as_slice.ensures at c.in_err-parse.ensures.refused) in
+    let error = err_from_is_err_and c.from_residual-in_err-parse.result c.from_residual-in_err-parse.ensures.1 in
+    rw (error.1, error.2) why
 
-pub returns-in-Err-Unexpected-clause-refused : goal.returns-in-Err-Unexpected-clause-refused
-returns-in-Err-Unexpected-clause-refused g c =
-    let is = ap Err c.in-Err-Unexpected.field-0-is in (
-      c.in-Err-Unexpected.ensures.place c.in-Err-Unexpected.at is,
-      whole_text (g.F.Files.contents c.args.files.now) c.args.name.now c.in-Ok.text _ c.in-Ok.ensures.front
-          (ap program_in (sym c.as_slice.ensures) ∙ c.in-Err-Unexpected.ensures.unexpected c.in-Err-Unexpected.at is),
-    )
+pub returns-clause-program : goal.returns-clause-program
+returns-clause-program g c =
+    let files = seen g.F.Files.contents g.F.Files.failed g.F.Files.faults c.args.files.now c.read.new.self in
+    whole_program files c.args.name.now c.in-Ok.text c.in_ok-parse.field-0 c.in-Ok.ensures.front (rw c.as_slice.ensures at c.in_ok-parse.ensures.program)
