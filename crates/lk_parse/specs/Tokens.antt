@@ -1,5 +1,6 @@
--- The tokens of a text. It is cut into pieces from the left, each as long as possible: the rule of the longest match
--- (Aho, Lam, Sethi and Ullman, Compilers, 2006, section 3.8). A place is a number of bytes from the text's beginning.
+-- The tokens of a text. It is cut into pieces from the left, each as long as possible: a longer prefix is preferred to
+-- a shorter one (Aho, Lam, Sethi and Ullman, Compilers, 2006, section 3.5.3). A place is a number of bytes from the
+-- text's beginning.
 use Rattle.std.specs.Prelude.{◌≡◌, ◌+◌, ◌<◌, ◌≤◌, ◌⊎◌, ℕ, List, [], ◌∷◌, ◌++◌, length, Option, Some, None, IsUtf8, encode_utf8}
 use Rattle.std.specs.Char.{is_ascii_digit}
 use Rattle.std.specs.List.{AllPass}
@@ -22,7 +23,7 @@ abbrev pub token_at : ℕ → ℕ → Option TokenKind → List Token
 token_at at len None = []
 token_at at len (Some kind) = record { span = record { start = at; end = at + len }; kind = kind } ∷ []
 
--- From a place on, at which this text stands, pieces with these tokens lead to what is left.
+-- from a place on, at which this text stands, pieces with these tokens lead to what is left
 pub data Reads : ℕ → List ℕ → List Token → List ℕ → Type 0 where
   nothing : (at : ℕ) (text : List ℕ) → Reads at text [] text
   piece : (at : ℕ) {w rest left : List ℕ} {kind : Option TokenKind} {tokens : List Token} → IsTaken w rest kind → Reads (at + length w) rest tokens left → Reads at (w ++ rest) (token_at at (length w) kind ++ tokens) left

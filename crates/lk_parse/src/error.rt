@@ -12,13 +12,13 @@ pub enum ParseError {
     /// The text has so many bytes, which is more than 1,048,576.
     #[error("the text has {0} bytes, which are too many")]
     TextTooLong(u64),
-    /// The text isn't UTF-8 (RFC 3629) from this byte on.
+    /// The text isn't UTF-8 (RFC 3629): the first ill-formed sequence begins at this byte.
     #[error("the text is not UTF-8 at byte {0}")]
     NotUtf8(u32),
-    /// At this character no token, white space or comment begins.
+    /// At this character no token, white space or comment begins, the first one of which that is so.
     #[error("no token begins at byte {}", .0.start)]
     BadToken(Span),
-    /// With this token the text nests too deep.
+    /// With this token the text's weight is first over 200: it nests too deep.
     #[error("the text nests too deep at byte {}", .0.start)]
     TooNested(Span),
     /// The text is no program.
