@@ -12,8 +12,8 @@ use Rattle.lk_ast.specs.declared.place.Word.{Word}
 use Rattle.lk_ast.specs.declared.token.Token.{Token}
 use Rattle.lk_ast.specs.declared.token.TokenKind.{TokenKind}
 use Rattle.lk_ast.specs.declared.token.TokenKind.TheVariants as kind
-use Rattle.lk_parse.specs.Keywords.{is_keyword}
 use Rattle.lk_parse.specs.Steps.{◌>>=◌}
+use Rattle.lk_read.specs.Keywords.{is_keyword}
 
 -- the program of one function, which is at the client
 abbrev pub program_with : Word → Word → Expr → Program

@@ -1,6 +1,5 @@
 pub mod Answers
 pub mod Grammar
-pub mod Keywords
 pub mod Nesting
 pub mod Pieces
 pub mod Refusals

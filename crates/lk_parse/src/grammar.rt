@@ -5,10 +5,10 @@ ghost use Rattle.lk_parse.specs.Grammar.{word, this_word, name, sign, literal, o
 ghost use Rattle.std.specs.Prelude.{◌≡◌, ◌<◌, IfOk};
 
 use crate::error::{ParseError, unexpected};
-use crate::tables::is_keyword;
 use lk_ast::{
     Boxed, Decl, Expr, FunDef, List, Loc, NoMemory, Node, Program, Span, Token, TokenKind, Word,
 };
+use lk_read::is_keyword;
 use std::alloc::Global;
 
 /// The token of this number, if it is a word.

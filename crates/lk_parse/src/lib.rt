@@ -14,7 +14,6 @@ mod program;
 mod scan;
 mod signs;
 mod start;
-mod tables;
 #[cfg(test)]
 mod tests;
 

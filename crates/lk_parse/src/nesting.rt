@@ -5,8 +5,8 @@ ghost use Rattle.lk_parse.specs.Refusals.{IsTooHeavy};
 ghost use Rattle.std.specs.Prelude.{◌≡◌, ◌≤◌, ◌∷◌, [], codes, IsTrue, ◌↔◌, IfErr, OnOk};
 
 use crate::error::ParseError;
-use crate::tables::is_one_of;
 use lk_ast::{NoMemory, Token, TokenKind};
+use lk_read::is_one_of;
 use std::alloc::Global;
 use std::marker::Model;
 

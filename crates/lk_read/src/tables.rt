@@ -1,6 +1,6 @@
 //! Tables of words and signs.
 
-ghost use Rattle.lk_parse.specs.Keywords.{is_keyword};
+ghost use Rattle.lk_read.specs.Keywords.{is_keyword};
 ghost use Rattle.std.specs.List.{list_any};
 ghost use Rattle.std.specs.Prelude.{◌≡◌};
 ghost use Rattle.std.specs.Str.{bytes_eq};

@@ -1,0 +1,4 @@
+pub mod Complete
+pub mod Contract
+pub mod Room
+pub mod Sound
