@@ -1,0 +1,8 @@
+use Rattle.std.proofs.Common.{◌≡◌, ◌-◌}
+use Rattle.lk_read.specs.Reader.{many}
+use Rattle.lk_rows.specs.Reading.{comma}
+use Rattle.lk_grammar.specs.Reading.{keys_turn}
+use Rattle.lk_grammar.proofs.names.more_keys.Given as goal
+
+abbrev pub invariant-loop-turn : goal.invariant-loop-turn
+invariant-loop-turn l = many comma keys_turn (l.fn.room - l._turn) l.keys l.rest ≡ many comma keys_turn l.fn.room l.fn.first l.fn.tokens
