@@ -4,10 +4,10 @@ use Rattle.std.specs.Prelude.{◌||◌, not, if◌then◌else◌}
 use Rattle.lk_ast.specs.declared.token.Token.{Token}
 use Rattle.lk_read.specs.Kinds.{IsName}
 use Rattle.lk_grammar.specs.Expressions.{IsExpr, IsAnd, IsComparison, IsJoin, IsSum, IsProduct, IsUnary, IsPostfix, IsPrimary, IsForm, IsBlock}
-use Rattle.lk_grammar.specs.Parts.{named, behind, is_name_end, is_form_end, form_end, is_bare_name}
-use Rattle.lk_grammar.specs.declared.part.Ends.{Ends}
-use Rattle.lk_grammar.specs.declared.part.Ends.TheVariants as ends
-use Rattle.lk_grammar.specs.declared.part.Part.{Part}
+use Rattle.lk_parts.specs.Parts.{named, behind, is_name_end, is_form_end, form_end, is_bare_name}
+use Rattle.lk_parts.specs.declared.part.Ends.{Ends}
+use Rattle.lk_parts.specs.declared.part.Ends.TheVariants as ends
+use Rattle.lk_parts.specs.declared.part.Part.{Part}
 
 -- the tokens of a name
 pub record IsBareName (w : List Token) (e : Part) : Type 0 where

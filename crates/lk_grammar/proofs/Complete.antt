@@ -6,11 +6,11 @@ use Rattle.lk_ast.specs.declared.expression.Expr.{Expr}
 use Rattle.lk_ast.specs.declared.expression.PartExpr.{PartExpr}
 use Rattle.lk_ast.specs.declared.token.Token.{Token}
 use Rattle.lk_grammar.specs.Expressions.{IsExpr, IsAnd, IsComparison, IsJoin, IsSum, IsProduct, IsUnary, IsForm, IsPostfix, IsPrimary, IsArgs, IsSome, IsParts, IsPart, IsBlock, IsStatements, IsChange, IsCases, IsCase}
-use Rattle.lk_grammar.specs.declared.operators.Level.TheVariants as level
-use Rattle.lk_grammar.specs.declared.part.Cases.{Cases}
-use Rattle.lk_grammar.specs.declared.part.Change.{Change}
-use Rattle.lk_grammar.specs.declared.part.Part.{Part}
-use Rattle.lk_grammar.specs.declared.part.Statement.{Statement}
+use Rattle.lk_parts.specs.declared.operators.Level.TheVariants as level
+use Rattle.lk_parts.specs.declared.part.Cases.{Cases}
+use Rattle.lk_parts.specs.declared.part.Change.{Change}
+use Rattle.lk_parts.specs.declared.part.Part.{Part}
+use Rattle.lk_parts.specs.declared.part.Statement.{Statement}
 use Rattle.lk_grammar.proofs.CompleteForms.{conditional_finds, list_loop_finds, table_loop_finds, where_finds, insert_finds, Change_finds, rows_find, update_finds, delete_finds, Case_finds, named_case_finds, unit_case_finds, Cases_find, no_case_finds, next_case_finds, final_case_finds, switch_finds, query_finds, lambda_finds, form_starts}
 use Rattle.lk_grammar.proofs.CompleteLevels.{UNARY, PRODUCT, COMPARISON, AND, Expr_finds, Whole, And_finds, Comparison_finds, Join_finds, Sum_finds, Product_finds, Unary_finds, Form_finds, Postfix_finds, Primary_finds, Args_finds, Some_find, Closes, whole, and_whole, product_whole, unary_whole, left_up, left_op, join_up, join_op, comparison_up, comparison_op, negation_finds, form_finds, postfix_finds, primary_up, call_finds, project_finds, no_args_finds, some_args_finds, first_arg_finds, next_arg_finds}
 use Rattle.lk_grammar.proofs.CompletePrimaries.{closes_round, closes_square, literal_finds, name_finds, bare_tag_finds, unit_tag_finds, tagged_finds, unit_finds, paren_finds, Part_finds, Parts_find, set_finds, first_part_finds, next_part_finds, fields_finds, extension_finds, list_finds, prefix_finds, Block_finds, Statements_find, block_finds, no_statements_find, var_finds, plain_finds, block_primary_finds}

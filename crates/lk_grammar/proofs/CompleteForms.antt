@@ -15,15 +15,15 @@ use Rattle.lk_read.proofs.KindLaws.{sign_sign, sign_word, word_word, word_sign}
 use Rattle.lk_read.proofs.Moves.{along, cons, here}
 use Rattle.lk_rows.specs.Reading.{comma}
 use Rattle.lk_grammar.specs.Expressions.{IsForm, IsParams, IsPlace, IsOrder, IsBlock, IsCase}
-use Rattle.lk_grammar.specs.Operators.{level_of_word}
-use Rattle.lk_grammar.specs.Parts.{if_form, list_loop, table_loop, where_form, insert_form, change_of, update_form, delete_form, switch_form, query_form, lambda_form, no_cases, case_of, last_case, goes_on, some_case}
+use Rattle.lk_parts.specs.Operators.{level_of_word}
+use Rattle.lk_parts.specs.Parts.{if_form, list_loop, table_loop, where_form, insert_form, change_of, update_form, delete_form, switch_form, query_form, lambda_form, no_cases, case_of, last_case, goes_on, some_case}
 use Rattle.lk_grammar.specs.Reading.{if_with, list_loop_with, table_loop_with, for_with, where_with, insert_with, change_cond_with, change_with, update_with, delete_with, tag_case_with, last_case_with, case_next, cases_turn, switch_with, query_with, lambda_with, form_with, expr_at}
-use Rattle.lk_grammar.specs.Starts.{start_of_keyword, number, begins}
-use Rattle.lk_grammar.specs.declared.part.Cases.{Cases}
-use Rattle.lk_grammar.specs.declared.part.Change.{Change}
-use Rattle.lk_grammar.specs.declared.part.Part.{Part}
-use Rattle.lk_grammar.specs.declared.starts.Start.{Start}
-use Rattle.lk_grammar.specs.declared.starts.Start.TheVariants as start
+use Rattle.lk_parts.specs.Starts.{start_of_keyword, number, begins}
+use Rattle.lk_parts.specs.declared.part.Cases.{Cases}
+use Rattle.lk_parts.specs.declared.part.Change.{Change}
+use Rattle.lk_parts.specs.declared.part.Part.{Part}
+use Rattle.lk_parts.specs.declared.starts.Start.{Start}
+use Rattle.lk_parts.specs.declared.starts.Start.TheVariants as start
 use Rattle.lk_grammar.proofs.Follows.{Shut, shut_word, stops_opened}
 use Rattle.lk_grammar.proofs.StartLaws.{name_start, word_start, not_tag}
 use Rattle.lk_grammar.proofs.CompleteLevels.{Whole, Form_finds}

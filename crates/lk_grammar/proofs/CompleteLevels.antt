@@ -12,14 +12,14 @@ use Rattle.lk_read.proofs.KindLaws.{sign_sign}
 use Rattle.lk_read.proofs.Moves.{along, here}
 use Rattle.lk_rows.specs.Reading.{comma}
 use Rattle.lk_grammar.specs.Expressions.{IsPostfix, IsSome}
-use Rattle.lk_grammar.specs.Operators.{level_of_sign, rank, is_operator}
-use Rattle.lk_grammar.specs.Parts.{negated, binary, compared_by, called, projected, is_tag_end, takes_operator, takes_comparison, takes_call}
+use Rattle.lk_parts.specs.Operators.{level_of_sign, rank, is_operator}
+use Rattle.lk_parts.specs.Parts.{negated, binary, compared_by, called, projected, is_tag_end, takes_operator, takes_comparison, takes_call}
 use Rattle.lk_grammar.specs.Reading.{operator_next, operator_turn, left_with, join_with, compare_turn, comparison_with, unary_with, args_turn, some_with, args_with, call_with, read_field, postfix_turn, postfix_next, postfix_with, primary_with, form_with, unary_over, product_over, sum_over, join_over, comparison_over, and_over, or_over, expr_at}
-use Rattle.lk_grammar.specs.Starts.{start_of_sign, begins}
-use Rattle.lk_grammar.specs.declared.operators.Level.{Level}
-use Rattle.lk_grammar.specs.declared.operators.Level.TheVariants as level
-use Rattle.lk_grammar.specs.declared.part.Part.{Part}
-use Rattle.lk_grammar.specs.declared.starts.Start.TheVariants as start
+use Rattle.lk_parts.specs.Starts.{start_of_sign, begins}
+use Rattle.lk_parts.specs.declared.operators.Level.{Level}
+use Rattle.lk_parts.specs.declared.operators.Level.TheVariants as level
+use Rattle.lk_parts.specs.declared.part.Part.{Part}
+use Rattle.lk_parts.specs.declared.starts.Start.TheVariants as start
 use Rattle.lk_grammar.proofs.Follows.{is_comparison, Stops, Shut, shut_sign, tighter, stops_left, stops_compared, stops_right, stops_negated, no_call}
 use Rattle.lk_grammar.proofs.StartLaws.{is_primary_start, is_expr_start, first_not_sign, first_not_form, postfix_begins, some_begins}
 

@@ -12,14 +12,14 @@ use Rattle.lk_read.proofs.KindLaws.{sign_sign, word_word}
 use Rattle.lk_read.proofs.Moves.{along, cons, here}
 use Rattle.lk_rows.specs.Reading.{comma}
 use Rattle.lk_grammar.specs.Expressions.{IsExpr, IsPostfix, IsPrimary, IsParts, IsPart, IsBlock}
-use Rattle.lk_grammar.specs.Operators.{level_of_sign}
-use Rattle.lk_grammar.specs.Parts.{literal, named, wrapped, part_of, record_of, extended, list_of, bare_tag, unit_tag, tagged, prefixed, var_statement, plain_statement, braced}
+use Rattle.lk_parts.specs.Operators.{level_of_sign}
+use Rattle.lk_parts.specs.Parts.{literal, named, wrapped, part_of, record_of, extended, list_of, bare_tag, unit_tag, tagged, prefixed, var_statement, plain_statement, braced}
 use Rattle.lk_grammar.specs.Reading.{tag_body_with, tag_with, part_with, parts_turn, parts_with, record_end_with, record_with, round_body_with, round_with, list_with, prefix_with, read_literal, read_name, let_with, statements_with, block_with, primary_with, expr_at}
-use Rattle.lk_grammar.specs.Starts.{start_of_keyword, start_of_sign, begins}
-use Rattle.lk_grammar.specs.declared.operators.Level.TheVariants as level
-use Rattle.lk_grammar.specs.declared.part.Part.{Part}
-use Rattle.lk_grammar.specs.declared.part.Statement.{Statement}
-use Rattle.lk_grammar.specs.declared.starts.Start.TheVariants as start
+use Rattle.lk_parts.specs.Starts.{start_of_keyword, start_of_sign, begins}
+use Rattle.lk_parts.specs.declared.operators.Level.TheVariants as level
+use Rattle.lk_parts.specs.declared.part.Part.{Part}
+use Rattle.lk_parts.specs.declared.part.Statement.{Statement}
+use Rattle.lk_parts.specs.declared.starts.Start.TheVariants as start
 use Rattle.lk_grammar.proofs.Follows.{Shut, shut_sign}
 use Rattle.lk_grammar.proofs.StartLaws.{begins_start, sign_start, name_start, tag_start, not_begins, not_name, not_tag, not_sign, is_expr_start, Begins, first_not_sign, first_not_word, regrouped, expr_begins}
 use Rattle.lk_grammar.proofs.CompleteLevels.{UNARY, PRODUCT, COMPARISON, AND, Whole, Primary_finds, Args_finds, Closes, closes_shut, comma_shut, left_up, whole, and_whole, product_whole, unary_whole, join_up, comparison_up, postfix_finds, primary_up}

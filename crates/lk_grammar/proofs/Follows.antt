@@ -8,14 +8,14 @@ use Rattle.lk_ast.specs.declared.token.Token.{Token}
 use Rattle.lk_read.specs.Kinds.{is_sign, IsSign, IsWord}
 use Rattle.lk_read.specs.Reader.{peek}
 use Rattle.lk_read.proofs.KindLaws.{a_sign, sign_sign, word_sign}
-use Rattle.lk_grammar.specs.Operators.{level_of_kind, level_of_sign, level_of_word, level_of, rank, is_operator}
-use Rattle.lk_grammar.specs.Parts.{behind, is_form_end, is_open_end, form_end, takes_operator, takes_comparison, negated, binary, compared_by, opened}
+use Rattle.lk_parts.specs.Operators.{level_of_kind, level_of_sign, level_of_word, level_of, rank, is_operator}
+use Rattle.lk_parts.specs.Parts.{behind, is_form_end, is_open_end, form_end, takes_operator, takes_comparison, negated, binary, compared_by, opened}
 use Rattle.lk_grammar.specs.Reading.{is_postfix}
-use Rattle.lk_grammar.specs.declared.operators.Level.{Level}
-use Rattle.lk_grammar.specs.declared.operators.Level.TheVariants as level
-use Rattle.lk_grammar.specs.declared.part.Ends.{Ends}
-use Rattle.lk_grammar.specs.declared.part.Ends.TheVariants as ends
-use Rattle.lk_grammar.specs.declared.part.Part.{Part}
+use Rattle.lk_parts.specs.declared.operators.Level.{Level}
+use Rattle.lk_parts.specs.declared.operators.Level.TheVariants as level
+use Rattle.lk_parts.specs.declared.part.Ends.{Ends}
+use Rattle.lk_parts.specs.declared.part.Ends.TheVariants as ends
+use Rattle.lk_parts.specs.declared.part.Part.{Part}
 
 abbrev pub is_comparison : Level → Bool
 is_comparison level.Comparison = true

@@ -1,5 +1,4 @@
 pub mod BareNames
-pub mod Chains
 pub mod Complete
 pub mod CompleteForms
 pub mod CompleteLevels
@@ -18,4 +17,3 @@ pub mod SoundPrimaries
 pub mod SoundPrograms
 pub mod StartLaws
 pub mod Statements
-pub mod TokenTests

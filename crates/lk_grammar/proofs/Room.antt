@@ -1,59 +1,28 @@
 -- Room for two more than the tokens suffices for an expression, and room for one more for a block.
-use Rattle.std.proofs.Common.{ℕ, zero, suc, pred, ◌≤◌, Bool, true, false, List, [], ◌∷◌, ◌++◌, sym, ◌∙◌, inl, inr, arith}
+use Rattle.std.proofs.Common.{ℕ, zero, suc, pred, ◌≤◌, List, [], ◌∷◌, ◌++◌, arith}
 use Rattle.std.specs.Prelude.{codes}
-use Rattle.std.proofs.lemmas.Bool.{cases_Bool}
 use Rattle.lk_ast.specs.declared.expression.Expr.{Expr}
 use Rattle.lk_ast.specs.declared.expression.PartExpr.{PartExpr}
 use Rattle.lk_ast.specs.declared.expression.SortKey.{SortKey}
 use Rattle.lk_ast.specs.declared.place.Word.{Word}
 use Rattle.lk_ast.specs.declared.token.Token.{Token}
-use Rattle.lk_read.specs.Reader.{Reader, give, stop, bind, peek, when, given, eat, many}
-use Rattle.lk_read.proofs.Laws.{Reads, when-true, when-false, many-reads}
-use Rattle.lk_read.proofs.Room.{Lasts, Eats, Shortens, shortens, none-lasts, less, bind-lasts, eaten-lasts, next-lasts, turn-lasts, step-lasts, give-lasts, stop-lasts, when-lasts, given-lasts, bind-shortens, give-shortens, eat-eats, eat-shortens, many-lasts}
+use Rattle.lk_read.specs.Reader.{Reader, give, stop, bind, when, given, eat, many}
+use Rattle.lk_read.proofs.Laws.{Reads, many-reads}
+use Rattle.lk_read.proofs.Room.{Lasts, Eats, Shortens, shortens, none-lasts, less, bind-lasts, eaten-lasts, next-lasts, turn-lasts, step-lasts, give-lasts, stop-lasts, when-lasts, given-lasts, bind-shortens, give-shortens, eat-eats, eat-shortens, when-eats, when-shortens, given-eats, end-lasts, end-shortens, many-lasts}
 use Rattle.lk_rows.specs.Reading.{comma}
 use Rattle.lk_grammar.specs.Expressions.{IsExpr, IsSum, IsForm, IsPostfix, IsParts, IsCases}
-use Rattle.lk_grammar.specs.Parts.{no_cases, plain_statement}
+use Rattle.lk_parts.specs.Parts.{no_cases, plain_statement}
 use Rattle.lk_grammar.specs.Reading.{names_turn, params_with, read_place, read_key, keys_turn, keys_with, order_with, operator_next, operator_turn, left_with, join_with, compare_turn, comparison_with, unary_with, args_turn, some_with, args_with, call_with, read_field, postfix_turn, postfix_next, postfix_with, tag_body_with, tag_with, part_with, parts_turn, parts_with, record_end_with, record_with, round_body_with, round_with, list_with, prefix_with, read_literal, read_name, let_with, statements_with, block_with, primary_with, if_with, list_loop_with, table_loop_with, for_with, where_with, insert_with, change_cond_with, change_with, update_with, delete_with, tag_case_with, last_case_with, cases_turn, case_next, switch_with, query_with, lambda_with, form_with, unary_over, product_over, sum_over, join_over, comparison_over, and_over, or_over, expr_at}
-use Rattle.lk_grammar.specs.declared.operators.Level.{Level}
-use Rattle.lk_grammar.specs.declared.operators.Level.TheVariants as level
-use Rattle.lk_grammar.specs.declared.part.Cases.{Cases}
-use Rattle.lk_grammar.specs.declared.part.Part.{Part}
-use Rattle.lk_grammar.specs.declared.part.Statement.{Statement}
+use Rattle.lk_parts.specs.declared.operators.Level.{Level}
+use Rattle.lk_parts.specs.declared.operators.Level.TheVariants as level
+use Rattle.lk_parts.specs.declared.part.Cases.{Cases}
+use Rattle.lk_parts.specs.declared.part.Part.{Part}
+use Rattle.lk_parts.specs.declared.part.Statement.{Statement}
 use Rattle.lk_grammar.proofs.Sound.{unary_over-reads, product_over-reads, sum_over-reads, join_over-reads, comparison_over-reads, and_over-reads, expr_at-reads}
 use Rattle.lk_grammar.proofs.SoundForms.{change-reads, tag_case-reads, last_case-reads, cases_turn-reads, form-reads}
 use Rattle.lk_grammar.proofs.SoundLevels.{args-reads, join-reads, unary-reads, postfix-reads}
 use Rattle.lk_grammar.proofs.SoundNames.{key-reads, keys-reads, params-reads, place-reads, order-reads}
 use Rattle.lk_grammar.proofs.SoundPrimaries.{part-reads, parts_turn-reads, parts-reads, statements-reads, block-reads, primary-reads}
-
--- ---- more of the combinators
-
-pub when-eats : {X : Type 0} (p : Token → Bool) (r s : Reader X) → Eats r → Eats s → Eats (when p r s)
-when-eats p r s h g ts rest x e = elim (cases_Bool (peek p ts)) [
-  | inl t ↦ h ts rest x (sym (when-true p r s ts t) ∙ e)
-  | inr t ↦ g ts rest x (sym (when-false p r s ts t) ∙ e)
-]
-
-when-shortens : {X : Type 0} (p : Token → Bool) (r s : Reader X) → Shortens r → Shortens s → Shortens (when p r s)
-when-shortens p r s h g ts rest x e = elim (cases_Bool (peek p ts)) [
-  | inl t ↦ h ts rest x (sym (when-true p r s ts t) ∙ e)
-  | inr t ↦ g ts rest x (sym (when-false p r s ts t) ∙ e)
-]
-
-stop-eats : {X : Type 0} → Eats (stop {X = X})
-unfolding stop
-stop-eats ts rest x e = absurd cc
-
-given-eats : {X : Type 0} (b : Bool) (r : Reader X) → Eats r → Eats (given b r)
-unfolding given
-given-eats true r h = h
-given-eats false r h = stop-eats
-
--- a last token, and what is made of it
-end-lasts : {X : Type 0} (k : ℕ) (p : Token → Bool) (f : Token → X) → Lasts k (eat p (λ t. give (f t)))
-end-lasts k p f = step-lasts k p _ (λ t. give-lasts k (f t))
-
-end-shortens : {X : Type 0} (p : Token → Bool) (f : Token → X) → Shortens (eat p (λ t. give (f t)))
-end-shortens p f = eat-shortens p _ (λ t. give-shortens (f t))
 
 -- ---- names
 

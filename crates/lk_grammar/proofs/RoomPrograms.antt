@@ -9,28 +9,18 @@ use Rattle.lk_ast.specs.declared.signature.Sig.{Sig}
 use Rattle.lk_ast.specs.declared.table.BaseKind.{BaseKind}
 use Rattle.lk_ast.specs.declared.table.BaseKind.TheVariants as base
 use Rattle.lk_read.specs.Reader.{Reader, bind}
-use Rattle.lk_read.proofs.Laws.{bind_ok}
-use Rattle.lk_read.proofs.Room.{Lasts, Eats, Shortens, shortens, bind-lasts, step-lasts, give-lasts, finish-lasts, when-lasts, many-lasts, bind-shortens, give-shortens, eat-eats, eat-shortens}
+use Rattle.lk_read.proofs.Room.{Lasts, Eats, Shortens, shortens, bind-lasts, step-lasts, give-lasts, finish-lasts, when-lasts, many-lasts, bind-shortens, give-shortens, eat-eats, eat-shortens, when-eats, bind-eats}
 use Rattle.lk_rows.specs.Reading.{comma}
 use Rattle.lk_rows.proofs.Room.{type_at-lasts}
 use Rattle.lk_rows.proofs.Sound.{type_at-reads}
 use Rattle.lk_grammar.specs.Programs.{column_of, table_of, sig_of, function_of, program_of}
 use Rattle.lk_grammar.specs.Reading.{block_with, expr_at}
 use Rattle.lk_grammar.specs.ReadingPrograms.{base_named, read_base, read_column, columns_turn, columns_with, table_with, sig_with, definition_with, signed_with, fun_with, funs_turn, fun_next, mutual_with, plain_with, decl_with, decls_turn, decl_next, decls_with, program_at}
-use Rattle.lk_grammar.proofs.Room.{expr_at-lasts, block-lasts, params-lasts, place-lasts, when-eats}
+use Rattle.lk_grammar.proofs.Room.{expr_at-lasts, block-lasts, params-lasts, place-lasts}
 use Rattle.lk_grammar.proofs.Sound.{expr_at-reads}
 use Rattle.lk_grammar.proofs.SoundNames.{params-reads, place-reads}
 use Rattle.lk_grammar.proofs.SoundPrimaries.{block-reads}
 use Rattle.lk_grammar.proofs.SoundPrograms.{base-reads, column-reads, columns-reads, sig-reads, definition-reads, fun-reads, many_funs-reads, decl-reads, many_decls-reads, decls-reads}
-
--- r takes a token, and f gives none back
-bind-eats : {X Y : Type 0} (r : Reader X) (f : X → Reader Y) → Eats r → ((x : X) → Shortens (f x)) → Eats (bind r f)
-unfolding bind
-bind-eats r f s g ts rest y e =
-    let a = bind_ok (r ts) f y rest e in
-    let fewer = s ts a.0.1 a.0.0 a.1 in
-    let no_more = g a.0.0 a.0.1 rest y a.2 in
-    omega (arith, fewer, no_more)
 
 -- ---- tables
 

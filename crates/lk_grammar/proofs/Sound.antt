@@ -4,8 +4,8 @@ use Rattle.lk_read.specs.Reader.{Reader}
 use Rattle.lk_read.proofs.Laws.{Reads, tired-reads}
 use Rattle.lk_grammar.specs.Expressions.{IsExpr, IsAnd, IsComparison, IsJoin, IsSum, IsProduct, IsUnary}
 use Rattle.lk_grammar.specs.Reading.{primary_with, postfix_with, form_with, unary_over, product_over, sum_over, join_over, comparison_over, and_over, or_over, expr_at}
-use Rattle.lk_grammar.specs.declared.operators.Level.TheVariants as level
-use Rattle.lk_grammar.specs.declared.part.Part.{Part}
+use Rattle.lk_parts.specs.declared.operators.Level.TheVariants as level
+use Rattle.lk_parts.specs.declared.part.Part.{Part}
 use Rattle.lk_grammar.proofs.SoundForms.{form-reads}
 use Rattle.lk_grammar.proofs.SoundLevels.{expr_begins, left-reads, join-reads, comparison-reads, unary-reads, postfix-reads}
 use Rattle.lk_grammar.proofs.SoundPrimaries.{primary-reads}

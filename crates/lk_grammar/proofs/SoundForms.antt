@@ -2,6 +2,7 @@
 use Rattle.std.proofs.Common.{◌≡◌, ℕ, Bool, true, false, List, [], ◌∷◌, ◌++◌, Some, None, refl, sym, ◌∙◌, inl, inr, append_assoc}
 use Rattle.std.specs.Prelude.{codes, ◌||◌, not}
 use Rattle.std.proofs.lemmas.Bool.{cases_Bool}
+use Rattle.std.specs.Option.{is_none}
 use Rattle.lk_ast.specs.declared.expression.Case.{Case}
 use Rattle.lk_ast.specs.declared.token.Token.{Token}
 use Rattle.lk_ast.specs.declared.token.TokenKind.TheVariants.{Sign, Word as A_word}
@@ -13,11 +14,11 @@ use Rattle.lk_read.proofs.KindLaws.{some_token, a_sign, a_word, a_name, any_tag}
 use Rattle.lk_read.proofs.Laws.{Completes, Reads, Grows, Grows-nil, Then, Next, Made, weaken, bind-reads, when-reads, given-reads, give-reads, many-reads, eat-reads, made-reads}
 use Rattle.lk_read.proofs.Moves.{moved, cons, after, Close, closed}
 use Rattle.lk_grammar.specs.Expressions.{IsExpr, IsForm, IsParams, IsPlace, IsOrder, IsParts, IsBlock, IsChange, IsCases, IsCase}
-use Rattle.lk_grammar.specs.Parts.{if_form, list_loop, table_loop, where_form, insert_form, change_of, update_form, delete_form, switch_form, query_form, lambda_form, no_cases, case_of, last_case, is_none, is_nil, goes_on, some_case}
+use Rattle.lk_parts.specs.Parts.{if_form, list_loop, table_loop, where_form, insert_form, change_of, update_form, delete_form, switch_form, query_form, lambda_form, no_cases, case_of, last_case, is_nil, goes_on, some_case}
 use Rattle.lk_grammar.specs.Reading.{if_with, list_loop_with, table_loop_with, for_with, where_with, insert_with, change_cond_with, change_with, update_with, delete_with, tag_case_with, last_case_with, case_next, cases_turn, switch_with, query_with, lambda_with, form_with}
-use Rattle.lk_grammar.specs.declared.part.Cases.{Cases}
-use Rattle.lk_grammar.specs.declared.part.Change.{Change}
-use Rattle.lk_grammar.specs.declared.part.Part.{Part}
+use Rattle.lk_parts.specs.declared.part.Cases.{Cases}
+use Rattle.lk_parts.specs.declared.part.Change.{Change}
+use Rattle.lk_parts.specs.declared.part.Part.{Part}
 use Rattle.lk_grammar.proofs.SoundLevels.{expr_begins}
 use Rattle.lk_grammar.proofs.SoundNames.{params-reads, place-reads, order-reads}
 use Rattle.lk_grammar.proofs.SoundPrimaries.{parts-reads, block-reads}

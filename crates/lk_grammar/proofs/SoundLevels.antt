@@ -12,14 +12,14 @@ use Rattle.lk_read.proofs.Laws.{Completes, Reads, Grows, Grows-nil, weaken, bind
 use Rattle.lk_read.proofs.Moves.{moved, cons, after, Close, closed}
 use Rattle.lk_rows.specs.Reading.{comma}
 use Rattle.lk_grammar.specs.Expressions.{IsExpr, IsAnd, IsComparison, IsJoin, IsSum, IsProduct, IsUnary, IsForm, IsPostfix, IsPrimary, IsArgs, IsSome}
-use Rattle.lk_grammar.specs.Operators.{is_operator}
-use Rattle.lk_grammar.specs.Parts.{literal, negated, binary, called, takes_operator, takes_comparison, takes_call}
+use Rattle.lk_parts.specs.Operators.{is_operator}
+use Rattle.lk_parts.specs.Parts.{literal, negated, binary, called, takes_operator, takes_comparison, takes_call}
 use Rattle.lk_grammar.specs.Reading.{operator_next, operator_turn, left_with, join_with, compare_turn, comparison_with, unary_with, args_turn, some_with, args_with, call_with, read_field, postfix_turn, postfix_next, postfix_with}
-use Rattle.lk_grammar.specs.Starts.{begins}
-use Rattle.lk_grammar.specs.declared.operators.Level.{Level}
-use Rattle.lk_grammar.specs.declared.operators.Level.TheVariants as level
-use Rattle.lk_grammar.specs.declared.part.Part.{Part}
-use Rattle.lk_grammar.proofs.TokenTests.{an_operator}
+use Rattle.lk_parts.specs.Starts.{begins}
+use Rattle.lk_parts.specs.declared.operators.Level.{Level}
+use Rattle.lk_parts.specs.declared.operators.Level.TheVariants as level
+use Rattle.lk_parts.specs.declared.part.Part.{Part}
+use Rattle.lk_parts.proofs.TokenTests.{an_operator}
 
 -- ---- something of each language
 

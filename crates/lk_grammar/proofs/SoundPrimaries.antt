@@ -13,13 +13,13 @@ use Rattle.lk_read.proofs.Laws.{Completes, Reads, Grows, Then, weaken, bind-read
 use Rattle.lk_read.proofs.Moves.{moved, cons, after, Close, closed}
 use Rattle.lk_rows.specs.Reading.{comma}
 use Rattle.lk_grammar.specs.Expressions.{IsExpr, IsPrimary, IsArgs, IsParts, IsPart, IsBlock, IsStatements}
-use Rattle.lk_grammar.specs.Parts.{literal, named, label_of, is_bare_name, wrapped, part_of, record_of, extended, list_of, bare_tag, unit_tag, tagged, prefixed, plain_statement, braced}
+use Rattle.lk_parts.specs.Parts.{literal, named, label_of, is_bare_name, wrapped, part_of, record_of, extended, list_of, bare_tag, unit_tag, tagged, prefixed, plain_statement, braced}
 use Rattle.lk_grammar.specs.Reading.{tag_body_with, tag_with, part_with, parts_turn, parts_with, record_end_with, record_with, round_body_with, round_with, list_with, prefix_with, read_literal, read_name, let_with, statements_with, block_with, primary_with}
-use Rattle.lk_grammar.specs.declared.part.Part.{Part}
-use Rattle.lk_grammar.specs.declared.part.Statement.{Statement}
+use Rattle.lk_parts.specs.declared.part.Part.{Part}
+use Rattle.lk_parts.specs.declared.part.Statement.{Statement}
 use Rattle.lk_grammar.proofs.BareNames.{bare_name}
 use Rattle.lk_grammar.proofs.SoundLevels.{primary_begins, expr_begins, args-reads}
-use Rattle.lk_grammar.proofs.TokenTests.{a_literal, a_prefix}
+use Rattle.lk_parts.proofs.TokenTests.{a_literal, a_prefix}
 
 -- what stands behind a tag, behind a tag and `(`, and behind `(`
 abbrev Behind_tag : Token → Language Part

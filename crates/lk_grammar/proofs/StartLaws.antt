@@ -11,10 +11,10 @@ use Rattle.lk_read.specs.Kinds.{is_name_kind, is_any_tag_kind, is_sign, is_word,
 use Rattle.lk_read.specs.Reader.{peek}
 use Rattle.lk_read.proofs.KindLaws.{a_sign, a_word}
 use Rattle.lk_grammar.specs.Expressions.{IsExpr, IsAnd, IsComparison, IsJoin, IsSum, IsProduct, IsUnary, IsPostfix, IsPrimary, IsForm, IsBlock, IsSome}
-use Rattle.lk_grammar.specs.Starts.{start_of_keyword, start_of_sign, start_of_kind, start_of, number, begins}
-use Rattle.lk_grammar.specs.declared.part.Part.{Part}
-use Rattle.lk_grammar.specs.declared.starts.Start.{Start}
-use Rattle.lk_grammar.specs.declared.starts.Start.TheVariants as start
+use Rattle.lk_parts.specs.Starts.{start_of_keyword, start_of_sign, start_of_kind, start_of, number, begins}
+use Rattle.lk_parts.specs.declared.part.Part.{Part}
+use Rattle.lk_parts.specs.declared.starts.Start.{Start}
+use Rattle.lk_parts.specs.declared.starts.Start.TheVariants as start
 
 -- ---- the start of a token
 

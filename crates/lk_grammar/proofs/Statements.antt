@@ -7,16 +7,12 @@ use Rattle.lk_read.specs.declared.stop.Stop.TheVariants.{Spent}
 use Rattle.lk_read.specs.Kinds.{is_sign, is_word}
 use Rattle.lk_read.specs.Reader.{Reading, Reader, give, tired, bind, peek, when, one, eat}
 use Rattle.lk_read.specs.Gives.{StopsAs}
-use Rattle.lk_read.proofs.Laws.{when-true, when-false, bind-at_ok}
+use Rattle.lk_read.proofs.Laws.{when-true, when-false, bind-at_ok, eat-at_ok}
 use Rattle.lk_read.proofs.Loops.{StopsAs-bind, StopsAs-at}
-use Rattle.lk_grammar.specs.Parts.{plain_statement}
+use Rattle.lk_parts.specs.Parts.{plain_statement}
 use Rattle.lk_grammar.specs.Reading.{let_with, statements_with}
-use Rattle.lk_grammar.specs.declared.part.Part.{Part}
-use Rattle.lk_grammar.specs.declared.part.Statement.{Statement}
-
-eat-at_ok : {Y : Type 0} (p : Token → Bool) (f : Token → Reader Y) (ts rest : List Token) (t : Token) → one p ts ≡ Ok (t, rest) → eat p f ts ≡ f t rest
-unfolding eat
-eat-at_ok p f ts rest t e = rw e refl
+use Rattle.lk_parts.specs.declared.part.Part.{Part}
+use Rattle.lk_parts.specs.declared.part.Statement.{Statement}
 
 abbrev after_let : Reader Part → ℕ → List Statement → Statement → Reader (List Statement × Part)
 after_let expr n ss s = statements_with expr n (ss ++ s ∷ [])

@@ -10,15 +10,15 @@ use Rattle.lk_ast.specs.declared.place.Loc.TheVariants as loc
 use Rattle.lk_ast.specs.declared.place.Word.{Word}
 use Rattle.lk_ast.specs.declared.token.Token.{Token}
 use Rattle.lk_read.specs.Kinds.{IsSign, IsWord, IsName, IsAnyTag, word_of}
-use Rattle.lk_grammar.specs.Operators.{is_operator}
-use Rattle.lk_grammar.specs.Parts.{literal, named, wrapped, part_of, record_of, extended, list_of, bare_tag, unit_tag, tagged, prefixed, called, projected, var_statement, plain_statement, braced, negated, binary, takes_operator, takes_comparison, takes_call, if_form, list_loop, table_loop, where_form, insert_form, change_of, update_form, delete_form, switch_form, query_form, lambda_form, no_cases, case_of, last_case, goes_on, some_case}
-use Rattle.lk_grammar.specs.Starts.{begins}
-use Rattle.lk_grammar.specs.declared.operators.Level.TheVariants as level
-use Rattle.lk_grammar.specs.declared.part.Cases.{Cases}
-use Rattle.lk_grammar.specs.declared.part.Change.{Change}
-use Rattle.lk_grammar.specs.declared.part.Part.{Part}
-use Rattle.lk_grammar.specs.declared.part.Statement.{Statement}
-use Rattle.lk_grammar.specs.declared.starts.Start.TheVariants as start
+use Rattle.lk_parts.specs.Operators.{is_operator}
+use Rattle.lk_parts.specs.Parts.{literal, named, wrapped, part_of, record_of, extended, list_of, bare_tag, unit_tag, tagged, prefixed, called, projected, var_statement, plain_statement, braced, negated, binary, takes_operator, takes_comparison, takes_call, if_form, list_loop, table_loop, where_form, insert_form, change_of, update_form, delete_form, switch_form, query_form, lambda_form, no_cases, case_of, last_case, goes_on, some_case}
+use Rattle.lk_parts.specs.Starts.{begins}
+use Rattle.lk_parts.specs.declared.operators.Level.TheVariants as level
+use Rattle.lk_parts.specs.declared.part.Cases.{Cases}
+use Rattle.lk_parts.specs.declared.part.Change.{Change}
+use Rattle.lk_parts.specs.declared.part.Part.{Part}
+use Rattle.lk_parts.specs.declared.part.Statement.{Statement}
+use Rattle.lk_parts.specs.declared.starts.Start.TheVariants as start
 
 -- ---- names
 

@@ -15,7 +15,7 @@ use Rattle.lk_ast.specs.declared.token.Token.{Token}
 use Rattle.lk_read.specs.Kinds.{IsSign, IsWord, IsTag, IsName, word_of}
 use Rattle.lk_rows.specs.Types.{IsType}
 use Rattle.lk_grammar.specs.Expressions.{IsParams, IsPlace, IsBlock}
-use Rattle.lk_grammar.specs.declared.part.Part.{Part}
+use Rattle.lk_parts.specs.declared.part.Part.{Part}
 
 abbrev pub column_of : Token → BaseKind → ColumnDecl
 column_of l kind = record { label = word_of l; kind = kind }

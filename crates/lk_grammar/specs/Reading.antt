@@ -12,16 +12,16 @@ use Rattle.lk_ast.specs.declared.token.Token.{Token}
 use Rattle.lk_read.specs.Kinds.{is_sign, is_word, is_name, is_any_tag, word_of}
 use Rattle.lk_read.specs.Reader.{Reader, give, stop, tired, bind, when, given, eat, many}
 use Rattle.lk_rows.specs.Reading.{comma}
-use Rattle.lk_grammar.specs.Operators.{is_operator}
-use Rattle.lk_grammar.specs.Parts.{literal, named, label_of, is_bare_name, wrapped, part_of, record_of, extended, list_of, bare_tag, unit_tag, tagged, prefixed, called, projected, var_statement, plain_statement, braced, negated, binary, takes_operator, takes_comparison, takes_call, if_form, list_loop, table_loop, where_form, insert_form, change_of, update_form, delete_form, switch_form, query_form, lambda_form, no_cases, case_of, last_case, goes_on, some_case}
-use Rattle.lk_grammar.specs.Starts.{begins}
-use Rattle.lk_grammar.specs.declared.operators.Level.{Level}
-use Rattle.lk_grammar.specs.declared.operators.Level.TheVariants as level
-use Rattle.lk_grammar.specs.declared.part.Cases.{Cases}
-use Rattle.lk_grammar.specs.declared.part.Change.{Change}
-use Rattle.lk_grammar.specs.declared.part.Part.{Part}
-use Rattle.lk_grammar.specs.declared.part.Statement.{Statement}
-use Rattle.lk_grammar.specs.declared.starts.Start.TheVariants as start
+use Rattle.lk_parts.specs.Operators.{is_operator}
+use Rattle.lk_parts.specs.Parts.{literal, named, label_of, is_bare_name, wrapped, part_of, record_of, extended, list_of, bare_tag, unit_tag, tagged, prefixed, called, projected, var_statement, plain_statement, braced, negated, binary, takes_operator, takes_comparison, takes_call, if_form, list_loop, table_loop, where_form, insert_form, change_of, update_form, delete_form, switch_form, query_form, lambda_form, no_cases, case_of, last_case, goes_on, some_case}
+use Rattle.lk_parts.specs.Starts.{begins}
+use Rattle.lk_parts.specs.declared.operators.Level.{Level}
+use Rattle.lk_parts.specs.declared.operators.Level.TheVariants as level
+use Rattle.lk_parts.specs.declared.part.Cases.{Cases}
+use Rattle.lk_parts.specs.declared.part.Change.{Change}
+use Rattle.lk_parts.specs.declared.part.Part.{Part}
+use Rattle.lk_parts.specs.declared.part.Statement.{Statement}
+use Rattle.lk_parts.specs.declared.starts.Start.TheVariants as start
 
 -- one sign or word, which makes nothing
 abbrev pub skip_sign : {X : Type 0} → List ℕ → Reader X → Reader X

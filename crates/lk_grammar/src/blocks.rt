@@ -4,10 +4,9 @@ ghost use Rattle.lk_grammar.specs.Reading.{let_with, statements_with, block_with
 ghost use Rattle.lk_read.specs.Gives.{Gives};
 ghost use Rattle.std.specs.Prelude.{[]};
 
-use crate::build::{make_braced, plain_statement, var_statement};
 use crate::levels::read_expr;
-use crate::part::{Part, Statement};
 use lk_ast::{List, Token};
+use lk_parts::{Part, Statement, make_braced, plain_statement, var_statement};
 use lk_read::{Stop, eat_name, eat_sign, eat_word, next_is_sign, next_is_word};
 use std::alloc::Global;
 

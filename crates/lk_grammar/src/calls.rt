@@ -6,11 +6,10 @@ ghost use Rattle.lk_read.specs.Reader.{many, peek};
 ghost use Rattle.lk_rows.specs.Reading.{comma};
 ghost use Rattle.std.specs.Prelude.{◌≡◌};
 
-use crate::build::{make_called, make_projected, takes_call};
 use crate::levels::read_expr;
-use crate::part::Part;
 use crate::primaries::read_primary;
 use lk_ast::{Expr, List, Token};
+use lk_parts::{Part, make_called, make_projected, takes_call};
 use lk_read::{Stop, eat_name, eat_sign, is_sign, next_is_sign};
 use std::alloc::Global;
 

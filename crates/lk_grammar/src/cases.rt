@@ -4,10 +4,9 @@ ghost use Rattle.lk_grammar.specs.Reading.{tag_case_with, last_case_with, cases_
 ghost use Rattle.lk_read.specs.Gives.{Gives};
 ghost use Rattle.lk_read.specs.Reader.{many};
 
-use crate::build_forms::{bare_case, goes_on, last_case, named_case};
 use crate::levels::read_expr;
-use crate::part::Cases;
 use lk_ast::{Case, Token};
+use lk_parts::{Cases, bare_case, goes_on, last_case, named_case};
 use lk_read::{
     Stop, eat_any_tag, eat_name, eat_sign, eat_word, next_is_any_tag, next_is_sign, next_is_word,
 };

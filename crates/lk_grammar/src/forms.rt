@@ -4,16 +4,15 @@ ghost use Rattle.lk_grammar.specs.Reading.{if_with, list_loop_with, table_loop_w
 ghost use Rattle.lk_read.specs.Gives.{Gives};
 
 use crate::blocks::read_block;
-use crate::build_forms::{
-    make_change, make_delete, make_if, make_insert, make_lambda, make_list_loop, make_query,
-    make_switch, make_table_loop, make_update, make_where, no_cases, some_case,
-};
 use crate::cases::more_cases;
 use crate::levels::read_expr;
 use crate::names::{read_order, read_params, read_place};
-use crate::part::{Change, Part};
 use crate::primaries::read_parts;
 use lk_ast::Token;
+use lk_parts::{
+    Change, Part, make_change, make_delete, make_if, make_insert, make_lambda, make_list_loop,
+    make_query, make_switch, make_table_loop, make_update, make_where, no_cases, some_case,
+};
 use lk_read::{Stop, eat_name, eat_sign, eat_word, next_is_sign, next_is_word};
 use std::alloc::Global;
 

@@ -1,17 +1,17 @@
 //! Expressions, level by level.
 
 ghost use Rattle.lk_grammar.specs.Reading.{operator_turn, operator_next, operand_over, left_with, join_over, compare_turn, comparison_over, unary_over, expr_at};
-ghost use Rattle.lk_grammar.specs.declared.operators.Level.TheVariants.{Join};
+ghost use Rattle.lk_parts.specs.declared.operators.Level.TheVariants.{Join};
 ghost use Rattle.lk_read.specs.Gives.{Gives};
 ghost use Rattle.lk_read.specs.Reader.{many};
 
-use crate::build::{make_binary, make_negated, takes_comparison, takes_operator};
 use crate::calls::read_postfix;
 use crate::forms::read_form;
-use crate::operators::{Level, eat_operator, next_is_operator};
-use crate::part::Part;
-use crate::starts::{Start, next_begins};
 use lk_ast::Token;
+use lk_parts::{
+    Level, Part, Start, eat_operator, make_binary, make_negated, next_begins, next_is_operator,
+    takes_comparison, takes_operator,
+};
 use lk_read::{Stop, eat_sign, next_is_sign};
 use std::alloc::Global;
 

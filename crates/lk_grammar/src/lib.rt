@@ -4,20 +4,14 @@
 #![tactic(auto)]
 
 mod blocks;
-mod build;
-mod build_forms;
 mod calls;
 mod cases;
-mod chain;
 mod error;
 mod forms;
 mod levels;
 mod names;
-mod operators;
-mod part;
 mod primaries;
 mod program;
-mod starts;
 #[cfg(test)]
 mod tests;
 

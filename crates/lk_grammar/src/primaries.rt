@@ -6,15 +6,14 @@ ghost use Rattle.lk_read.specs.Reader.{many};
 ghost use Rattle.lk_rows.specs.Reading.{comma};
 
 use crate::blocks::read_block;
-use crate::build::{
-    is_bare_name, label_of, make_bare_tag, make_extended, make_list, make_literal, make_named,
-    make_prefixed, make_record, make_tagged, make_unit_tag, make_wrapped, part_of,
-};
 use crate::calls::read_args;
 use crate::levels::read_expr;
-use crate::part::Part;
-use crate::starts::{Start, eat_begin, next_begins};
 use lk_ast::{List, PartExpr, Token};
+use lk_parts::{
+    Part, Start, eat_begin, is_bare_name, label_of, make_bare_tag, make_extended, make_list,
+    make_literal, make_named, make_prefixed, make_record, make_tagged, make_unit_tag, make_wrapped,
+    next_begins, part_of,
+};
 use lk_read::{
     Stop, eat_any_tag, eat_name, eat_sign, next_is_any_tag, next_is_name, next_is_sign, word_of,
 };

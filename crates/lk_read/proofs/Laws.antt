@@ -66,6 +66,10 @@ pub bind-at_ok : {X Y : Type 0} (r : Reader X) (f : X → Reader Y) (ts rest : L
 unfolding bind
 bind-at_ok r f ts rest x e = rw e refl
 
+pub eat-at_ok : {Y : Type 0} (p : Token → Bool) (f : Token → Reader Y) (ts rest : List Token) (t : Token) → one p ts ≡ Ok (t, rest) → eat p f ts ≡ f t rest
+unfolding eat
+eat-at_ok p f ts rest t e = rw e refl
+
 pub bind-at_err : {X Y : Type 0} (r : Reader X) (f : X → Reader Y) (ts : List Token) (d : Stop) → r ts ≡ Err d → bind r f ts ≡ Err d
 unfolding bind
 bind-at_err r f ts d e = rw e refl

@@ -105,6 +105,43 @@ eat-eats p f g (t ∷ ts) rest x e = elim (cases_Bool (p t)) [
 pub eat-shortens : {Y : Type 0} (p : Token → Bool) (f : Token → Reader Y) → ((t : Token) → Shortens (f t)) → Shortens (eat p f)
 eat-shortens p f g ts rest y e = let fewer = eat-eats p f g ts rest y e in omega arith
 
+pub when-eats : {X : Type 0} (p : Token → Bool) (r s : Reader X) → Eats r → Eats s → Eats (when p r s)
+when-eats p r s h g ts rest x e = elim (cases_Bool (peek p ts)) [
+  | inl t ↦ h ts rest x (sym (when-true p r s ts t) ∙ e)
+  | inr t ↦ g ts rest x (sym (when-false p r s ts t) ∙ e)
+]
+
+pub when-shortens : {X : Type 0} (p : Token → Bool) (r s : Reader X) → Shortens r → Shortens s → Shortens (when p r s)
+when-shortens p r s h g ts rest x e = elim (cases_Bool (peek p ts)) [
+  | inl t ↦ h ts rest x (sym (when-true p r s ts t) ∙ e)
+  | inr t ↦ g ts rest x (sym (when-false p r s ts t) ∙ e)
+]
+
+stop-eats : {X : Type 0} → Eats (stop {X = X})
+unfolding stop
+stop-eats ts rest x e = absurd cc
+
+pub given-eats : {X : Type 0} (b : Bool) (r : Reader X) → Eats r → Eats (given b r)
+unfolding given
+given-eats true r h = h
+given-eats false r h = stop-eats
+
+-- r takes a token, and f gives none back
+pub bind-eats : {X Y : Type 0} (r : Reader X) (f : X → Reader Y) → Eats r → ((x : X) → Shortens (f x)) → Eats (bind r f)
+unfolding bind
+bind-eats r f s g ts rest y e =
+    let a = bind_ok (r ts) f y rest e in
+    let fewer = s ts a.0.1 a.0.0 a.1 in
+    let no_more = g a.0.0 a.0.1 rest y a.2 in
+    omega (arith, fewer, no_more)
+
+-- a last token, and what is made of it
+pub end-lasts : {X : Type 0} (k : ℕ) (p : Token → Bool) (f : Token → X) → Lasts k (eat p (λ t. give (f t)))
+end-lasts k p f = step-lasts k p _ (λ t. give-lasts k (f t))
+
+pub end-shortens : {X : Type 0} (p : Token → Bool) (f : Token → X) → Shortens (eat p (λ t. give (f t)))
+end-shortens p f = eat-shortens p _ (λ t. give-shortens (f t))
+
 pub many-lasts : {A : Type 0} (k : ℕ) (p : A → Token → Bool) (turn : A → Reader A) → ((a : A) → Eats (turn a)) → ((a : A) → Lasts k (turn a)) → (n : ℕ) → n ≤ k → (a : A) → Lasts n (many p turn n a)
 unfolding many
 many-lasts k p turn eats h zero le a = none-lasts (when (p a) tired (give a))

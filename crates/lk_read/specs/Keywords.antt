@@ -1,7 +1,10 @@
--- The words that name nothing.
+-- Tables of words, and the words that name nothing.
 use Rattle.std.specs.Prelude.{ℕ, Bool, List, [], ◌∷◌, codes}
 use Rattle.std.specs.List.{list_any}
 use Rattle.std.specs.Str.{bytes_eq}
+
+abbrev pub is_in : List ℕ → List (List ℕ) → Bool
+is_in text table = list_any (bytes_eq text) table
 
 abbrev pub keywords : List (List ℕ)
 keywords =
@@ -13,4 +16,4 @@ keywords =
 
 -- whether a word is one of them
 unfoldable pub is_keyword : List ℕ → Bool
-is_keyword word = list_any (bytes_eq word) keywords
+is_keyword word = is_in word keywords

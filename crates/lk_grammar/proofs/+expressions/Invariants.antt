@@ -2,8 +2,8 @@ use Rattle.std.proofs.Common.{◌≡◌, ℕ, ◌+◌, ◌*◌, ◌-◌, ◌^◌
 use Rattle.lk_read.specs.Reader.{many}
 use Rattle.lk_rows.specs.Reading.{comma}
 use Rattle.lk_grammar.specs.Reading.{operator_next, operator_turn, operand_over, args_turn, postfix_next, postfix_turn, parts_turn, case_next, cases_turn, statements_with, expr_at}
-use Rattle.lk_grammar.specs.declared.operators.Level.{Level}
-use Rattle.lk_grammar.specs.declared.operators.Level.TheVariants as level-of
+use Rattle.lk_parts.specs.declared.operators.Level.{Level}
+use Rattle.lk_parts.specs.declared.operators.Level.TheVariants as level-of
 use Rattle.lk_grammar.proofs.+expressions.Given as goal
 
 -- A reader of what stands in an expression has less room than the expression, and stands above those that it calls.

@@ -5,11 +5,11 @@ use Rattle.lk_ast.specs.declared.token.TokenKind.TheVariants.{Word, Text, Sign}
 use Rattle.lk_read.specs.Keywords.{is_keyword}
 use Rattle.lk_read.proofs.KindLaws.{some_token}
 use Rattle.lk_read.proofs.Laws.{Means}
-use Rattle.lk_grammar.specs.Operators.{level_of_sign, is_operator}
-use Rattle.lk_grammar.specs.Starts.{start_of_keyword, begins}
-use Rattle.lk_grammar.specs.declared.operators.Level.{Level}
-use Rattle.lk_grammar.specs.declared.operators.Level.TheVariants as level
-use Rattle.lk_grammar.specs.declared.starts.Start.TheVariants as start
+use Rattle.lk_parts.specs.Operators.{level_of_sign, is_operator}
+use Rattle.lk_parts.specs.Starts.{start_of_keyword, begins}
+use Rattle.lk_parts.specs.declared.operators.Level.{Level}
+use Rattle.lk_parts.specs.declared.operators.Level.TheVariants as level
+use Rattle.lk_parts.specs.declared.starts.Start.TheVariants as start
 
 pub a_literal : Means (begins start.Literal) (λ t. begins start.Literal t ≡ true)
 unfolding begins

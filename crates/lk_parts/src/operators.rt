@@ -1,6 +1,6 @@
 //! Operators, by how tightly they bind.
 
-ghost use Rattle.lk_grammar.specs.Operators.{level_of_sign, level_of_word, level_of, rank, is_operator, comparison_node, join_node, sum_node, product_node, operator_node, prefix_node};
+ghost use Rattle.lk_parts.specs.Operators.{level_of_sign, level_of_word, level_of, rank, is_operator, comparison_node, join_node, sum_node, product_node, operator_node, prefix_node};
 ghost use Rattle.lk_read.specs.Gives.{GivesToken};
 ghost use Rattle.lk_read.specs.Reader.{one, peek};
 ghost use Rattle.std.specs.Prelude.{◌≡◌};

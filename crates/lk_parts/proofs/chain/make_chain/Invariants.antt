@@ -1,6 +1,6 @@
 use Rattle.std.proofs.Common.{◌≡◌, length}
-use Rattle.lk_grammar.specs.Parts.{chain}
-use Rattle.lk_grammar.proofs.chain.make_chain.Given as goal
+use Rattle.lk_parts.specs.Parts.{chain}
+use Rattle.lk_parts.proofs.chain.make_chain.Given as goal
 
 abbrev pub invariant-loop-statement : goal.invariant-loop-statement
 invariant-loop-statement l = chain l.list l.fn.to l.rest ≡ chain l.fn.statements l.fn.to l.fn.last

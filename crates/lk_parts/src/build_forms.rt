@@ -1,6 +1,6 @@
 //! What forms make of what they hold.
 
-ghost use Rattle.lk_grammar.specs.Parts.{expr_of, if_form, list_loop, table_loop, where_form, insert_form, change_of, update_form, delete_form, switch_form, query_form, lambda_form, no_cases, case_of, last_case, goes_on, some_case};
+ghost use Rattle.lk_parts.specs.Parts.{expr_of, if_form, list_loop, table_loop, where_form, insert_form, change_of, update_form, delete_form, switch_form, query_form, lambda_form, no_cases, case_of, last_case, goes_on, some_case};
 ghost use Rattle.lk_read.specs.Kinds.{word_of};
 ghost use Rattle.std.specs.Prelude.{◌≡◌, IfOk, Some, None, false};
 

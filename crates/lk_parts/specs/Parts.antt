@@ -1,6 +1,7 @@
 -- Parts of an expression: where it begins and ends, with the parentheses or braces round it, what it is, and what it would
 -- take of the tokens behind it.
 use Rattle.std.specs.Prelude.{ℕ, Bool, true, false, not, ◌||◌, List, [], ◌∷◌, Option, Some, None, codes, if◌then◌else◌}
+use Rattle.std.specs.Option.{is_none}
 use Rattle.std.specs.Str.{bytes_eq}
 use Rattle.lk_ast.specs.declared.expression.Case.{Case}
 use Rattle.lk_ast.specs.declared.expression.ChangeExpr.{roll-ChangeExpr}
@@ -17,15 +18,15 @@ use Rattle.lk_ast.specs.declared.token.Token.{Token}
 use Rattle.lk_ast.specs.declared.token.TokenKind.{TokenKind}
 use Rattle.lk_ast.specs.declared.token.TokenKind.TheVariants.{Word, Tag, Int, Text, Sign}
 use Rattle.lk_read.specs.Kinds.{text_of_kind, word_of}
-use Rattle.lk_grammar.specs.Operators.{operator_node, prefix_node}
-use Rattle.lk_grammar.specs.declared.operators.Level.{Level}
-use Rattle.lk_grammar.specs.declared.operators.Level.TheVariants as level
-use Rattle.lk_grammar.specs.declared.part.Cases.{Cases}
-use Rattle.lk_grammar.specs.declared.part.Change.{Change}
-use Rattle.lk_grammar.specs.declared.part.Ends.{Ends}
-use Rattle.lk_grammar.specs.declared.part.Ends.TheVariants as ends
-use Rattle.lk_grammar.specs.declared.part.Part.{Part}
-use Rattle.lk_grammar.specs.declared.part.Statement.{Statement}
+use Rattle.lk_parts.specs.Operators.{operator_node, prefix_node}
+use Rattle.lk_parts.specs.declared.operators.Level.{Level}
+use Rattle.lk_parts.specs.declared.operators.Level.TheVariants as level
+use Rattle.lk_parts.specs.declared.part.Cases.{Cases}
+use Rattle.lk_parts.specs.declared.part.Change.{Change}
+use Rattle.lk_parts.specs.declared.part.Ends.{Ends}
+use Rattle.lk_parts.specs.declared.part.Ends.TheVariants as ends
+use Rattle.lk_parts.specs.declared.part.Part.{Part}
+use Rattle.lk_parts.specs.declared.part.Statement.{Statement}
 
 abbrev pub text_of : Token → List ℕ
 text_of token = text_of_kind token.kind
@@ -230,10 +231,6 @@ case_of t x e = record { tag = word_of t; name = x; body = e.expr }
 
 abbrev pub last_case : Token → Part → LastCase
 last_case x e = record { name = word_of x; body = e.expr }
-
-abbrev pub is_none : {X : Type 0} → Option X → Bool
-is_none None = true
-is_none (Some x) = false
 
 -- whether no last case has come yet
 abbrev pub goes_on : Cases → Bool

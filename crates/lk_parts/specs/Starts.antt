@@ -1,13 +1,12 @@
 -- What an expression can begin with.
 use Rattle.std.specs.Prelude.{ℕ, Bool, List, [], ◌∷◌, codes, nat_eq, if◌then◌else◌}
-use Rattle.std.specs.List.{list_any}
 use Rattle.std.specs.Str.{bytes_eq}
 use Rattle.lk_ast.specs.declared.token.Token.{Token}
 use Rattle.lk_ast.specs.declared.token.TokenKind.{TokenKind}
 use Rattle.lk_ast.specs.declared.token.TokenKind.TheVariants.{Word, Tag, Int, Text, Sign}
-use Rattle.lk_read.specs.Keywords.{is_keyword}
-use Rattle.lk_grammar.specs.declared.starts.Start.{Start}
-use Rattle.lk_grammar.specs.declared.starts.Start.TheVariants as start
+use Rattle.lk_read.specs.Keywords.{is_in, is_keyword}
+use Rattle.lk_parts.specs.declared.starts.Start.{Start}
+use Rattle.lk_parts.specs.declared.starts.Start.TheVariants as start
 
 -- the words that are values, those that stand before one expression in parentheses, and those that begin a form
 abbrev pub truths : List (List ℕ)
@@ -18,9 +17,6 @@ prefixes = codes "print" ∷ codes "not" ∷ codes "hd" ∷ codes "tl" ∷ codes
 
 abbrev pub forms : List (List ℕ)
 forms = codes "if" ∷ codes "for" ∷ codes "where" ∷ codes "insert" ∷ codes "update" ∷ codes "delete" ∷ codes "switch" ∷ codes "query" ∷ codes "fun" ∷ []
-
-abbrev pub is_in : List ℕ → List (List ℕ) → Bool
-is_in text table = list_any (bytes_eq text) table
 
 unfoldable pub start_of_keyword : List ℕ → Start
 start_of_keyword word = if is_in word truths then start.Literal else (if is_in word prefixes then start.Prefix else (if is_in word forms then start.Form else start.Other))

@@ -8,9 +8,9 @@ use Rattle.lk_ast.specs.declared.expression.Node.TheVariants as node
 use Rattle.lk_ast.specs.declared.token.Token.{Token}
 use Rattle.lk_ast.specs.declared.token.TokenKind.{TokenKind}
 use Rattle.lk_ast.specs.declared.token.TokenKind.TheVariants.{Word, Sign}
-use Rattle.lk_grammar.specs.Starts.{is_in}
-use Rattle.lk_grammar.specs.declared.operators.Level.{Level}
-use Rattle.lk_grammar.specs.declared.operators.Level.TheVariants as level
+use Rattle.lk_read.specs.Keywords.{is_in}
+use Rattle.lk_parts.specs.declared.operators.Level.{Level}
+use Rattle.lk_parts.specs.declared.operators.Level.TheVariants as level
 
 abbrev pub comparisons : List (List ℕ)
 comparisons = codes "==" ∷ codes "<>" ∷ codes "<" ∷ codes "<=" ∷ codes ">" ∷ codes ">=" ∷ []

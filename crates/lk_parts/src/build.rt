@@ -1,6 +1,6 @@
 //! What parts make of what they hold.
 
-ghost use Rattle.lk_grammar.specs.Parts.{text_of, expr_of, closed, behind, is_form_end, form_end, takes_operator, takes_comparison, takes_call, is_bare_name, literal_node, literal, named, label_of, wrapped, part_of, record_of, extended, list_of, hidden_unit, bare_tag, unit_tag, tagged, prefixed, called, projected, var_statement, plain_statement, braced, negated, compared_by, binary};
+ghost use Rattle.lk_parts.specs.Parts.{text_of, expr_of, closed, behind, is_form_end, form_end, takes_operator, takes_comparison, takes_call, is_bare_name, literal_node, literal, named, label_of, wrapped, part_of, record_of, extended, list_of, hidden_unit, bare_tag, unit_tag, tagged, prefixed, called, projected, var_statement, plain_statement, braced, negated, compared_by, binary};
 ghost use Rattle.std.specs.Prelude.{◌≡◌, IfOk};
 
 use crate::chain::make_chain;

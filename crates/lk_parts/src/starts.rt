@@ -1,6 +1,6 @@
 //! What an expression can begin with.
 
-ghost use Rattle.lk_grammar.specs.Starts.{start_of_keyword, start_of_sign, start_of, number, begins};
+ghost use Rattle.lk_parts.specs.Starts.{start_of_keyword, start_of_sign, start_of, number, begins};
 ghost use Rattle.lk_read.specs.Gives.{GivesToken};
 ghost use Rattle.lk_read.specs.Reader.{one, peek};
 ghost use Rattle.std.specs.Prelude.{◌≡◌};

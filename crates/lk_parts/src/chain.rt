@@ -1,6 +1,6 @@
 //! The tree of a block's statements, from the end.
 
-ghost use Rattle.lk_grammar.specs.Parts.{expr_of, statement_node, chain};
+ghost use Rattle.lk_parts.specs.Parts.{expr_of, statement_node, chain};
 ghost use Rattle.std.specs.Prelude.{◌≡◌, IfOk};
 
 use crate::build::make_expr;

@@ -1,0 +1,3 @@
+pub mod Operators
+pub mod Parts
+pub mod Starts
