@@ -25,7 +25,7 @@ use Rattle.lk_parts.specs.declared.part.Part.{Part}
 use Rattle.lk_parts.specs.declared.starts.Start.{Start}
 use Rattle.lk_parts.specs.declared.starts.Start.TheVariants as start
 use Rattle.lk_grammar.proofs.Follows.{Shut, shut_word, stops_opened}
-use Rattle.lk_grammar.proofs.StartLaws.{name_start, word_start, not_tag}
+use Rattle.lk_parts.proofs.StartLaws.{name_start, word_start, not_tag}
 use Rattle.lk_grammar.proofs.CompleteLevels.{Whole, Form_finds}
 use Rattle.lk_grammar.proofs.CompleteNames.{params_find, place_finds, order_finds}
 use Rattle.lk_grammar.proofs.CompletePrimaries.{Parts_find, Block_finds, round_shut, brace_shut, block_head}

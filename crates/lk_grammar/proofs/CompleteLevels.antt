@@ -20,8 +20,9 @@ use Rattle.lk_parts.specs.declared.operators.Level.{Level}
 use Rattle.lk_parts.specs.declared.operators.Level.TheVariants as level
 use Rattle.lk_parts.specs.declared.part.Part.{Part}
 use Rattle.lk_parts.specs.declared.starts.Start.TheVariants as start
-use Rattle.lk_grammar.proofs.Follows.{is_comparison, Stops, Shut, shut_sign, tighter, stops_left, stops_compared, stops_right, stops_negated, no_call}
-use Rattle.lk_grammar.proofs.StartLaws.{is_primary_start, is_expr_start, first_not_sign, first_not_form, postfix_begins, some_begins}
+use Rattle.lk_grammar.proofs.Follows.{is_comparison, Stops, Shut, shut_sign, tighter, stops_left, stops_compared, stops_right, stops_negated, no_call, too_high}
+use Rattle.lk_parts.proofs.StartLaws.{is_primary_start, is_expr_start, first_not_sign, first_not_form}
+use Rattle.lk_grammar.proofs.Beginnings.{postfix_begins, some_begins}
 
 -- ---- left-associative operators
 
@@ -136,16 +137,13 @@ unfolding join_over join_with
 join_up w e f n zero z stop = tired-finds _ _
 join_up w e f n (suc m) z stop = bind-finds _ _ _ (sum_whole w e f n z (tighter 4 5 e z (omega arith) stop)) (when-no _ _ _ _ (stop.operator level.Join refl (omega arith)) (give-finds _ _))
 
-too_loose : 4 ≤ 3 → ⊥
-too_loose le = omega arith
-
 pub join_op : (s : Token) (u w : List Token) (a b : Part) → Sum_finds u a → takes_operator a ≡ true → is_operator level.Join s ≡ true → Join_finds w b → Join_finds (u ++ s ∷ w) (binary level.Join a s b)
 unfolding join_over join_with operator_turn
 join_op s u w a b f ok h g n zero z stop = tired-finds _ _
 join_op s u w a b f ok h g n (suc m) z stop = along (join_over (expr_at n) n (suc m)) _ (sym (append_assoc u (s ∷ w) z))
     (bind-finds _ _ _ (sum_whole u a f n (s ∷ (w ++ z)) (stops_left level.Join a s (w ++ z) refl ok h))
     (when-yes _ _ _ _ h (given-finds _ _ _ ok (eat-finds _ _ _ _ h
-    (bind-finds _ _ _ (g n m z (stops_right 4 4 level.Join a b s z (omega arith) (λ le. absurd (too_loose le)) stop)) (give-finds _ _))))))
+    (bind-finds _ _ _ (g n m z (stops_right 4 4 level.Join a b s z (omega arith) (λ le. absurd (too_high le)) stop)) (give-finds _ _))))))
 
 -- ---- comparisons
 
@@ -158,7 +156,7 @@ unfolding comparison_over comparison_with compare_turn
 comparison_op s u w a b f ok h g n z stop = along (COMPARISON n) _ (sym (append_assoc u (s ∷ w) z))
     (bind-finds _ _ _ (f n n (s ∷ (w ++ z)) (stops_compared a s (w ++ z) ok h))
     (when-yes _ _ _ _ h (given-finds _ _ _ ok (eat-finds _ _ _ _ h
-    (bind-finds _ _ _ (g n n z (stops_right 3 4 level.Comparison a b s z (omega arith) (λ le. absurd (too_loose le)) stop)) (give-finds _ _))))))
+    (bind-finds _ _ _ (g n n z (stops_right 3 4 level.Comparison a b s z (omega arith) (λ le. absurd (too_high le)) stop)) (give-finds _ _))))))
 
 -- ---- a sign before an operand, forms, and the rest
 
@@ -191,10 +189,6 @@ Args_finds close w es = (n : ℕ) (c : Token) (z : List Token) → IsSign close 
 
 abbrev pub Some_find : List Token → List Expr → Type 0
 Some_find w es = (n : ℕ) (z : List Token) (v : Reading (List Expr)) → Shut z → ((m : ℕ) → many comma (args_turn (expr_at n)) m es z ⊑ v) → some_with (expr_at n) n (w ++ z) ⊑ v
-
-never_tag : (b : Bool) → b ≡ false → b ≡ true → ⊥
-never_tag true e f = absurd cc
-never_tag false e f = absurd cc
 
 not_both : (f : Part) → takes_call f ≡ true → is_tag_end f.ends ≡ true → ⊥
 not_both f ok t = both (is_tag_end f.ends) ok t

@@ -14,7 +14,7 @@ use Rattle.lk_rows.specs.Reading.{comma}
 use Rattle.lk_grammar.specs.Expressions.{IsNames, IsParams, IsPlace, IsKey, IsKeys, IsOrder}
 use Rattle.lk_grammar.specs.Reading.{names_turn, params_with, read_place, read_key, keys_turn, keys_with, order_with}
 use Rattle.lk_parts.specs.Starts.{start_of_sign}
-use Rattle.lk_grammar.proofs.StartLaws.{name_start, is_expr_start, Begins, first_not_sign, regrouped}
+use Rattle.lk_parts.proofs.StartLaws.{name_start, is_expr_start, Begins, first_not_sign, regrouped}
 
 -- ---- parameters
 

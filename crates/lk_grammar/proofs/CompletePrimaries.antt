@@ -21,7 +21,8 @@ use Rattle.lk_parts.specs.declared.part.Part.{Part}
 use Rattle.lk_parts.specs.declared.part.Statement.{Statement}
 use Rattle.lk_parts.specs.declared.starts.Start.TheVariants as start
 use Rattle.lk_grammar.proofs.Follows.{Shut, shut_sign}
-use Rattle.lk_grammar.proofs.StartLaws.{begins_start, sign_start, name_start, tag_start, not_begins, not_name, not_tag, not_sign, is_expr_start, Begins, first_not_sign, first_not_word, regrouped, expr_begins}
+use Rattle.lk_parts.proofs.StartLaws.{begins_start, sign_start, name_start, tag_start, not_begins, not_name, not_tag, not_sign, is_expr_start, Begins, first_not_sign, first_not_word, regrouped}
+use Rattle.lk_grammar.proofs.Beginnings.{expr_begins}
 use Rattle.lk_grammar.proofs.CompleteLevels.{UNARY, PRODUCT, COMPARISON, AND, Whole, Primary_finds, Args_finds, Closes, closes_shut, comma_shut, left_up, whole, and_whole, product_whole, unary_whole, join_up, comparison_up, postfix_finds, primary_up}
 
 abbrev pub PRIMARY : ℕ → Reader Part

@@ -130,7 +130,7 @@ never : (b : Bool) → not b ≡ true → b ≡ true → ⊥
 never true e f = absurd cc
 never false e f = absurd cc
 
-too_high : 4 ≤ 3 → ⊥
+pub too_high : 4 ≤ 3 → ⊥
 too_high le = omega arith
 
 no_level : 7 ≤ 3 → ⊥

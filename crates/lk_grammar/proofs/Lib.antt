@@ -1,4 +1,5 @@
 pub mod BareNames
+pub mod Beginnings
 pub mod Complete
 pub mod CompleteForms
 pub mod CompleteLevels
@@ -15,5 +16,4 @@ pub mod SoundLevels
 pub mod SoundNames
 pub mod SoundPrimaries
 pub mod SoundPrograms
-pub mod StartLaws
 pub mod Statements

@@ -6,7 +6,7 @@ use Rattle.lk_ast.specs.declared.expression.PartExpr.{PartExpr}
 use Rattle.lk_ast.specs.declared.expression.SortKey.{SortKey}
 use Rattle.lk_ast.specs.declared.place.Word.{Word}
 use Rattle.lk_ast.specs.declared.token.Token.{Token}
-use Rattle.lk_read.specs.Reader.{Reader, give, stop, bind, when, given, eat, many}
+use Rattle.lk_read.specs.Reader.{Reader, give, bind, many}
 use Rattle.lk_read.proofs.Laws.{Reads, many-reads}
 use Rattle.lk_read.proofs.Room.{Lasts, Eats, Shortens, shortens, none-lasts, less, bind-lasts, eaten-lasts, next-lasts, turn-lasts, step-lasts, give-lasts, stop-lasts, when-lasts, given-lasts, bind-shortens, give-shortens, eat-eats, eat-shortens, when-eats, when-shortens, given-eats, end-lasts, end-shortens, many-lasts}
 use Rattle.lk_rows.specs.Reading.{comma}

@@ -8,7 +8,6 @@ use Rattle.lk_ast.specs.declared.declaration.FunDef.{FunDef}
 use Rattle.lk_ast.specs.declared.signature.Sig.{Sig}
 use Rattle.lk_ast.specs.declared.table.BaseKind.{BaseKind}
 use Rattle.lk_ast.specs.declared.table.BaseKind.TheVariants as base
-use Rattle.lk_read.specs.Reader.{Reader, bind}
 use Rattle.lk_read.proofs.Room.{Lasts, Eats, Shortens, shortens, bind-lasts, step-lasts, give-lasts, finish-lasts, when-lasts, many-lasts, bind-shortens, give-shortens, eat-eats, eat-shortens, when-eats, bind-eats}
 use Rattle.lk_rows.specs.Reading.{comma}
 use Rattle.lk_rows.proofs.Room.{type_at-lasts}

@@ -1,5 +1,6 @@
--- Which tokens are which part of an expression, production by production. Names and calls are read as they stand: which
--- of them are functions of the program is another matter.
+-- Which tokens are which part of an expression: a grammar by productions (Aho, Lam, Sethi and Ullman, Compilers, 2006,
+-- section 4.2), of a language of the family of Links (Cooper, Lindley, Wadler and Yallop, Links: Web Programming Without
+-- Tiers, 2006). Names and calls are read as they stand: which of them are functions of the program is another matter.
 use Rattle.std.specs.Prelude.{◌≡◌, true, false, List, [], ◌∷◌, ◌++◌, Some, None, codes}
 use Rattle.lk_ast.specs.declared.expression.Case.{Case}
 use Rattle.lk_ast.specs.declared.expression.Expr.{Expr}

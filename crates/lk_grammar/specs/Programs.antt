@@ -1,4 +1,6 @@
--- Which tokens are which program, production by production. Names and calls are read as they stand.
+-- Which tokens are which program: a grammar by productions (Aho, Lam, Sethi and Ullman, Compilers, 2006, section 4.2), of a
+-- language of the family of Links (Cooper, Lindley, Wadler and Yallop, Links: Web Programming Without Tiers, 2006). Names and
+-- calls are read as they stand.
 use Rattle.std.specs.Prelude.{List, [], ◌∷◌, ◌++◌, Option, Some, None, codes}
 use Rattle.lk_ast.specs.declared.declaration.ColumnDecl.{ColumnDecl}
 use Rattle.lk_ast.specs.declared.declaration.Decl.{Decl}

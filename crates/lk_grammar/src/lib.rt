@@ -1,6 +1,5 @@
 //! The grammar of programs, over tokens, and the reader of it. `specs/Expressions` and `specs/Programs` have the grammar,
-//! `specs/Starts`, `specs/Operators` and `specs/Parts` what it stands on, `specs/Reading` and `specs/ReadingPrograms` the
-//! readers.
+//! `specs/Reading` and `specs/ReadingPrograms` the readers; the parts that both speak of stand in `lk_parts`.
 #![tactic(auto)]
 
 mod blocks;

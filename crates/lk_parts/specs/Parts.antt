@@ -1,5 +1,6 @@
 -- Parts of an expression: where it begins and ends, with the parentheses or braces round it, what it is, and what it would
--- take of the tokens behind it.
+-- take of the tokens behind it. What each production makes of its parts is a synthesized attribute (Aho, Lam, Sethi and
+-- Ullman, Compilers, 2006, section 5.1).
 use Rattle.std.specs.Prelude.{ℕ, Bool, true, false, not, ◌||◌, List, [], ◌∷◌, Option, Some, None, codes, if◌then◌else◌}
 use Rattle.std.specs.Option.{is_none}
 use Rattle.std.specs.Str.{bytes_eq}

@@ -1,4 +1,5 @@
--- What an expression can begin with.
+-- What an expression can begin with: its first tokens (Aho, Lam, Sethi and Ullman, Compilers, 2006, section 4.4.2), by kinds
+-- that exclude each other.
 use Rattle.std.specs.Prelude.{ℕ, Bool, List, [], ◌∷◌, codes, nat_eq, if◌then◌else◌}
 use Rattle.std.specs.Str.{bytes_eq}
 use Rattle.lk_ast.specs.declared.token.Token.{Token}

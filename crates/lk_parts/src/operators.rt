@@ -23,11 +23,17 @@ const PRODUCTS: [&str; 2] = ["*", "/"];
 /// How tightly an operator binds, from the loosest to the tightest.
 #[derive(Clone, Copy, Debug)]
 pub enum Level {
+    /// `||`.
     Or,
+    /// `&&`.
     And,
+    /// `==` and the like, one at most.
     Comparison,
+    /// `::`, `++` and `^^`, from the right.
     Join,
+    /// `+` and `-`.
     Sum,
+    /// `*`, `/` and `mod`.
     Product,
 }
 

@@ -18,9 +18,13 @@ pub enum Ends {
 /// A part of an expression, from its first to its last token, with the parentheses or braces round it.
 #[derive(Debug, Drop)]
 pub struct Part {
+    /// The byte at which it begins.
     pub from: u32,
+    /// The byte behind its end.
     pub to: u32,
+    /// Its tree.
     pub expr: Expr,
+    /// What it would take of the tokens behind it.
     pub ends: Ends,
     /// Whether the comparison at its right end is made, so that no other one goes on with it.
     pub compared: bool,
@@ -29,23 +33,32 @@ pub struct Part {
 /// `var x = e;` or `e;`, which begins at this byte.
 #[derive(Debug, Drop)]
 pub struct Statement {
+    /// The byte at which it begins.
     pub from: u32,
+    /// The name that is bound, if there is one.
     pub name: Option<Word>,
+    /// What is evaluated.
     pub expr: Expr,
 }
 
 /// The cases of a switch.
 #[derive(Debug, Drop)]
 pub struct Cases {
+    /// Those with a tag, in order.
     pub list: List<Case>,
+    /// The one for all others, if it has come.
     pub last: Option<LastCase>,
 }
 
 /// `(x <-- t) where (cond)` of an update or a deletion, which ends at this byte.
 #[derive(Debug, Drop)]
 pub struct Change {
+    /// The name that a row has.
     pub name: Word,
+    /// The table.
     pub table: Word,
+    /// Which rows are meant.
     pub cond: Expr,
+    /// The byte behind its end.
     pub to: u32,
 }

@@ -22,15 +22,25 @@ const FORMS: [&str; 9] = [
 /// What an expression can begin with.
 #[derive(Clone, Copy, Debug)]
 pub enum Start {
+    /// A number, a text, `true` or `false`.
     Literal,
+    /// A word that isn't a keyword.
     Name,
+    /// A tag.
     Tag,
+    /// `(`.
     Round,
+    /// `[`.
     Square,
+    /// `{`.
     Brace,
+    /// A word that stands before one expression in parentheses.
     Prefix,
+    /// `-`.
     Minus,
+    /// A word that begins a form.
     Form,
+    /// None of these: no expression begins so.
     Other,
 }
 
