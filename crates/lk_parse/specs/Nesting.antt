@@ -1,20 +1,19 @@
 -- How deeply a text nests, counted from its tokens. Brackets, operators and forms are what one expression can stand in
 -- another by; so a limit on the weight bounds how deep the tree of any program is.
 use Rattle.std.specs.Prelude.{◌≡◌, ◌+◌, ◌<◌, ◌≤◌, ◌||◌, ◌&&◌, ℕ, Bool, false, if◌then◌else◌, List, [], ◌∷◌, ◌++◌, take, fold, codes, All}
-use Rattle.std.specs.List.{list_any}
-use Rattle.std.specs.Str.{bytes_eq}
 use Rattle.lk_ast.specs.declared.place.Span.{Span}
 use Rattle.lk_ast.specs.declared.token.Token.{Token}
 use Rattle.lk_ast.specs.declared.token.TokenKind.{TokenKind}
 use Rattle.lk_ast.specs.declared.token.TokenKind.TheVariants.{Word, Sign}
+use Rattle.lk_read.specs.Keywords.{is_in}
 
 -- whether a token is a sign, or a word, of a table
 abbrev pub is_sign_of : List (List ℕ) → TokenKind → Bool
-is_sign_of table (Sign sign) = list_any (bytes_eq sign) table
+is_sign_of table (Sign sign) = is_in sign table
 is_sign_of table kind = false
 
 abbrev pub is_word_of : List (List ℕ) → TokenKind → Bool
-is_word_of table (Word word) = list_any (bytes_eq word) table
+is_word_of table (Word word) = is_in word table
 is_word_of table kind = false
 
 abbrev pub opening : List (List ℕ)
