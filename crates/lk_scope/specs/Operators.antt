@@ -1,0 +1,45 @@
+-- Operators with other operands.
+use Rattle.lk_ast.specs.declared.expression.Case.{Case}
+use Rattle.lk_ast.specs.declared.expression.ChangeExpr.{ChangeExpr}
+use Rattle.lk_ast.specs.declared.expression.Expr.{Expr}
+use Rattle.lk_ast.specs.declared.expression.LambdaExpr.{LambdaExpr}
+use Rattle.lk_ast.specs.declared.expression.LastCase.{LastCase}
+use Rattle.lk_ast.specs.declared.expression.Node.{Node}
+use Rattle.lk_ast.specs.declared.expression.Node.TheOpen.{Node-F}
+use Rattle.lk_ast.specs.declared.expression.Node.TheVariants as node
+use Rattle.lk_ast.specs.declared.expression.PartExpr.{PartExpr}
+
+-- a node with the expressions in it
+abbrev pub Layer : Type 0
+Layer = Node-F Node Case ChangeExpr Expr LambdaExpr LastCase PartExpr
+
+-- the node with two operands that this one is, with these in place of its own
+abbrev pub with_operands : Layer → Expr → Expr → Node
+with_operands (Node-F.Seq c d) a b = node.Seq a b
+with_operands (Node-F.And c d) a b = node.And a b
+with_operands (Node-F.Or c d) a b = node.Or a b
+with_operands (Node-F.Concat c d) a b = node.Concat a b
+with_operands (Node-F.Append c d) a b = node.Append a b
+with_operands (Node-F.Cons c d) a b = node.Cons a b
+with_operands (Node-F.Add c d) a b = node.Add a b
+with_operands (Node-F.Sub c d) a b = node.Sub a b
+with_operands (Node-F.Mul c d) a b = node.Mul a b
+with_operands (Node-F.Div c d) a b = node.Div a b
+with_operands (Node-F.Mod c d) a b = node.Mod a b
+with_operands (Node-F.Eq c d) a b = node.Eq a b
+with_operands (Node-F.Ne c d) a b = node.Ne a b
+with_operands (Node-F.Lt c d) a b = node.Lt a b
+with_operands (Node-F.Le c d) a b = node.Le a b
+with_operands (Node-F.Gt c d) a b = node.Gt a b
+with_operands (Node-F.Ge c d) a b = node.Ge a b
+with_operands other a b = node.Where a b
+
+-- the node with one operand that this one is, with this in its place
+abbrev pub with_operand : Layer → Expr → Node
+with_operand (Node-F.Neg d) e = node.Neg e
+with_operand (Node-F.Not d) e = node.Not e
+with_operand (Node-F.Hd d) e = node.Hd e
+with_operand (Node-F.Tl d) e = node.Tl e
+with_operand (Node-F.Empty d) e = node.Empty e
+with_operand (Node-F.IntToString d) e = node.IntToString e
+with_operand other e = node.Print e

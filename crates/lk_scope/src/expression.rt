@@ -1,0 +1,342 @@
+//! Expressions under the names in scope.
+
+ghost use Rattle.lk_ast.specs.declared.expression.Expr.{size-Expr};
+ghost use Rattle.lk_scope.specs.Names.{Names as TheNames, bind, bind_all, bind_some};
+ghost use Rattle.lk_scope.specs.Statements.{before};
+ghost use Rattle.lk_scope.specs.Scoped.{all_in, call_node, function_in, scoped, scoped_case, scoped_change, scoped_lambda, scoped_last, scoped_node, scoped_part, word_node};
+ghost use Rattle.lk_ast.specs.declared.expression.Node.{out-Node};
+ghost use Rattle.std.specs.Prelude.{◌≡◌, ◌<◌, IfOk, IfSome, OnOk, map};
+ghost use Rattle.std.specs.Option.{option_copied, option_map};
+
+use crate::names::Names;
+use crate::operators::{with_operand, with_operands};
+use crate::statements::{Statement, make_chain};
+use crate::words::{copy_keys, copy_some, copy_word, copy_words};
+use lk_ast::{
+    Boxed, Case, ChangeExpr, Expr, LambdaExpr, LastCase, List, NoMemory, Node, PartExpr, Text, Word,
+};
+use std::alloc::Global;
+
+/// The first statement of a block with its name, if it binds one, and the rest of the block.
+fn first_statement(e: &Expr) -> Option<(Option<&Word>, &Expr, &Expr)>
+    ensures before { IfSome result (λ s. (names : TheNames) → scoped e.now names ≡ before (record { span = e.now.span; name = option_copied s.0; expr = scoped s.1.now names }) (scoped s.2.now (bind_some (option_copied s.0) names))) }
+    ensures bound { IfSome result (λ s. size-Expr s.1.now < size-Expr e.now) }
+    ensures rest { IfSome result (λ s. size-Expr s.2.now < size-Expr e.now) }
+{
+    match e.node.get() {
+        Node::Var(name, bound, rest) => Some((Some(name), bound, rest)),
+        Node::Seq(statement, rest) => Some((None, statement, rest)),
+        _ => None,
+    }
+}
+
+/// An expression. The loop goes down the rests of a block, of which there may be more than the stack has room for.
+#[cycle(scoped)]
+pub fn expr(alloc: Global, names: &mut Names, e: &Expr) -> Result<Expr, NoMemory>
+    ensures scoped { IfOk result (λ made. made ≡ scoped e.now names.old) }
+    ensures left { OnOk result (names.new ≡ names.old) }
+{
+    let mut noted = List::new(alloc);
+    let mut statements = List::new(alloc);
+    let mut rest = e;
+    while let Some((name, statement, next)) = first_statement(rest) {
+        let statement = expr(alloc, names, statement)?;
+        names.enter_some(alloc, &mut noted, name)?;
+        statements.push(Statement {
+            span: rest.span,
+            name: copy_some(alloc, name)?,
+            expr: statement,
+        })?;
+        rest = next;
+    }
+    let span = rest.span;
+    let node = node(alloc, names, rest.node.get())?;
+    let node = Boxed::new(alloc, node)?;
+    names.leave(noted);
+    Ok(make_chain(alloc, statements, Expr { span, node })?)
+}
+
+/// A word: a local name or a function of the program.
+fn word_node(alloc: Global, names: &Names, name: &Text) -> Result<Node, NoMemory>
+    ensures { IfOk result (λ made. made ≡ word_node names.now name.now) }
+{
+    let copy = name.copy(alloc)?;
+    if names.has(name.as_str()) {
+        Ok(Node::Name(copy))
+    } else {
+        Ok(Node::Function(copy))
+    }
+}
+
+/// The function of the program that an expression is the name of.
+fn function_in(alloc: Global, e: &Expr) -> Result<Option<Text>, NoMemory>
+    ensures { IfOk result (λ name. name ≡ function_in (out-Node e.now.node)) }
+{
+    match e.node.get() {
+        Node::Function(name) => Ok(Some(name.copy(alloc)?)),
+        _ => Ok(None),
+    }
+}
+
+/// A call of a function of the program, or of a value.
+fn call_node(alloc: Global, f: Expr, args: List<Expr>) -> Result<Node, NoMemory>
+    ensures { IfOk result (λ made. made ≡ call_node f args) }
+{
+    match function_in(alloc, &f)? {
+        Some(text) => Ok(Node::Call(Word { at: f.span, text }, args)),
+        None => Ok(Node::Apply(f, args)),
+    }
+}
+
+/// What an expression is.
+#[cycle(scoped)]
+fn node(alloc: Global, names: &mut Names, node: &Node) -> Result<Node, NoMemory>
+    ensures scoped { IfOk result (λ made. made ≡ scoped_node node.now names.old) }
+    ensures left { OnOk result (names.new ≡ names.old) }
+{
+    match node {
+        Node::Int(number) => Ok(Node::Int(*number)),
+        Node::Text(text) => Ok(Node::Text(text.copy(alloc)?)),
+        Node::Bool(truth) => Ok(Node::Bool(*truth)),
+        Node::Name(name) => Ok(word_node(alloc, names, name)?),
+        Node::Function(name) => Ok(Node::Function(name.copy(alloc)?)),
+        Node::Lambda(e) => Ok(Node::Lambda(lambda(alloc, names, e)?)),
+        Node::Call(name, args) => {
+            let name = copy_word(alloc, name)?;
+            Ok(Node::Call(name, exprs(alloc, names, args.as_slice())?))
+        }
+        Node::Apply(f, args) => {
+            let f = expr(alloc, names, f)?;
+            let args = exprs(alloc, names, args.as_slice())?;
+            Ok(call_node(alloc, f, args)?)
+        }
+        Node::Var(name, bound, rest) => {
+            let bound = expr(alloc, names, bound)?;
+            let rest = under(alloc, names, name, rest)?;
+            Ok(Node::Var(copy_word(alloc, name)?, bound, rest))
+        }
+        Node::Seq(a, b)
+        | Node::And(a, b)
+        | Node::Or(a, b)
+        | Node::Concat(a, b)
+        | Node::Append(a, b)
+        | Node::Cons(a, b)
+        | Node::Add(a, b)
+        | Node::Sub(a, b)
+        | Node::Mul(a, b)
+        | Node::Div(a, b)
+        | Node::Mod(a, b)
+        | Node::Eq(a, b)
+        | Node::Ne(a, b)
+        | Node::Lt(a, b)
+        | Node::Le(a, b)
+        | Node::Gt(a, b)
+        | Node::Ge(a, b)
+        | Node::Where(a, b) => {
+            let a = expr(alloc, names, a)?;
+            let b = expr(alloc, names, b)?;
+            Ok(with_operands(node, a, b))
+        }
+        Node::Neg(e)
+        | Node::Not(e)
+        | Node::Hd(e)
+        | Node::Tl(e)
+        | Node::Empty(e)
+        | Node::IntToString(e)
+        | Node::Print(e) => Ok(with_operand(node, expr(alloc, names, e)?)),
+        Node::If(c, d, e) => {
+            let c = expr(alloc, names, c)?;
+            let d = expr(alloc, names, d)?;
+            Ok(Node::If(c, d, expr(alloc, names, e)?))
+        }
+        Node::Record(fields) => Ok(Node::Record(parts(alloc, names, fields.as_slice())?)),
+        Node::Extend(fields, e) => {
+            let fields = parts(alloc, names, fields.as_slice())?;
+            Ok(Node::Extend(fields, expr(alloc, names, e)?))
+        }
+        Node::List(items) => Ok(Node::List(exprs(alloc, names, items.as_slice())?)),
+        Node::Project(e, label) => {
+            let e = expr(alloc, names, e)?;
+            Ok(Node::Project(e, copy_word(alloc, label)?))
+        }
+        Node::Tag(tag, e) => {
+            let tag = copy_word(alloc, tag)?;
+            Ok(Node::Tag(tag, expr(alloc, names, e)?))
+        }
+        Node::Switch(e, list, last) => {
+            let e = expr(alloc, names, e)?;
+            let list = cases(alloc, names, list.as_slice())?;
+            Ok(Node::Switch(e, list, last_case(alloc, names, last)?))
+        }
+        Node::ForList(name, e, body) => {
+            let e = expr(alloc, names, e)?;
+            let body = under(alloc, names, name, body)?;
+            Ok(Node::ForList(copy_word(alloc, name)?, e, body))
+        }
+        Node::ForTable(name, rows, body) => {
+            let rows = expr(alloc, names, rows)?;
+            let body = under(alloc, names, name, body)?;
+            Ok(Node::ForTable(copy_word(alloc, name)?, rows, body))
+        }
+        Node::Table(table) => Ok(Node::Table(copy_word(alloc, table)?)),
+        Node::Query(keys, e) => {
+            let keys = copy_keys(alloc, keys.as_slice())?;
+            Ok(Node::Query(keys, expr(alloc, names, e)?))
+        }
+        Node::Insert(table, e) => {
+            let table = copy_word(alloc, table)?;
+            Ok(Node::Insert(table, expr(alloc, names, e)?))
+        }
+        Node::Update(rows) => Ok(Node::Update(change(alloc, names, rows)?)),
+        Node::Delete(rows) => Ok(Node::Delete(change(alloc, names, rows)?)),
+    }
+}
+
+/// An expression in which one more name is seen.
+#[cycle(scoped)]
+fn under(alloc: Global, names: &mut Names, name: &Word, e: &Expr) -> Result<Expr, NoMemory>
+    ensures scoped { IfOk result (λ made. made ≡ scoped e.now (bind name.now names.old)) }
+    ensures left { OnOk result (names.new ≡ names.old) }
+{
+    let mut noted = List::new(alloc);
+    names.enter(alloc, &mut noted, name)?;
+    let e = expr(alloc, names, e)?;
+    names.leave(noted);
+    Ok(e)
+}
+
+/// An expression in which more names are seen.
+#[cycle(scoped)]
+pub fn under_all(
+    alloc: Global,
+    names: &mut Names,
+    words: &[Word],
+    e: &Expr,
+) -> Result<Expr, NoMemory>
+    ensures scoped { IfOk result (λ made. made ≡ scoped e.now (bind_all words.now names.old)) }
+    ensures left { OnOk result (names.new ≡ names.old) }
+{
+    let mut noted = List::new(alloc);
+    names.enter_all(alloc, &mut noted, words)?;
+    let e = expr(alloc, names, e)?;
+    names.leave(noted);
+    Ok(e)
+}
+
+/// Expressions.
+#[cycle(scoped)]
+fn exprs(alloc: Global, names: &mut Names, list: &[Expr]) -> Result<List<Expr>, NoMemory>
+    ensures scoped { IfOk result (λ made. made ≡ all_in names.old (map scoped list.now)) }
+    ensures left { OnOk result (names.new ≡ names.old) }
+{
+    let mut made = List::new(alloc);
+    for e in list {
+        made.push(expr(alloc, names, e)?)?;
+    }
+    Ok(made)
+}
+
+/// `l = e, m = d`.
+#[cycle(scoped)]
+fn parts(alloc: Global, names: &mut Names, list: &[PartExpr]) -> Result<List<PartExpr>, NoMemory>
+    ensures scoped { IfOk result (λ made. made ≡ all_in names.old (map scoped_part list.now)) }
+    ensures left { OnOk result (names.new ≡ names.old) }
+{
+    let mut made = List::new(alloc);
+    for part in list {
+        let label = copy_word(alloc, &part.label)?;
+        let expr = expr(alloc, names, &part.expr)?;
+        made.push(PartExpr { label, expr })?;
+    }
+    Ok(made)
+}
+
+/// `fun (x, y) { e }`.
+#[cycle(scoped)]
+fn lambda(alloc: Global, names: &mut Names, e: &LambdaExpr) -> Result<LambdaExpr, NoMemory>
+    ensures scoped { IfOk result (λ made. made ≡ scoped_lambda e.now names.old) }
+    ensures left { OnOk result (names.new ≡ names.old) }
+{
+    let params = copy_words(alloc, e.params.as_slice())?;
+    let place = e.place;
+    let body = under_all(alloc, names, e.params.as_slice(), &e.body)?;
+    Ok(LambdaExpr {
+        params,
+        place,
+        body,
+    })
+}
+
+/// `case T(x) -> e`, `case T -> e`.
+#[cycle(scoped)]
+fn case(alloc: Global, names: &mut Names, case: &Case) -> Result<Case, NoMemory>
+    ensures scoped { IfOk result (λ made. made ≡ scoped_case case.now names.old) }
+    ensures left { OnOk result (names.new ≡ names.old) }
+{
+    let tag = copy_word(alloc, &case.tag)?;
+    let name = copy_some(alloc, case.name.as_ref())?;
+    match &case.name {
+        None => {
+            let body = expr(alloc, names, &case.body)?;
+            Ok(Case { tag, name, body })
+        }
+        Some(x) => {
+            let body = under(alloc, names, x, &case.body)?;
+            Ok(Case { tag, name, body })
+        }
+    }
+}
+
+/// The cases of a switch but for the last one.
+#[cycle(scoped)]
+fn cases(alloc: Global, names: &mut Names, list: &[Case]) -> Result<List<Case>, NoMemory>
+    ensures scoped { IfOk result (λ made. made ≡ all_in names.old (map scoped_case list.now)) }
+    ensures left { OnOk result (names.new ≡ names.old) }
+{
+    let mut made = List::new(alloc);
+    for one in list {
+        made.push(case(alloc, names, one)?)?;
+    }
+    Ok(made)
+}
+
+/// `case x -> e`.
+#[cycle(scoped)]
+fn last_case(
+    alloc: Global,
+    names: &mut Names,
+    last: &Option<LastCase>,
+) -> Result<Option<LastCase>, NoMemory>
+    ensures scoped { IfOk result (λ made. made ≡ option_map (λ last. scoped_last last names.old) last.now) }
+    ensures left { OnOk result (names.new ≡ names.old) }
+{
+    match last {
+        None => Ok(None),
+        Some(last) => {
+            let name = copy_word(alloc, &last.name)?;
+            let body = under(alloc, names, &last.name, &last.body)?;
+            Ok(Some(LastCase { name, body }))
+        }
+    }
+}
+
+/// `(x <-- t) where (c) set (l = e)`.
+#[cycle(scoped)]
+fn change(alloc: Global, names: &mut Names, rows: &ChangeExpr) -> Result<ChangeExpr, NoMemory>
+    ensures scoped { IfOk result (λ made. made ≡ scoped_change rows.now names.old) }
+    ensures left { OnOk result (names.new ≡ names.old) }
+{
+    let mut noted = List::new(alloc);
+    names.enter(alloc, &mut noted, &rows.name)?;
+    let cond = expr(alloc, names, &rows.cond)?;
+    let sets = parts(alloc, names, rows.sets.as_slice())?;
+    names.leave(noted);
+    let name = copy_word(alloc, &rows.name)?;
+    let table = copy_word(alloc, &rows.table)?;
+    Ok(ChangeExpr {
+        name,
+        table,
+        cond,
+        sets,
+    })
+}

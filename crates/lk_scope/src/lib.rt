@@ -1,0 +1,16 @@
+//! Names by scope: which words of a program are local names, and which are functions of the program.
+//!
+//! The tree that the grammar gives has each word of an expression as a name and each call as one of a value. `scoped`
+//! makes of it the tree that is meant, by lexical scope. `specs/Scoped` says what that is.
+#![tactic(auto)]
+
+mod expression;
+mod names;
+mod operators;
+mod program;
+mod statements;
+#[cfg(test)]
+mod tests;
+mod words;
+
+pub use program::scoped;
