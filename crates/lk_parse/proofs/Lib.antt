@@ -5,6 +5,7 @@ pub mod Lexemes
 pub mod LongestSign
 pub mod Passes
 pub mod Readings
+pub mod Refused
 pub mod Runs
 pub mod Shapes
 pub mod TextLiterals

@@ -1,10 +1,12 @@
 -- Which texts are programs, and why others are refused. Of several reasons the first in the order of the cases counts.
-use Rattle.std.specs.Prelude.{◌≡◌, ◌<◌, ◌≤◌, ℕ, List, length, Some, None, IsUtf8}
+use Rattle.std.specs.Prelude.{◌≡◌, ◌<◌, ◌≤◌, ℕ, List, length, slice_get, Option, Some, None, IsUtf8}
 use Rattle.std.specs.Str.{IsValidUpTo}
 use Rattle.lk_ast.specs.declared.declaration.Program.{Program}
 use Rattle.lk_ast.specs.declared.place.Span.{Span}
 use Rattle.lk_ast.specs.declared.token.Token.{Token}
-use Rattle.lk_parse.specs.Grammar.{program_of}
+use Rattle.lk_read.specs.Exact.{IsUnexpected}
+use Rattle.lk_scope.specs.Scoped.{scoped_program}
+use Rattle.lk_grammar.specs.Programs.{IsProgram}
 use Rattle.lk_parse.specs.Nesting.{IsLight, IsTooNested}
 use Rattle.lk_parse.specs.Tokens.{HasTokens, IsBadToken, text_limit}
 use Rattle.lk_parse.specs.declared.error.ParseError.{ParseError}
@@ -25,12 +27,15 @@ IsTooHeavy tokens (TooNested span) = IsTooNested tokens span
 IsTooHeavy tokens NoMemory = Unit {0}
 IsTooHeavy tokens refusal = ⊥
 
--- the text is that of this program
+-- The text is that of this program: its tokens don't nest too deep, they are a tree by the grammar, and the program is that
+-- tree with its names by scope.
 pub record IsProgramText (text : List ℕ) (program : Program) : Type 0 where
   pub tokens : List Token
   pub has : HasTokens text tokens
   pub light : IsLight tokens
-  pub is : program_of tokens ≡ Some program
+  pub tree : Program
+  pub is : IsProgram tokens tree
+  pub names : program ≡ scoped_program tree
 
 -- its tokens nest too deep, with the one of this span
 pub record NestsTooDeep (text : List ℕ) (span : Span) : Type 0 where
@@ -38,13 +43,19 @@ pub record NestsTooDeep (text : List ℕ) (span : Span) : Type 0 where
   pub has : HasTokens text tokens
   pub heavy : IsTooNested tokens span
 
--- its tokens are no program, of which it isn't said yet where they go wrong
+-- the span of a token, and behind the last one the empty span at the text's end
+abbrev pub span_or_end : ℕ → Option Token → Span
+span_or_end end (Some token) = token.span
+span_or_end end None = record { start = end; end = end }
+
+-- its tokens are no program, and this is the span of the first one that fits nowhere
 pub record IsNoProgram (text : List ℕ) (span : Span) : Type 0 where
   pub tokens : List Token
   pub has : HasTokens text tokens
   pub light : IsLight tokens
-  pub none : program_of tokens ≡ None
-  pub nowhere : span ≡ record { start = 0; end = 0 }
+  pub at : ℕ
+  pub unexpected : IsUnexpected IsProgram tokens at
+  pub place : span ≡ span_or_end (length text) (slice_get tokens at)
 
 -- why a text is no program
 abbrev pub IsRefused : List ℕ → ParseError → Type 0

@@ -21,7 +21,8 @@ pub enum ParseError {
     /// With this token the text's weight is first over 200: it nests too deep.
     #[error("the text nests too deep at byte {}", .0.start)]
     TooNested(Span),
-    /// The text is no program.
+    /// The text is no program: with the token of this span its tokens are first the beginning of none. At the text's end,
+    /// where the span is empty, all tokens are such a beginning and more are needed.
     #[error("unexpected text at byte {}", .0.start)]
     Unexpected(Span),
     #[error("out of memory")]
@@ -34,11 +35,4 @@ impl From<NoMemory> for ParseError {
     fn from(_error: NoMemory) -> ParseError {
         ParseError::NoMemory
     }
-}
-
-/// The refusal of tokens that are no program, which doesn't say yet where they go wrong.
-pub fn unexpected() -> ParseError
-    ensures { result ≡ errors.Unexpected (record { start = 0; end = 0 }) }
-{
-    ParseError::Unexpected(Span { start: 0, end: 0 })
 }

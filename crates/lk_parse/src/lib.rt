@@ -1,12 +1,10 @@
 //! The parser. `tokens` reads a text's tokens, `check_nesting` how deeply they nest, `parse` the program.
 //!
-//! The grammar is that of the smallest language that can be run: `fun main(x) client { e ^^ e }`, where each `e` is a
-//! text literal or `x`. `specs/Pieces` and `specs/Tokens` have the tokens, `specs/Nesting` the weight, `specs/Grammar`
-//! the grammar and `specs/Refusals` what is refused and why.
+//! `specs/Pieces` and `specs/Tokens` have the tokens, `specs/Nesting` the weight and `specs/Refusals` what is refused and
+//! why. The grammar is that of `lk_grammar`, and the scope of names that of `lk_scope`.
 #![tactic(auto)]
 
 mod error;
-mod grammar;
 mod literals;
 mod nesting;
 mod piece;

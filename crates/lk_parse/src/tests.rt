@@ -1,7 +1,7 @@
 //! Tables of texts, worked by hand.
 
 use crate::{ParseError, Token, TokenKind, check_nesting, parse, tokens};
-use lk_ast::{Decl, Expr, Loc, Node, Program, Span};
+use lk_ast::Span;
 use std::alloc::{AllocError, Global};
 use std::process::Abort;
 use std::test::Fail;
@@ -54,50 +54,14 @@ fn shown_tokens(alloc: Global, found: &[Token]) -> Result<String, AllocError> {
     Ok(line)
 }
 
-fn shown_operand(alloc: Global, operand: &Expr) -> Result<String, AllocError> {
-    let Span { start, end } = operand.span;
-    match operand.node.get() {
-        Node::Text(text) => format!(in alloc; "{:?} at {start} to {end}", text.as_str()),
-        Node::Name(name) => format!(in alloc; "{} at {start} to {end}", name.as_str()),
-        _ => format!(in alloc; "no operand"),
-    }
-}
-
-fn shown_body(alloc: Global, body: &Expr) -> Result<String, AllocError> {
-    let Span { start, end } = body.span;
-    let Node::Concat(left, right) = body.node.get() else {
-        return format!(in alloc; "no concatenation");
-    };
-    let left = shown_operand(alloc, left)?;
-    let right = shown_operand(alloc, right)?;
-    format!(in alloc; "{start} to {end}: {left}, {right}")
-}
-
-fn shown_program(alloc: Global, program: &Program) -> Result<String, AllocError> {
-    let [Decl::Fun(fun)] = program.decls.as_slice() else {
-        return format!(in alloc; "no function alone");
-    };
-    let ([param], None, Loc::Client) = (fun.params.as_slice(), &fun.sig, fun.place) else {
-        return format!(in alloc; "no main function");
-    };
-    let name = fun.name.text.as_str();
-    let Span { start, end } = fun.name.at;
-    let param_name = param.text.as_str();
-    let at = param.at;
-    let body = shown_body(alloc, &fun.body)?;
-    format!(in alloc;
-        "{name} at {start} to {end}, {param_name} at {} to {}, {body}",
-        at.start, at.end
-    )
-}
-
 /// Reads the tokens of a text and how deeply they nest.
 fn nesting(alloc: Global, text: &[u8]) -> Result<(), ParseError> {
     let found = tokens(alloc, text)?;
     check_nesting(alloc, found.as_slice())
 }
 
-/// What the reader answers, as a line of text; `light` is said of tokens that don't nest too deep.
+/// What the reader answers, as a line of text; `light` is said of tokens that don't nest too deep, and of a program how
+/// many declarations it has.
 fn shown(alloc: Global, reader: Reader, text: &[u8]) -> Result<String, AllocError> {
     match reader {
         Reader::Tokens => match tokens(alloc, text) {
@@ -109,7 +73,7 @@ fn shown(alloc: Global, reader: Reader, text: &[u8]) -> Result<String, AllocErro
             Err(refusal) => shown_refusal(alloc, &refusal),
         },
         Reader::Program => match parse(alloc, text) {
-            Ok(program) => shown_program(alloc, &program),
+            Ok(program) => format!(in alloc; "{} read", program.decls.len()),
             Err(refusal) => shown_refusal(alloc, &refusal),
         },
     }
