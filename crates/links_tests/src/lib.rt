@@ -4,6 +4,20 @@
 #[cfg(test)]
 mod evaluation;
 #[cfg(test)]
+mod parsing;
+#[cfg(test)]
+mod parsing_long;
+#[cfg(test)]
+mod parsing_refusals;
+#[cfg(test)]
+mod parsing_scope;
+#[cfg(test)]
+mod parsing_spans;
+#[cfg(test)]
+mod parsing_trees;
+#[cfg(test)]
+mod shown_trees;
+#[cfg(test)]
 mod source;
 #[cfg(test)]
 mod trees;

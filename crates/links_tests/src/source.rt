@@ -22,7 +22,7 @@ fn files(alloc: Global, failing: List<u64>) -> Result<MemFiles, Fail> {
     let mut files = List::new(alloc);
     for (name, content) in [
         ("hello.links", HELLO),
-        ("other.links", "fun main(a) client { a }\n"),
+        ("other.links", "fun main(a) client { }\n"),
     ] {
         files.push(FileEntry {
             name: Text::from_str(alloc, name)?,
@@ -69,7 +69,7 @@ fn says_hello(rt: HostRuntime) -> Result<(), Fail> {
 fn refuses_what_is_no_program(rt: HostRuntime) -> Result<(), Fail> {
     let alloc = rt.alloc();
     let line = ["source", "other.links", "ann"];
-    let want = (1, "refused 3 Unexpected 0 0\n");
+    let want = (1, "refused 3 Unexpected 21 22\n");
     check(&rt, alloc, &line, List::new(alloc), List::new(alloc), want)
 }
 
