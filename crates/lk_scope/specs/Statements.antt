@@ -1,10 +1,18 @@
 -- Statements, and the expression behind them.
-use Rattle.std.specs.Prelude.{List, [], ◌∷◌, Option, Some, None}
+use Rattle.std.specs.Prelude.{Bool, true, false, List, [], ◌∷◌, Option, Some, None}
 use Rattle.lk_ast.specs.declared.expression.Expr.{Expr}
 use Rattle.lk_ast.specs.declared.expression.Node.{Node}
+use Rattle.lk_ast.specs.declared.expression.Node.TheOpen.{Node-F}
 use Rattle.lk_ast.specs.declared.expression.Node.TheVariants as node
 use Rattle.lk_ast.specs.declared.place.Word.{Word}
+use Rattle.lk_scope.specs.Operators.{Layer}
 use Rattle.lk_scope.specs.declared.statements.Statement.{Statement}
+
+-- whether an expression is a block with statements
+abbrev pub is_statement : Layer → Bool
+is_statement (Node-F.Var x e rest) = true
+is_statement (Node-F.Seq e rest) = true
+is_statement other = false
 
 abbrev pub statement_node : Option Word → Expr → Expr → Node
 statement_node (Some x) e rest = node.Var x e rest

@@ -2,10 +2,10 @@
 
 ghost use Rattle.lk_ast.specs.declared.expression.Expr.{size-Expr};
 ghost use Rattle.lk_scope.specs.Names.{Names as TheNames, bind, bind_all, bind_some};
-ghost use Rattle.lk_scope.specs.Statements.{before};
+ghost use Rattle.lk_scope.specs.Statements.{before, is_statement};
 ghost use Rattle.lk_scope.specs.Scoped.{all_in, call_node, function_in, scoped, scoped_case, scoped_change, scoped_lambda, scoped_last, scoped_node, scoped_part, word_node};
 ghost use Rattle.lk_ast.specs.declared.expression.Node.{out-Node};
-ghost use Rattle.std.specs.Prelude.{◌≡◌, ◌<◌, IfOk, IfSome, OnOk, map};
+ghost use Rattle.std.specs.Prelude.{◌≡◌, ◌<◌, IfOk, IfSome, OnOk, is_some, map};
 ghost use Rattle.std.specs.Option.{option_copied, option_map};
 
 use crate::names::Names;
@@ -17,8 +17,10 @@ use lk_ast::{
 };
 use std::alloc::Global;
 
-/// The first statement of a block with its name, if it binds one, and the rest of the block.
+/// The first statement of a block with its name, if it binds one, and the rest of the block. `None` where there is no
+/// statement.
 fn first_statement(e: &Expr) -> Option<(Option<&Word>, &Expr, &Expr)>
+    ensures found { is_some result ≡ is_statement (out-Node e.now.node) }
     ensures before { IfSome result (λ s. (names : TheNames) → scoped e.now names ≡ before (record { span = e.now.span; name = option_copied s.0; expr = scoped s.1.now names }) (scoped s.2.now (bind_some (option_copied s.0) names))) }
     ensures bound { IfSome result (λ s. size-Expr s.1.now < size-Expr e.now) }
     ensures rest { IfSome result (λ s. size-Expr s.2.now < size-Expr e.now) }
