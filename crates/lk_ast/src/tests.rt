@@ -1,6 +1,7 @@
 use crate::{
-    Base, Boxed, Bytes, Cell, Expr, Field, FunValue, List, NoMemory, Node, Row, Shared, Span, Text,
-    Value, Word, base_order, copy_row, copy_value, equal, value_text,
+    Base, BaseKind, Boxed, Bytes, Cell, ColumnDecl, Decl, Expr, Field, FunDef, FunValue, List, Loc,
+    NoMemory, Node, Program, Row, Shared, Sig, SigType, Span, TableDecl, Text, Value, Word,
+    base_order, copy_program, copy_row, copy_value, equal, first_statement, value_text,
 };
 use std::alloc::Global;
 use std::cmp::Ordering;
@@ -206,5 +207,76 @@ fn a_long_block_is_dropped(rt: HostRuntime) -> Result<(), Fail> {
     let block = long_block(rt.alloc())?;
     assert!(rt; matches!(block.node.get(), Node::Var(..)));
     drop(block);
+    Ok(())
+}
+
+fn word(alloc: Global, start: u32, text: &str) -> Result<Word, NoMemory> {
+    let at = Span { start, end: 9 };
+    let text = Text::from_str(alloc, text)?;
+    Ok(Word { at, text })
+}
+
+fn function(alloc: Global, sig: Option<Sig>, body: Expr) -> Result<FunDef, Fail> {
+    let params = vec![in alloc; word(alloc, 3, "x")?]?;
+    Ok(FunDef {
+        name: word(alloc, 2, "f")?,
+        sig,
+        params: List::from_vec(params),
+        place: Loc::Server,
+        body,
+    })
+}
+
+// `table t with (n : Int); mutual { sig f : [String]; fun f(x) server { body } }`
+fn program(alloc: Global, body: Expr) -> Result<Program, Fail> {
+    let columns = vec![in alloc;
+        ColumnDecl {
+            label: word(alloc, 1, "n")?,
+            kind: BaseKind::Int,
+        },
+    ]?;
+    let table = TableDecl {
+        name: word(alloc, 0, "t")?,
+        columns: List::from_vec(columns),
+    };
+    let sig = Sig {
+        name: word(alloc, 4, "f")?,
+        ty: SigType::List(Boxed::new(alloc, SigType::Text)?),
+    };
+    let functions = vec![in alloc; function(alloc, Some(sig), body)?]?;
+    let decls = vec![in alloc; Decl::Table(table), Decl::Mutual(List::from_vec(functions))]?;
+    Ok(Program {
+        decls: List::from_vec(decls),
+    })
+}
+
+#[test]
+fn a_program_is_copied(rt: HostRuntime) -> Result<(), Fail> {
+    let alloc = rt.alloc();
+    let name = expr(alloc, Node::Name(Text::from_str(alloc, "x")?))?;
+    let program = program(alloc, expr(alloc, Node::Not(name))?)?;
+    let copy = copy_program(alloc, &program)?;
+    let shown = format!(in alloc; "{copy:?}")?;
+    assert_eq!(rt; shown.as_str(), format!(in alloc; "{program:?}")?.as_str());
+    Ok(())
+}
+
+fn body(program: &Program) -> Option<&Expr> {
+    match program.decls.as_slice() {
+        [_table, Decl::Mutual(functions)] => functions.get(0).map(|function| &function.body),
+        _ => None,
+    }
+}
+
+#[test]
+fn a_long_block_is_copied(rt: HostRuntime) -> Result<(), Fail> {
+    let alloc = rt.alloc();
+    let program = program(alloc, long_block(alloc)?)?;
+    let copy = copy_program(alloc, &program)?;
+    let mut rest = body(&copy);
+    for _i in 0..1_000_000 {
+        rest = rest.and_then(|e| first_statement(e).map(|(_name, _statement, next)| next));
+    }
+    assert!(rt; matches!(rest.map(|e| e.node.get()), Some(Node::Int(0))));
     Ok(())
 }

@@ -1,7 +1,8 @@
 -- The tree of a block, statement by statement from the end.
 use Rattle.std.proofs.Common.{◌≡◌, ℕ, List, [], ◌∷◌, ◌++◌, refl, ap, ◌∙◌}
+use Rattle.lk_ast.specs.Layers.{statement_node}
 use Rattle.lk_ast.specs.declared.expression.Expr.{Expr}
-use Rattle.lk_parts.specs.Parts.{expr_of, statement_node, chain}
+use Rattle.lk_parts.specs.Parts.{expr_of, chain}
 use Rattle.lk_parts.specs.declared.part.Statement.{Statement}
 
 chain-push : (ss : List Statement) (s : Statement) (to : ℕ) (e : Expr) → chain (ss ++ s ∷ []) to e ≡ chain ss to (expr_of s.from to (statement_node s.name s.expr e))

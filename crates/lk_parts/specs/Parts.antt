@@ -4,6 +4,7 @@
 use Rattle.std.specs.Prelude.{ℕ, Bool, true, false, not, ◌||◌, List, [], ◌∷◌, Option, Some, None, codes, if◌then◌else◌}
 use Rattle.std.specs.Option.{is_none}
 use Rattle.std.specs.Str.{bytes_eq}
+use Rattle.lk_ast.specs.Layers.{statement_node}
 use Rattle.lk_ast.specs.declared.expression.Case.{Case}
 use Rattle.lk_ast.specs.declared.expression.ChangeExpr.{roll-ChangeExpr}
 use Rattle.lk_ast.specs.declared.expression.Expr.{Expr}
@@ -155,10 +156,6 @@ var_statement k x e = record { from = k.span.start; name = Some (word_of x); exp
 
 abbrev pub plain_statement : Part → Statement
 plain_statement e = record { from = e.from; name = None; expr = e.expr }
-
-abbrev pub statement_node : Option Named → Expr → Expr → Node
-statement_node (Some x) e rest = node.Var x e rest
-statement_node None e rest = node.Seq e rest
 
 -- statements, and the expression behind them, which ends here
 abbrev pub chain : List Statement → ℕ → Expr → Expr

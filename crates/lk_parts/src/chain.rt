@@ -1,22 +1,13 @@
 //! The tree of a block's statements, from the end.
 
-ghost use Rattle.lk_parts.specs.Parts.{expr_of, statement_node, chain};
+ghost use Rattle.lk_ast.specs.Layers.{statement_node};
+ghost use Rattle.lk_parts.specs.Parts.{expr_of, chain};
 ghost use Rattle.std.specs.Prelude.{◌≡◌, IfOk};
 
 use crate::build::make_expr;
 use crate::part::Statement;
-use lk_ast::{Expr, List, NoMemory, Node, Word};
+use lk_ast::{Expr, List, NoMemory, statement_node};
 use std::alloc::Global;
-
-/// What a statement and the expression of what follows make.
-fn statement_node(name: Option<Word>, bound: Expr, rest: Expr) -> Node
-    ensures { result ≡ statement_node name bound rest }
-{
-    match name {
-        Some(name) => Node::Var(name, bound, rest),
-        None => Node::Seq(bound, rest),
-    }
-}
 
 /// A statement and the expression of what follows, which ends here.
 fn make_before(alloc: Global, statement: Statement, to: u32, rest: Expr) -> Result<Expr, NoMemory>

@@ -22,6 +22,10 @@ pub record IsUnexpected {X : Type 0} (L : Language X) (tokens : List Token) (at 
   pub next : (token : Token) (behind : List Token) → rest ≡ token ∷ behind → CanGoOn L (front ++ token ∷ []) → ⊥
   pub none : (x : X) → L tokens x → ⊥
 
+-- a front of the tokens is this, and these are left
+abbrev pub IsFront : {X : Type 0} → Language X → List Token → X → List Token → Type 0
+IsFront L tokens x rest = (front : List Token) × (tokens ≡ front ++ rest) × L front x
+
 -- the tokens are this, and nothing else
 pub record IsOnly {X : Type 0} (L : Language X) (tokens : List Token) (x : X) : Type 0 where
   pub is : L tokens x

@@ -1,10 +1,13 @@
 -- What the contract of `read_sig` owes, from the laws of the reader of all tokens.
-use Rattle.std.proofs.Common.{◌≡◌, ℕ, ◌+◌, ◌-◌, ◌≤◌, List, [], length, Ok, Err, refl, ◌∙◌, arith}
+use Rattle.std.proofs.Common.{◌≡◌, ℕ, ◌+◌, ◌-◌, ◌≤◌, List, [], length, Result, Ok, Err, IfOk, refl, ◌∙◌, arith}
 use Rattle.std.proofs.lemmas.List.{append-nil}
+use Rattle.std.specs.Borrow.{Bor}
 use Rattle.lk_ast.specs.declared.signature.SigType.{SigType}
 use Rattle.lk_ast.specs.declared.token.Token.{Token}
-use Rattle.lk_read.specs.Exact.{IsUnexpected, IsOnly}
+use Rattle.lk_read.specs.Exact.{IsUnexpected, IsFront, IsOnly}
+use Rattle.lk_read.specs.Gives.{Gives}
 use Rattle.lk_read.specs.Reader.{finish}
+use Rattle.lk_read.specs.declared.stop.Stop.{Stop}
 use Rattle.lk_read.specs.declared.stop.Stop.TheVariants.{At, Spent}
 use Rattle.lk_read.proofs.Below.{◌⊑◌, bind-finds}
 use Rattle.lk_read.proofs.Laws.{Reads, Just, weaken, bind-reads}
@@ -43,3 +46,8 @@ refused_at n left ts h = unexpected (sig_at n) IsType (decides n) ts left h
 
 pub room_lasts : (ts : List Token) → sig_at (length ts + 1) ts ≡ Err Spent → ⊥
 room_lasts ts h = sig-lasts (length ts + 1) ts (omega arith) h
+
+-- what is read off the front of the tokens
+pub fronts : (n : ℕ) (ts : List Token) (result : Result (SigType × Bor (List Token)) Stop) → Gives result (type_at n ts) → IfOk result (λ read. IsFront IsType ts read.0 read.1.now)
+fronts n ts (Ok read) h = let found = (type_at-reads n).found ts read.1.now read.0 h in (found.front, found.is, found.holds)
+fronts n ts (Err why) h = tt

@@ -1,8 +1,11 @@
 //! Types, read token by token.
 
+ghost use Rattle.lk_read.specs.Exact.{IsFront};
 ghost use Rattle.lk_read.specs.Gives.{Gives, GivesToken};
 ghost use Rattle.lk_read.specs.Reader.{many, one};
 ghost use Rattle.lk_rows.specs.Reading.{comma, is_label, field_with, fields_turn, fields_with, types_turn, types_with, unit_with, record_with, function_with, round_with, list_with, no_tags, some_tags_with, tags_with, named, base, type_at};
+ghost use Rattle.lk_rows.specs.Types.{IsType};
+ghost use Rattle.std.specs.Prelude.{IfOk};
 
 use lk_ast::{Boxed, List, SigField, SigType, Token};
 use lk_read::{
@@ -71,7 +74,7 @@ fn read_field(
     let (name, rest) = eat_label(label, tokens)?;
     let (_colon, rest) = eat_sign(rest, ":")?;
     let label = word_of(alloc, name)?;
-    let (ty, rest) = read_type(alloc, room, rest)?;
+    let (ty, rest) = read_any(alloc, room, rest)?;
     Ok((SigField { label, ty }, rest))
 }
 
@@ -150,7 +153,7 @@ fn next_type(
     ensures { Gives result (types_turn (type_at room) types tokens.now) }
 {
     let (_comma, rest) = eat_sign(tokens, ",")?;
-    let (ty, rest) = read_type(alloc, room, rest)?;
+    let (ty, rest) = read_any(alloc, room, rest)?;
     types.push(ty)?;
     Ok((types, rest))
 }
@@ -192,7 +195,7 @@ fn read_types(
 ) -> Result<(List<SigType>, &[Token]), Stop>
     ensures { Gives result (types_with (type_at room) room tokens.now) }
 {
-    let (ty, rest) = read_type(alloc, room, tokens)?;
+    let (ty, rest) = read_any(alloc, room, tokens)?;
     let mut types = List::new(alloc);
     types.push(ty)?;
     more_types(alloc, room, types, rest)
@@ -207,7 +210,7 @@ fn read_unit(alloc: Global, room: usize, tokens: &[Token]) -> Result<(SigType, &
     let (_close, rest) = eat_sign(tokens, ")")?;
     if next_is_sign(rest, "->") {
         let (_arrow, rest) = eat_sign(rest, "->")?;
-        let (answer, rest) = read_type(alloc, room, rest)?;
+        let (answer, rest) = read_any(alloc, room, rest)?;
         let answer = Boxed::new(alloc, answer)?;
         Ok((SigType::Fun(List::new(alloc), answer), rest))
     } else {
@@ -235,7 +238,7 @@ fn read_function(alloc: Global, room: usize, tokens: &[Token]) -> Result<(SigTyp
     let (params, rest) = read_types(alloc, room, tokens)?;
     let (_close, rest) = eat_sign(rest, ")")?;
     let (_arrow, rest) = eat_sign(rest, "->")?;
-    let (answer, rest) = read_type(alloc, room, rest)?;
+    let (answer, rest) = read_any(alloc, room, rest)?;
     let answer = Boxed::new(alloc, answer)?;
     Ok((SigType::Fun(params, answer), rest))
 }
@@ -263,7 +266,7 @@ fn read_list(alloc: Global, room: usize, tokens: &[Token]) -> Result<(SigType, &
     ensures { Gives result (list_with (type_at room) tokens.now) }
 {
     let (_open, rest) = eat_sign(tokens, "[")?;
-    let (item, rest) = read_type(alloc, room, rest)?;
+    let (item, rest) = read_any(alloc, room, rest)?;
     let (_close, rest) = eat_sign(rest, "]")?;
     Ok((SigType::List(Boxed::new(alloc, item)?), rest))
 }
@@ -302,11 +305,10 @@ fn read_tags(alloc: Global, room: usize, tokens: &[Token]) -> Result<(SigType, &
     }
 }
 
-/// A type off the front of the tokens, and the tokens that are left. With room of one more than the tokens it is never
-/// `Stop::Spent`.
+/// A type off the front of the tokens.
 #[cycle(types)]
 #[tactic(auto, unfolding(crate::specs::Reading::type_at, crate::specs::Reading::type_with, lk_read::specs::Reader::when, lk_read::specs::Reader::tired))]
-pub fn read_type(alloc: Global, room: usize, tokens: &[Token]) -> Result<(SigType, &[Token]), Stop>
+fn read_any(alloc: Global, room: usize, tokens: &[Token]) -> Result<(SigType, &[Token]), Stop>
     ensures { Gives result (type_at room tokens.now) }
 {
     if room == 0 {
@@ -322,4 +324,15 @@ pub fn read_type(alloc: Global, room: usize, tokens: &[Token]) -> Result<(SigTyp
     } else {
         read_base(tokens)
     }
+}
+
+/// A type off the front of the tokens, and the tokens that are left. With room of one more than the tokens it is never
+/// `Stop::Spent`.
+pub fn read_type(alloc: Global, room: usize, tokens: &[Token]) -> Result<(SigType, &[Token]), Stop>
+    // What is taken off the front is the type that is answered.
+    ensures found { IfOk result (λ read. IsFront IsType tokens.now read.0 read.1.now) }
+    // Which of the types that begin here, and where reading stops.
+    ensures reads { Gives result (type_at room tokens.now) }
+{
+    read_any(alloc, room, tokens)
 }

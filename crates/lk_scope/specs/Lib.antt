@@ -1,5 +1,3 @@
 pub mod Leaving
 pub mod Names
-pub mod Operators
 pub mod Scoped
-pub mod Statements

@@ -2,6 +2,7 @@
 -- the part of the text that its binder says, and nowhere else (Aho, Lam, Sethi and Ullman, Compilers, 2006, section 1.6.3).
 use Rattle.std.specs.Prelude.{ℕ, List, Option, Some, None, map, if◌then◌else◌}
 use Rattle.std.specs.Option.{option_map}
+use Rattle.lk_ast.specs.Layers.{Layer}
 use Rattle.lk_ast.specs.declared.declaration.Decl.{Decl}
 use Rattle.lk_ast.specs.declared.declaration.Decl.TheVariants as decl
 use Rattle.lk_ast.specs.declared.declaration.FunDef.{FunDef}
@@ -15,7 +16,6 @@ use Rattle.lk_ast.specs.declared.expression.Node.{Node, out-Node, fold-Node}
 use Rattle.lk_ast.specs.declared.expression.Node.TheOpen.{Node-F, Case-F, ChangeExpr-F, LambdaExpr-F, LastCase-F, PartExpr-F}
 use Rattle.lk_ast.specs.declared.expression.Node.TheVariants as node
 use Rattle.lk_ast.specs.declared.expression.PartExpr.{PartExpr, fold-PartExpr}
-use Rattle.lk_scope.specs.Operators.{Layer}
 use Rattle.lk_scope.specs.Names.{Names, no_names, is_local, bind, bind_all, bind_some}
 
 -- something that depends on the names in scope

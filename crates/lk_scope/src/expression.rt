@@ -1,36 +1,18 @@
 //! Expressions under the names in scope.
 
-ghost use Rattle.lk_ast.specs.declared.expression.Expr.{size-Expr};
-ghost use Rattle.lk_scope.specs.Names.{Names as TheNames, bind, bind_all, bind_some};
-ghost use Rattle.lk_scope.specs.Statements.{before, is_statement};
+ghost use Rattle.lk_scope.specs.Names.{bind, bind_all};
 ghost use Rattle.lk_scope.specs.Scoped.{all_in, call_node, function_in, scoped, scoped_case, scoped_change, scoped_lambda, scoped_last, scoped_node, scoped_part, word_node};
 ghost use Rattle.lk_ast.specs.declared.expression.Node.{out-Node};
-ghost use Rattle.std.specs.Prelude.{◌≡◌, ◌<◌, IfOk, IfSome, OnOk, is_some, map};
-ghost use Rattle.std.specs.Option.{option_copied, option_map};
+ghost use Rattle.std.specs.Prelude.{◌≡◌, IfOk, OnOk, map};
+ghost use Rattle.std.specs.Option.{option_map};
 
 use crate::names::Names;
-use crate::operators::{with_operand, with_operands};
-use crate::statements::{Statement, make_chain};
-use crate::words::{copy_keys, copy_some, copy_word, copy_words};
 use lk_ast::{
-    Boxed, Case, ChangeExpr, Expr, LambdaExpr, LastCase, List, NoMemory, Node, PartExpr, Text, Word,
+    Boxed, Case, ChangeExpr, Expr, LambdaExpr, LastCase, List, NoMemory, Node, PartExpr, Statement,
+    Text, Word, copy_keys, copy_some, copy_word, copy_words, first_statement, make_chain,
+    with_operand, with_operands,
 };
 use std::alloc::Global;
-
-/// The first statement of a block with its name, if it binds one, and the rest of the block. `None` where there is no
-/// statement.
-fn first_statement(e: &Expr) -> Option<(Option<&Word>, &Expr, &Expr)>
-    ensures found { is_some result ≡ is_statement (out-Node e.now.node) }
-    ensures before { IfSome result (λ s. (names : TheNames) → scoped e.now names ≡ before (record { span = e.now.span; name = option_copied s.0; expr = scoped s.1.now names }) (scoped s.2.now (bind_some (option_copied s.0) names))) }
-    ensures bound { IfSome result (λ s. size-Expr s.1.now < size-Expr e.now) }
-    ensures rest { IfSome result (λ s. size-Expr s.2.now < size-Expr e.now) }
-{
-    match e.node.get() {
-        Node::Var(name, bound, rest) => Some((Some(name), bound, rest)),
-        Node::Seq(statement, rest) => Some((None, statement, rest)),
-        _ => None,
-    }
-}
 
 /// An expression. The loop goes down the rests of a block, of which there may be more than the stack has room for.
 #[cycle(scoped)]

@@ -6,11 +6,8 @@
 
 mod expression;
 mod names;
-mod operators;
 mod program;
-mod statements;
 #[cfg(test)]
 mod tests;
-mod words;
 
 pub use program::scoped;

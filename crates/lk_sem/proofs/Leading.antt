@@ -24,7 +24,8 @@ use Rattle.lk_sem.specs.Run.{Run, Out, Goes, Trapped, Spent, Stuck, Crossing, Wi
 use Rattle.lk_sem.specs.Scope.{names_of}
 use Rattle.lk_sem.specs.Source.{Point, under, source, act}
 use Rattle.lk_sem.specs.SourceRuns.{ended}
-use Rattle.lk_sem.specs.Syntax.{layer, parts_of, is_plain}
+use Rattle.lk_ast.specs.Layers.{layer}
+use Rattle.lk_sem.specs.Syntax.{parts_of, is_plain}
 use Rattle.lk_sem.specs.Values.{text, unit, list_in}
 use Rattle.lk_sem.specs.declared.machine.Frame.{Frame}
 use Rattle.lk_sem.specs.declared.machine.Frame.TheVariants.{Part, Turn, Back}

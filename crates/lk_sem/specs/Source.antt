@@ -12,7 +12,8 @@ use Rattle.lk_ast.specs.declared.value.Value.TheVariants as value
 use Rattle.lk_sem.specs.Evaluation.{Printing, Act, Give, Tail, Goto, Uses, Each, Lacks, Language, eval}
 use Rattle.lk_sem.specs.Names.{Names, bind, lookup, bind_all, pairs, function_named}
 use Rattle.lk_sem.specs.Run.{Run, Out}
-use Rattle.lk_sem.specs.Syntax.{Layer, layer, parts_of, is_plain}
+use Rattle.lk_ast.specs.Layers.{Layer, layer}
+use Rattle.lk_sem.specs.Syntax.{parts_of, is_plain}
 use Rattle.lk_sem.specs.Values.{text, text_in, bool_in, list_in, is_unit}
 
 -- an expression under the values of its local names

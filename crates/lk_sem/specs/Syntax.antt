@@ -1,20 +1,8 @@
--- One level of the syntax tree.
+-- The parts of an expression.
 use Rattle.std.specs.Prelude.{Bool, true, false, List, [], ◌∷◌}
-use Rattle.lk_ast.specs.declared.expression.Case.{Case}
-use Rattle.lk_ast.specs.declared.expression.ChangeExpr.{ChangeExpr}
+use Rattle.lk_ast.specs.Layers.{Layer}
 use Rattle.lk_ast.specs.declared.expression.Expr.{Expr}
-use Rattle.lk_ast.specs.declared.expression.LambdaExpr.{LambdaExpr}
-use Rattle.lk_ast.specs.declared.expression.LastCase.{LastCase}
-use Rattle.lk_ast.specs.declared.expression.Node.{Node, out-Node}
 use Rattle.lk_ast.specs.declared.expression.Node.TheOpen.{Node-F}
-use Rattle.lk_ast.specs.declared.expression.PartExpr.{PartExpr}
-
--- a node with the expressions in it
-abbrev pub Layer : Type 0
-Layer = Node-F Node Case ChangeExpr Expr LambdaExpr LastCase PartExpr
-
-abbrev pub layer : Expr → Layer
-layer e = out-Node e.node
 
 -- The parts that are evaluated first, in order; the others, as the branches of an `if`, are evaluated in the stead of
 -- their node or not at all. Nodes that have no rule yet have no parts here.

@@ -2,7 +2,7 @@
 
 ghost use Rattle.std.specs.Prelude.{◌≡◌, IfOk};
 ghost use Rattle.lk_sem.specs.Names.{function_named};
-ghost use Rattle.lk_sem.specs.Syntax.{layer};
+ghost use Rattle.lk_ast.specs.Layers.{layer};
 ghost use Rattle.lk_sem.specs.Scope.{names_of};
 ghost use Rattle.lk_sem.specs.Evaluation.{Tail};
 ghost use Rattle.lk_sem.specs.Source.{act, call, under, after_unit as after_value};

@@ -2,7 +2,8 @@
 
 ghost use Rattle.std.specs.Prelude.{◌≡◌, slice_get};
 ghost use Rattle.std.specs.Option.{option_copied};
-ghost use Rattle.lk_sem.specs.Syntax.{layer, parts_of};
+ghost use Rattle.lk_ast.specs.Layers.{layer};
+ghost use Rattle.lk_sem.specs.Syntax.{parts_of};
 
 use lk_ast::{Expr, Node};
 

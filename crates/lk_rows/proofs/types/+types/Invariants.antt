@@ -7,8 +7,8 @@ use Rattle.lk_rows.proofs.types.+types.Given as goal
 abbrev level : ℕ → ℕ
 level room = room * 8
 
-abbrev pub decreases-read_type : goal.decreases-read_type
-decreases-read_type l = level l.room
+abbrev pub decreases-read_any : goal.decreases-read_any
+decreases-read_any l = level l.room
 
 abbrev pub decreases-read_field : goal.decreases-read_field
 decreases-read_field l = level l.room + 1

@@ -2,7 +2,7 @@ use Rattle.std.proofs.Common.{◌≡◌, map, take, ◌≤◌}
 use Rattle.lk_ast.specs.declared.expression.Expr.{size-Expr}
 use Rattle.lk_scope.specs.Leaving.{without}
 use Rattle.lk_scope.specs.Scoped.{all_in, scoped, scoped_case, scoped_part}
-use Rattle.lk_scope.specs.Statements.{chain}
+use Rattle.lk_ast.specs.Layers.{chain}
 use Rattle.lk_scope.proofs.expression.+scoped.Given as goal
 
 abbrev pub invariant-cases-loop-one : goal.invariant-cases-loop-one

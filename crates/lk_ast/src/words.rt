@@ -3,7 +3,10 @@
 ghost use Rattle.std.specs.Prelude.{◌≡◌, IfOk};
 ghost use Rattle.std.specs.Option.{option_copied};
 
-use lk_ast::{List, NoMemory, SortKey, Word};
+use crate::expression::SortKey;
+use crate::list::List;
+use crate::memory::NoMemory;
+use crate::place::Word;
 use std::alloc::Global;
 
 /// The same word once more.

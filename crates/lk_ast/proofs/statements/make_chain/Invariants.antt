@@ -1,6 +1,6 @@
 use Rattle.std.proofs.Common.{◌≡◌, length}
-use Rattle.lk_scope.specs.Statements.{chain}
-use Rattle.lk_scope.proofs.statements.make_chain.Given as goal
+use Rattle.lk_ast.specs.Layers.{chain}
+use Rattle.lk_ast.proofs.statements.make_chain.Given as goal
 
 abbrev pub invariant-loop-statement : goal.invariant-loop-statement
 invariant-loop-statement l = chain l.list l.rest ≡ chain l.fn.statements l.fn.last

@@ -1,5 +1,5 @@
 use Rattle.std.proofs.Common.{◌≡◌, take}
-use Rattle.lk_scope.proofs.words.copy_words.Given as goal
+use Rattle.lk_ast.proofs.words.copy_words.Given as goal
 
 abbrev pub invariant-loop-word : goal.invariant-loop-word
 invariant-loop-word l = l.copies ≡ take l.word-index l.words

@@ -1,17 +1,25 @@
--- Operators with other operands.
+-- One level of the syntax tree, and trees made level by level.
+use Rattle.std.specs.Prelude.{Bool, true, false, List, [], ◌∷◌, Option, Some, None}
 use Rattle.lk_ast.specs.declared.expression.Case.{Case}
 use Rattle.lk_ast.specs.declared.expression.ChangeExpr.{ChangeExpr}
 use Rattle.lk_ast.specs.declared.expression.Expr.{Expr}
 use Rattle.lk_ast.specs.declared.expression.LambdaExpr.{LambdaExpr}
 use Rattle.lk_ast.specs.declared.expression.LastCase.{LastCase}
-use Rattle.lk_ast.specs.declared.expression.Node.{Node}
+use Rattle.lk_ast.specs.declared.expression.Node.{Node, out-Node}
 use Rattle.lk_ast.specs.declared.expression.Node.TheOpen.{Node-F}
 use Rattle.lk_ast.specs.declared.expression.Node.TheVariants as node
 use Rattle.lk_ast.specs.declared.expression.PartExpr.{PartExpr}
+use Rattle.lk_ast.specs.declared.place.Word.{Word}
+use Rattle.lk_ast.specs.declared.statements.Statement.{Statement}
 
 -- a node with the expressions in it
 abbrev pub Layer : Type 0
 Layer = Node-F Node Case ChangeExpr Expr LambdaExpr LastCase PartExpr
+
+abbrev pub layer : Expr → Layer
+layer e = out-Node e.node
+
+-- ---- operators with other operands
 
 -- the node with two operands that this one is, with these in place of its own
 abbrev pub with_operands : Layer → Expr → Expr → Node
@@ -43,3 +51,24 @@ with_operand (Node-F.Tl d) e = node.Tl e
 with_operand (Node-F.Empty d) e = node.Empty e
 with_operand (Node-F.IntToString d) e = node.IntToString e
 with_operand other e = node.Print e
+
+-- ---- statements, and the expression behind them
+
+-- whether an expression is a block with statements
+abbrev pub is_statement : Layer → Bool
+is_statement (Node-F.Var x e rest) = true
+is_statement (Node-F.Seq e rest) = true
+is_statement other = false
+
+-- what a statement and the expression of what follows make
+abbrev pub statement_node : Option Word → Expr → Expr → Node
+statement_node (Some x) e rest = node.Var x e rest
+statement_node None e rest = node.Seq e rest
+
+-- a statement, and what follows
+abbrev pub before : Statement → Expr → Expr
+before s rest = record { span = s.span; node = statement_node s.name s.expr rest }
+
+abbrev pub chain : List Statement → Expr → Expr
+chain [] last = last
+chain (s ∷ ss) last = before s (chain ss last)

@@ -1,5 +1,5 @@
 use Rattle.std.proofs.Common.{◌≡◌, take}
-use Rattle.lk_scope.proofs.words.copy_keys.Given as goal
+use Rattle.lk_ast.proofs.words.copy_keys.Given as goal
 
 abbrev pub invariant-loop-key : goal.invariant-loop-key
 invariant-loop-key l = l.copies ≡ take l.key-index l.keys

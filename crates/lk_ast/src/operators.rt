@@ -1,10 +1,10 @@
 //! Operators with other operands.
 
+ghost use Rattle.lk_ast.specs.Layers.{with_operand, with_operands};
 ghost use Rattle.lk_ast.specs.declared.expression.Node.{out-Node};
-ghost use Rattle.lk_scope.specs.Operators.{with_operand, with_operands};
 ghost use Rattle.std.specs.Prelude.{◌≡◌};
 
-use lk_ast::{Expr, Node};
+use crate::expression::{Expr, Node};
 
 /// The node with these two operands in place of its own.
 pub fn with_operands(node: &Node, a: Expr, b: Expr) -> Node
