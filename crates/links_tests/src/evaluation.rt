@@ -1,8 +1,8 @@
 //! Evaluations of programs that the parser doesn't read yet.
 
 use crate::trees::{call, concat, expr, function, list, name, program, text, word};
-use lk_ast::{Event, Loc, Node, Program, Text, value_text};
-use lk_sem::{SourceEnd, SourceRun, main_of, source_run};
+use lk_ast::{Event, Loc, Node, Program, Text, main_of, value_text};
+use lk_sem::{SourceEnd, SourceRun, source_run};
 use std::alloc::Global;
 use std::process::Abort;
 use std::test::Fail;

@@ -1,5 +1,6 @@
 pub mod formers
 pub mod BaseOrder
+pub mod Functions
 pub mod JsonText
 pub mod Layers
 pub mod Rows

@@ -1,5 +1,6 @@
 -- The answers to a command line: which come, with their causes; what is printed for each, and the status.
 use Rattle.std.specs.Prelude.{◌≡◌, ◌⊎◌, ℕ, List, [], ◌∷◌, Option, Some, None, Result, Ok, Err, MatchResult, length, ◌<◌, codes, decimal}
+use Rattle.lk_ast.specs.Functions.{main_of}
 use Rattle.lk_ast.specs.declared.place.Span.{Span}
 use Rattle.lk_ast.specs.declared.declaration.FunDef.{FunDef}
 use Rattle.lk_ast.specs.declared.declaration.Program.{Program}
@@ -8,7 +9,6 @@ use Rattle.lk_outside.specs.Sink.{Appends, AppendsFront}
 use Rattle.lk_parse.specs.Refusals.{IsProgramText, IsRefused}
 use Rattle.lk_parse.specs.declared.error.ParseError.{ParseError}
 use Rattle.lk_parse.specs.declared.error.ParseError.TheVariants as parse
-use Rattle.lk_sem.specs.Names.{main_of}
 use Rattle.lk_sem.specs.SourceRuns.{IsRunOf}
 use Rattle.lk_sem.specs.Source.{session}
 use Rattle.lk_sem.specs.declared.run.SourceEnd.{SourceEnd}

@@ -10,10 +10,10 @@ ghost use Rattle.lk_sem.specs.declared.run.SourceRun.{SourceRun as TheSourceRun}
 use crate::answer::{Refusal, answer_status, print_answer};
 use crate::command::{SourceCommand, read_words};
 use crate::{FUEL, READ_MAX};
-use lk_ast::{Program, Text};
+use lk_ast::{Program, Text, main_of};
 use lk_outside::{Files, OutFault, Sink};
 use lk_parse::parse;
-use lk_sem::{SourceRun, main_of, source_run};
+use lk_sem::{SourceRun, source_run};
 use std::alloc::Global;
 
 /// All that the program does: reads the words, does what they ask for over the files, prints to the sink and gives the

@@ -5,6 +5,7 @@ use Rattle.std.specs.Borrow.{Bor}
 use Rattle.std.specs.Option.{option_map}
 use Rattle.std.proofs.lemmas.List.{map-append, reverse-append}
 use Rattle.std.proofs.lemmas.Option.{slice_get-map}
+use Rattle.lk_ast.specs.Layers.{layer}
 use Rattle.lk_ast.specs.declared.declaration.Program.{Program}
 use Rattle.lk_ast.specs.declared.event.Event.{Event}
 use Rattle.lk_ast.specs.declared.event.Event.TheVariants.{Print, Enter, Leave}
@@ -24,7 +25,6 @@ use Rattle.lk_sem.specs.Run.{Run, Out, Goes, Trapped, Spent, Stuck, Crossing, Wi
 use Rattle.lk_sem.specs.Scope.{names_of}
 use Rattle.lk_sem.specs.Source.{Point, under, source, act}
 use Rattle.lk_sem.specs.SourceRuns.{ended}
-use Rattle.lk_ast.specs.Layers.{layer}
 use Rattle.lk_sem.specs.Syntax.{parts_of, is_plain}
 use Rattle.lk_sem.specs.Values.{text, unit, list_in}
 use Rattle.lk_sem.specs.declared.machine.Frame.{Frame}

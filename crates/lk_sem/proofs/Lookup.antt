@@ -4,10 +4,11 @@ use Rattle.std.specs.Prelude.{Bool, true, false, ◌&&◌, ◌==◌, Option, Som
 use Rattle.std.specs.Option.{option_map}
 use Rattle.std.proofs.lemmas.Bool.{eqb-true}
 use Rattle.std.proofs.lemmas.List.{map-append, reverse-append}
+use Rattle.lk_ast.specs.Functions.{functions_of, is_main, main_of}
 use Rattle.lk_ast.specs.declared.declaration.FunDef.{FunDef}
 use Rattle.lk_ast.specs.declared.declaration.Program.{Program}
 use Rattle.lk_sem.specs.Names as spec
-use Rattle.lk_sem.specs.Names.{lookup, functions_of, is_main, main_of}
+use Rattle.lk_sem.specs.Names.{lookup}
 use Rattle.lk_sem.specs.Scope.{names_of}
 use Rattle.lk_sem.specs.declared.names.Binding.{Binding}
 

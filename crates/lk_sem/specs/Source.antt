@@ -1,5 +1,7 @@
 -- The language of programs.
 use Rattle.std.specs.Prelude.{ℕ, Bool, true, false, List, [], ◌∷◌, ◌++◌, Option, Some, None, map}
+use Rattle.lk_ast.specs.Functions.{function_named}
+use Rattle.lk_ast.specs.Layers.{Layer, layer}
 use Rattle.lk_ast.specs.declared.declaration.FunDef.{FunDef}
 use Rattle.lk_ast.specs.declared.declaration.Program.{Program}
 use Rattle.lk_ast.specs.declared.expression.Expr.{Expr}
@@ -10,9 +12,8 @@ use Rattle.lk_ast.specs.declared.table.Base.TheVariants as base
 use Rattle.lk_ast.specs.declared.value.Value.{Value}
 use Rattle.lk_ast.specs.declared.value.Value.TheVariants as value
 use Rattle.lk_sem.specs.Evaluation.{Printing, Act, Give, Tail, Goto, Uses, Each, Lacks, Language, eval}
-use Rattle.lk_sem.specs.Names.{Names, bind, lookup, bind_all, pairs, function_named}
+use Rattle.lk_sem.specs.Names.{Names, bind, lookup, bind_all, pairs}
 use Rattle.lk_sem.specs.Run.{Run, Out}
-use Rattle.lk_ast.specs.Layers.{Layer, layer}
 use Rattle.lk_sem.specs.Syntax.{parts_of, is_plain}
 use Rattle.lk_sem.specs.Values.{text, text_in, bool_in, list_in, is_unit}
 

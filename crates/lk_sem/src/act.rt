@@ -1,7 +1,7 @@
 //! What a node does with the values of its parts.
 
 ghost use Rattle.std.specs.Prelude.{◌≡◌, IfOk};
-ghost use Rattle.lk_sem.specs.Names.{function_named};
+ghost use Rattle.lk_ast.specs.Functions.{function_named};
 ghost use Rattle.lk_ast.specs.Layers.{layer};
 ghost use Rattle.lk_sem.specs.Scope.{names_of};
 ghost use Rattle.lk_sem.specs.Evaluation.{Tail};
@@ -9,10 +9,10 @@ ghost use Rattle.lk_sem.specs.Source.{act, call, under, after_unit as after_valu
 ghost use Rattle.lk_sem.specs.Values.{is_unit};
 ghost use Rattle.lk_sem.specs.Acts.{IsAct, concat_all, only_of};
 
-use crate::functions::find_function;
 use crate::names::{Scope, bind_params, find, with};
 use lk_ast::{
     Base, Expr, List, Loc, NoMemory, Node, Program, Shared, Span, Text, Trap, Value, copy_value,
+    find_function,
 };
 use std::alloc::Global;
 

@@ -6,13 +6,11 @@
 #![tactic(auto)]
 
 mod act;
-mod functions;
 mod machine;
 mod names;
 mod run;
 mod source;
 mod syntax;
 
-pub use functions::main_of;
 pub use run::{SourceEnd, SourceRun};
 pub use source::source_run;

@@ -2,15 +2,14 @@
 
 ghost use Rattle.std.specs.Prelude.{◌≡◌, [], length, IfOk, IfSome, IsSome};
 ghost use Rattle.lk_sem.specs.Machine.{Ends, outcome};
-ghost use Rattle.lk_sem.specs.Names.{main_of as main_in};
+ghost use Rattle.lk_ast.specs.Functions.{main_of as main_in};
 ghost use Rattle.lk_sem.specs.SourceRuns.{IsRunOf};
 ghost use Rattle.lk_sem.specs.Source.{session};
 
-use crate::functions::main_of;
 use crate::machine::{Machine, Next};
 use crate::names::bind_params;
 use crate::run::{SourceEnd, SourceRun};
-use lk_ast::{Base, FunDef, List, Loc, NoMemory, Program, Shared, Text, Value};
+use lk_ast::{Base, FunDef, List, Loc, NoMemory, Program, Shared, Text, Value, main_of};
 use std::alloc::Global;
 
 /// Evaluates the `main` of a program, which has one, with this argument and at most this fuel.

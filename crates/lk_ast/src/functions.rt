@@ -2,9 +2,11 @@
 
 ghost use Rattle.std.specs.Prelude.{◌≡◌};
 ghost use Rattle.std.specs.Option.{option_copied};
-ghost use Rattle.lk_sem.specs.Names.{functions_in, function_named, is_main as is_main_function, main_of as main_in};
+ghost use Rattle.lk_ast.specs.Functions.{functions_in, function_named, is_main as is_main_function, main_of as main_in};
 
-use lk_ast::{Decl, FunDef, Loc, Program, Text};
+use crate::declaration::{Decl, FunDef, Program};
+use crate::place::Loc;
+use crate::text::Text;
 use std::slice;
 
 /// Where a session begins: the first function `main` with one parameter and the mark of the client.
