@@ -10,4 +10,5 @@ mod program;
 #[cfg(test)]
 mod tests;
 
+pub use names::Names;
 pub use program::scoped;

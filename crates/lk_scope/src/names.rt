@@ -11,7 +11,7 @@ use std::alloc::Global;
 use std::collections::BTreeSet;
 use std::marker::Model;
 
-/// The local names in scope.
+/// A set of names, as of the local names in scope.
 #[derive(Drop)]
 pub struct Names {
     names: BTreeSet<String>,
@@ -48,7 +48,7 @@ impl Names {
     }
 
     /// One more name. The answer is whether it was a new one.
-    fn insert(&mut self, alloc: Global, name: &str) -> Result<bool, NoMemory>
+    pub fn insert(&mut self, alloc: Global, name: &str) -> Result<bool, NoMemory>
         ensures inserted { OnOk result (self.new ≡ set.insert self.old name.now) }
         ensures added { IfOk result (λ added. added ≡ not (is_local self.old name.now)) }
     {

@@ -1,0 +1,5 @@
+pub mod Expressions
+pub mod Faults
+pub mod Programs
+pub mod Repeats
+pub mod Types
