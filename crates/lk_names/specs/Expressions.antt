@@ -17,14 +17,15 @@ use Rattle.lk_names.specs.Repeats.{Item, items_fault, words_fault, keys_fault}
 use Rattle.lk_names.specs.declared.error.NameError.TheVariants.{Unbound}
 use Rattle.lk_names.specs.declared.globals.Globals.{Globals}
 
+-- a use of a name at this place, where the name has to be bound
 abbrev pub unless_bound : Bool → Span → Fault
 unless_bound bound span = if bound then None else Some (Unbound span)
 
--- a local name of this word is seen
+-- as a local name, which has to be in scope
 abbrev pub local_fault : Names → Span → List ℕ → Fault
 local_fault names span x = unless_bound (is_local names x) span
 
--- a table, or a function, of this word is seen, and no local name hides it
+-- as one of the tables, or of the functions, which has to be declared and which no local name may hide
 abbrev pub global_fault : Names → Names → Span → List ℕ → Fault
 global_fault declared names span x = unless_bound (is_local declared x && not (is_local names x)) span
 
@@ -115,7 +116,7 @@ expr_in e names = e.node e.span names
 abbrev pub fault : Globals → Expr → In Fault
 fault globals = fold-Expr (Span → In Fault) (In Item) (In Fault) (In Fault) (In Fault) (In Fault) (In Item) (node_in globals) case_in (change_in globals) expr_in lambda_in last_in part_in
 
--- what stands in an expression of this span
+-- the same of what stands in an expression of this span, and of what stands there in lists
 abbrev pub node_fault : Globals → Node → Span → In Fault
 node_fault globals = fold-Node (Span → In Fault) (In Item) (In Fault) (In Fault) (In Fault) (In Fault) (In Item) (node_in globals) case_in (change_in globals) expr_in lambda_in last_in part_in
 

@@ -1,6 +1,6 @@
--- The names of a program. Tables and functions share one scope, the whole text behind them: a function's body sees the
--- tables and functions before it, itself, and all functions of its `mutual` block (static scope, as in Aho, Lam, Sethi and
--- Ullman, Compilers, 2006, section 1.6.3).
+-- The names of a program. A function's body sees the tables and functions before it in the text, itself, and all functions
+-- of its `mutual` block: static scope, by the text alone (Aho, Lam, Sethi and Ullman, Compilers, 2006, section 1.6.3).
+-- No name is declared twice.
 use Rattle.std.specs.Prelude.{◌≡◌, List, [], ◌∷◌, ◌++◌, Option, Some, None, map, bytes_eq}
 use Rattle.lk_ast.specs.Functions.{functions_in, main_of}
 use Rattle.lk_ast.specs.declared.declaration.Decl.{Decl}
@@ -35,7 +35,7 @@ names_of decl = tables_named decl ++ functions_named decl
 abbrev pub no_globals : Globals
 no_globals = record { tables = no_names; functions = no_names }
 
--- what is seen in a declaration, and behind it
+-- what is seen in a declaration and behind it, where these tables and functions are seen before it
 abbrev pub with_decl : Decl → Globals → Globals
 with_decl decl globals = record { tables = bind_all (tables_named decl) globals.tables; functions = bind_all (functions_named decl) globals.functions }
 

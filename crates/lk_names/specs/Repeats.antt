@@ -1,4 +1,6 @@
--- Lists in which no name may stand twice: parameters, the labels of a record or of a table, the tags of a switch.
+-- Lists in which no name may stand twice: parameters, the labels of a record or of a table, the tags of a switch. So each
+-- label of a record means one field, and each tag of a switch one case (Pierce, Types and Programming Languages, 2002,
+-- sections 11.8 and 11.10).
 use Rattle.std.specs.Prelude.{List, [], ◌∷◌, Some, None, map, if◌then◌else◌}
 use Rattle.lk_ast.specs.declared.declaration.ColumnDecl.{ColumnDecl}
 use Rattle.lk_ast.specs.declared.expression.SortKey.{SortKey}

@@ -1,4 +1,5 @@
--- The types of signatures: no label stands twice in a record type, and no tag twice in a variant type.
+-- The types of signatures: no label stands twice in a record type, and no tag twice in a variant type (Pierce, Types and
+-- Programming Languages, 2002, sections 11.8 and 11.10).
 use Rattle.std.specs.Prelude.{None}
 use Rattle.lk_ast.specs.declared.signature.SigField.{SigField, fold-SigField}
 use Rattle.lk_ast.specs.declared.signature.SigType.{SigType, fold-SigType}
