@@ -11,7 +11,7 @@ use Rattle.lk_ast.specs.declared.token.TokenKind.{TokenKind}
 use Rattle.lk_ast.specs.declared.token.TokenKind.TheVariants as kind
 use Rattle.lk_parse.specs.Pieces.{is_white, is_no_feed, is_word_byte, IsPiece}
 use Rattle.lk_parse.specs.Scanner.{start_of, Begins, Takes}
-use Rattle.lk_parse.specs.Tokens.{IsLexeme}
+use Rattle.lk_parse.specs.Tokens.{IsLexeme, IsTaken}
 use Rattle.lk_parse.specs.declared.start.Start.{Start}
 use Rattle.lk_parse.specs.declared.start.Start.TheVariants.{White, Comment, Word, Tag, Int, Text}
 use Rattle.lk_parse.proofs.Lexemes.{Extent, extent_at, run_passes, run_taken, run_cons}
@@ -21,7 +21,7 @@ use Rattle.lk_parse.proofs.Lexemes.{Extent, extent_at, run_passes, run_taken, ru
 is_white_byte : (c : ℕ) → start_of c ≡ White → is_white c ≡ true
 is_white_byte c h = grind (arith, nat_tests)
 
-is_hash : (c : ℕ) → start_of c ≡ Comment → c ≡ 35
+pub is_hash : (c : ℕ) → start_of c ≡ Comment → c ≡ 35
 is_hash c h = grind (arith, nat_tests)
 
 is_small_letter : (c : ℕ) → start_of c ≡ Word → is_ascii_lowercase c ≡ true
@@ -116,17 +116,21 @@ tag_takes (c ∷ bytes) utf8 b =
 white_small : (c : ℕ) → is_white c ≡ true → c < 128
 white_small c h = grind (arith, nat_tests)
 
+-- whatever follows
+pub white_taken : (c : ℕ) (rest : List ℕ) → start_of c ≡ White → IsTaken (c ∷ []) rest None
+white_taken c rest begins = record { piece = IsPiece.white c (is_white_byte c begins); longest = longest }
+  where
+    longest : (u v : List ℕ) → (c ∷ []) ++ rest ≡ u ++ v → IsLexeme u → length u ≤ 1
+    longest [] v e h = omega arith
+    longest (d ∷ u) v e h =
+        let same : d ≡ c = cc in
+        omega (arith, ap length (extent_at White d u (ap start_of same ∙ begins) h))
+
 pub white_takes : (text : List ℕ) → IsUtf8 text → Begins text White → Takes text (record { len = 1; kind = None })
 white_takes [] utf8 b = let none = b.some in absurd (omega arith)
 white_takes (c ∷ bytes) utf8 b = record {
   some = omega arith;
   fits = omega arith;
   boundary = IsCharBoundary-after_ascii (c ∷ bytes) 0 utf8 (omega arith) (white_small c (is_white_byte c b.is));
-  taken = record { piece = IsPiece.white c (is_white_byte c b.is); longest = longest };
+  taken = white_taken c bytes b.is;
 }
-  where
-    longest : (u v : List ℕ) → (c ∷ []) ++ bytes ≡ u ++ v → IsLexeme u → length u ≤ 1
-    longest [] v e h = omega arith
-    longest (d ∷ u) v e h =
-        let same : d ≡ c = cc in
-        omega (arith, ap length (extent_at White d u (ap start_of same ∙ b.is) h))

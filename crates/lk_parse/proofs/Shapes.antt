@@ -18,7 +18,7 @@ use Rattle.lk_parse.proofs.Digits.{integer_digits}
 
 -- ---- what a byte starts
 
-white_starts : (c : ℕ) → is_white c ≡ true → start_of c ≡ White
+pub white_starts : (c : ℕ) → is_white c ≡ true → start_of c ≡ White
 white_starts c h = grind (arith, nat_tests)
 
 word_starts : (c : ℕ) → is_ascii_lowercase c ≡ true → start_of c ≡ Word

@@ -39,7 +39,7 @@ content_same w v m n x y (IsContent.escape c d {bytes = a} {meant = b} h k) (IsC
 -- ---- the meaning of UTF-8 is UTF-8
 
 -- what stands before an ASCII byte and behind it
-ascii_apart : (front rest : List ℕ) (c : ℕ) → c < 128 → IsUtf8 (front ++ c ∷ rest) → IsUtf8 front × IsUtf8 rest
+pub ascii_apart : (front rest : List ℕ) (c : ℕ) → c < 128 → IsUtf8 (front ++ c ∷ rest) → IsUtf8 front × IsUtf8 rest
 ascii_apart front rest c small utf8 =
     let bytes = front ++ c ∷ rest in
     let fits : length front < length bytes = omega (arith, length-append front (c ∷ rest)) in
@@ -48,7 +48,7 @@ ascii_apart front rest c small utf8 =
     let behind = IsUtf8-drop bytes (length front + 1) utf8 (IsCharBoundary-after_ascii bytes (length front) utf8 fits here) in
     (subst IsUtf8 (take_at front (c ∷ rest) (length front) refl) before, subst IsUtf8 (drop-append-add front (c ∷ rest) 1) behind)
 
-ascii_one : (c : ℕ) → c < 128 → IsUtf8 (c ∷ [])
+pub ascii_one : (c : ℕ) → c < 128 → IsUtf8 (c ∷ [])
 ascii_one c small = IsUtf8-from_ascii (c ∷ []) (IsAscii-from_all (c ∷ []) (All-cons (λ b. b < 128) c [] small (All-nil (λ b. b < 128))))
 
 -- an escape is two ASCII bytes, and means one
@@ -59,7 +59,7 @@ escape_utf8 front rest c d means utf8 =
     let rest_utf8 = (ascii_apart [] rest c small.0 apart.1).1 in
     IsUtf8-append (front ++ d ∷ []) rest (IsUtf8-append front (d ∷ []) apart.0 (ascii_one d small.1)) rest_utf8
 
-meaning_utf8 : (front w m rest : List ℕ) → IsContent w m → IsUtf8 (front ++ (w ++ rest)) → IsUtf8 (front ++ (m ++ rest))
+pub meaning_utf8 : (front w m rest : List ℕ) → IsContent w m → IsUtf8 (front ++ (w ++ rest)) → IsUtf8 (front ++ (m ++ rest))
 meaning_utf8 front w m rest IsContent.nothing utf8 = utf8
 meaning_utf8 front w m rest (IsContent.plain c {bytes = v} {meant = n} h k) utf8 =
     subst IsUtf8 (append_assoc front (c ∷ []) (n ++ rest)) (meaning_utf8 (front ++ c ∷ []) v n rest k (subst IsUtf8 (sym (append_assoc front (c ∷ []) (v ++ rest))) utf8))
@@ -75,7 +75,7 @@ split c bytes m len is closes = ap (λ (d : ℕ). d ∷ bytes) is ∙ ap (λ (z 
 literal_length : (bytes m : List ℕ) (len : ℕ) → Closes bytes len m → length (34 ∷ (take len bytes ++ 34 ∷ [])) ≡ len + 2
 literal_length bytes m len closes = let fits = closes.fits in let front = length-take-le len bytes (omega arith) in omega (arith, length-append (take len bytes) (34 ∷ []), front)
 
-literal_taken : (w m rest : List ℕ) → IsContent w m → IsTaken (34 ∷ (w ++ 34 ∷ [])) rest (Some (kind.Text m))
+pub literal_taken : (w m rest : List ℕ) → IsContent w m → IsTaken (34 ∷ (w ++ 34 ∷ [])) rest (Some (kind.Text m))
 literal_taken w m rest h = record { piece = IsPiece.text w m h; longest = longest }
   where
     longest : (u v : List ℕ) → (34 ∷ (w ++ 34 ∷ [])) ++ rest ≡ u ++ v → IsLexeme u → length u ≤ length (34 ∷ (w ++ 34 ∷ []))
