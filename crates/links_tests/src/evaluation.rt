@@ -7,31 +7,37 @@ use std::alloc::Global;
 use std::process::Abort;
 use std::test::Fail;
 
-/// The events, a word each, and the end.
-fn shown(alloc: Global, run: &SourceRun) -> Result<String, Fail> {
-    let mut shown = String::new(alloc);
-    for event in run.log.as_slice() {
+/// Writes the events, a word each.
+fn put_events(line: &mut String, log: &[Event]) -> Result<(), Fail> {
+    for event in log {
         match event {
-            Event::Print(text) => shown.push_str(format!(in alloc;
-                "print {}, ",
-                text.as_str()
-            )?.as_str())?,
-            Event::Enter => shown.push_str("enter, ")?,
-            Event::Leave => shown.push_str("leave, ")?,
-            _ => shown.push_str("another, ")?,
+            Event::Print(text) => write!(line, "print {}, ", text.as_str())?,
+            Event::Enter => line.push_str("enter, ")?,
+            Event::Leave => line.push_str("leave, ")?,
+            _ => line.push_str("another, ")?,
         }
     }
-    let end = match &run.end {
-        SourceEnd::Value(value) => {
-            let value = value_text(alloc, value)?;
-            format!(in alloc; "{} {}", run.used, value.as_str())?
-        }
-        SourceEnd::Trap(_) => format!(in alloc; "{} trap", run.used)?,
-        SourceEnd::Spent => format!(in alloc; "{} spent", run.used)?,
-        SourceEnd::Stuck(at) => format!(in alloc; "{} stuck {} {}", run.used, at.start, at.end)?,
-    };
-    shown.push_str(end.as_str())?;
-    Ok(shown)
+    Ok(())
+}
+
+/// Writes the end.
+fn put_end(line: &mut String, alloc: Global, end: &SourceEnd) -> Result<(), Fail> {
+    match end {
+        SourceEnd::Value(value) => line.push_str(value_text(alloc, value)?.as_str())?,
+        SourceEnd::Trap(_) => line.push_str("trap")?,
+        SourceEnd::Spent => line.push_str("spent")?,
+        SourceEnd::Stuck(at) => write!(line, "stuck {} {}", at.start, at.end)?,
+    }
+    Ok(())
+}
+
+/// The events, the fuel used and the end.
+fn shown(alloc: Global, run: &SourceRun) -> Result<String, Fail> {
+    let mut line = String::new(alloc);
+    put_events(&mut line, run.log.as_slice())?;
+    write!(line, "{} ", run.used)?;
+    put_end(&mut line, alloc, &run.end)?;
+    Ok(line)
 }
 
 /// Evaluates a program with the argument `ann` and asserts its events, the fuel used and its end.

@@ -408,6 +408,23 @@ const FIRST_REASONS: &[(Pieces, &str)] = &[
     ),
 ];
 
+/// Asserts what `parse` answers to bytes.
+fn check_bytes(rt: &impl Abort, alloc: Global, text: &[u8], want: &str) -> Result<(), Fail> {
+    let found = answer(alloc, false, text)?;
+    assert_eq!(rt; found.as_str(), want);
+    Ok(())
+}
+
+/// Asserts the first reason against bytes that are no UTF-8, and against too many of these.
+fn check_no_utf8(rt: &impl Abort, alloc: Global) -> Result<(), Fail> {
+    check_bytes(rt, alloc, b"fun f() { ) @ } \xff", "NotUtf8 16")?;
+    let mut text = Vec::from_slice(alloc, &[b'('; 250])?;
+    text.extend_from_slice(b"@\xff")?;
+    check_bytes(rt, alloc, &text, "NotUtf8 251")?;
+    text.resize(1_048_577, b'a')?;
+    check_bytes(rt, alloc, &text, "TextTooLong 1048577")
+}
+
 #[test]
 fn the_first_reason_counts(rt: HostRuntime) -> Result<(), Fail> {
     let alloc = rt.alloc();
@@ -416,15 +433,5 @@ fn the_first_reason_counts(rt: HostRuntime) -> Result<(), Fail> {
         let found = answer(alloc, false, text.as_bytes())?;
         assert_eq!(rt; found.as_str(), *want, "{pieces:?}");
     }
-    let found = answer(alloc, false, b"fun f() { ) @ } \xff")?;
-    assert_eq!(rt; found.as_str(), "NotUtf8 16");
-    let nested = repeated(alloc, &[(250, "("), (1, "@")])?;
-    let mut text = Vec::from_slice(alloc, nested.as_bytes())?;
-    text.push(b'\xff')?;
-    let found = answer(alloc, false, &text)?;
-    assert_eq!(rt; found.as_str(), "NotUtf8 251");
-    text.resize(1_048_577, b'a')?;
-    let found = answer(alloc, false, &text)?;
-    assert_eq!(rt; found.as_str(), "TextTooLong 1048577");
-    Ok(())
+    check_no_utf8(&rt, alloc)
 }

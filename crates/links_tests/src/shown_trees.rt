@@ -1,44 +1,71 @@
 //! Trees as a line of text, such as `add(name a, call(f, int 1))`. With places each node and each word that stands in
 //! one is followed by its span, as in `call@20-24(f@20-21, int 1@22-23)`.
+//!
+//! All functions write at the end of one line that they borrow, and none holds a text of its own: such a text would be
+//! dropped at each `?` behind it, and the proof goes into every such drop. What is named `put` writes one piece as it
+//! is; what is named `add` writes parts, each behind a comma where it isn't the first.
 
 use lk_ast::{
     BaseKind, Case, ChangeExpr, Decl, Expr, FunDef, LambdaExpr, LastCase, Loc, NoMemory, Node,
-    PartExpr, Program, SigField, SigType, SortKey, Span, TableDecl, Word,
+    PartExpr, Program, Sig, SigField, SigType, SortKey, Span, TableDecl, Word,
 };
 use std::alloc::Global;
 
-/// Adds a part, behind a comma where it isn't the first one.
-fn add(line: &mut String, part: &str) -> Result<(), NoMemory> {
-    if !line.is_empty() {
-        line.push_str(", ")?;
+/// The line so far, and whether places are shown in it.
+#[derive(Drop)]
+struct Line {
+    text: String,
+    places: bool,
+}
+
+impl Line {
+    fn new(alloc: Global, places: bool) -> Line {
+        Line {
+            text: String::new(alloc),
+            places,
+        }
     }
-    line.push_str(part)?;
-    Ok(())
-}
 
-fn joined(alloc: Global, a: &str, b: &str) -> Result<String, NoMemory> {
-    Ok(format!(in alloc; "{a}, {b}")?)
-}
-
-/// A piece of the line, with its place where places are shown.
-fn placed(alloc: Global, places: bool, piece: &str, at: Span) -> Result<String, NoMemory> {
-    if places {
-        Ok(format!(in alloc; "{piece}@{}-{}", at.start, at.end)?)
-    } else {
-        Ok(String::from_str(alloc, piece)?)
+    fn put(&mut self, piece: &str) -> Result<(), NoMemory> {
+        self.text.push_str(piece)?;
+        Ok(())
     }
-}
 
-fn shown_word(alloc: Global, places: bool, word: &Word) -> Result<String, NoMemory> {
-    placed(alloc, places, word.text.as_str(), word.at)
-}
-
-fn shown_words(alloc: Global, places: bool, words: &[Word]) -> Result<String, NoMemory> {
-    let mut line = String::new(alloc);
-    for word in words {
-        add(&mut line, shown_word(alloc, places, word)?.as_str())?;
+    /// Puts the comma before a part, where it isn't the first one of the line or behind an opening bracket.
+    fn put_comma(&mut self) -> Result<(), NoMemory> {
+        match self.text.as_bytes() {
+            [] | [.., b'(' | b'['] => Ok(()),
+            _ => self.put(", "),
+        }
     }
-    Ok(line)
+
+    /// Puts a place, where places are shown.
+    fn put_place(&mut self, at: Span) -> Result<(), NoMemory> {
+        if self.places {
+            write!(self.text, "@{}-{}", at.start, at.end)?;
+        }
+        Ok(())
+    }
+
+    fn put_word(&mut self, word: &Word) -> Result<(), NoMemory> {
+        self.put(word.text.as_str())?;
+        self.put_place(word.at)
+    }
+
+    fn add_word(&mut self, word: &Word) -> Result<(), NoMemory> {
+        self.put_comma()?;
+        self.put_word(word)
+    }
+
+    /// Adds a list of words as one part.
+    fn add_words(&mut self, words: &[Word]) -> Result<(), NoMemory> {
+        self.put_comma()?;
+        self.put("[")?;
+        for word in words {
+            self.add_word(word)?;
+        }
+        self.put("]")
+    }
 }
 
 // ---- what a node is called
@@ -105,17 +132,18 @@ fn lambda_label(place: Loc) -> &'static str {
     }
 }
 
-/// What stands before the parts of a node, or a node without parts.
-fn head(alloc: Global, node: &Node) -> Result<String, NoMemory> {
+/// Puts what stands before the parts of a node, or a node without parts.
+fn put_head(line: &mut Line, node: &Node) -> Result<(), NoMemory> {
     match node {
-        Node::Int(number) => Ok(format!(in alloc; "int {number}")?),
-        Node::Text(text) => Ok(format!(in alloc; "text {:?}", text.as_str())?),
-        Node::Bool(truth) => Ok(format!(in alloc; "{truth}")?),
-        Node::Name(name) => Ok(format!(in alloc; "name {}", name.as_str())?),
-        Node::Function(name) => Ok(format!(in alloc; "function {}", name.as_str())?),
-        Node::Lambda(lambda) => Ok(String::from_str(alloc, lambda_label(lambda.place))?),
-        _ => Ok(String::from_str(alloc, operator_label(node))?),
+        Node::Int(number) => write!(line.text, "int {number}")?,
+        Node::Text(text) => write!(line.text, "text {:?}", text.as_str())?,
+        Node::Bool(truth) => write!(line.text, "{truth}")?,
+        Node::Name(name) => write!(line.text, "name {}", name.as_str())?,
+        Node::Function(name) => write!(line.text, "function {}", name.as_str())?,
+        Node::Lambda(lambda) => line.put(lambda_label(lambda.place))?,
+        _ => line.put(operator_label(node))?,
     }
+    Ok(())
 }
 
 fn has_parts(node: &Node) -> bool {
@@ -127,22 +155,28 @@ fn has_parts(node: &Node) -> bool {
 
 // ---- expressions
 
-/// An expression.
 #[cycle(shown)]
-pub fn shown_expr(alloc: Global, places: bool, expr: &Expr) -> Result<String, NoMemory> {
+fn put_expr(line: &mut Line, expr: &Expr) -> Result<(), NoMemory> {
     let node = expr.node.get();
-    let head = head(alloc, node)?;
-    let head = placed(alloc, places, head.as_str(), expr.span)?;
+    put_head(line, node)?;
+    line.put_place(expr.span)?;
     if !has_parts(node) {
-        return Ok(head);
+        return Ok(());
     }
-    let parts = shown_operands(alloc, places, node)?;
-    Ok(format!(in alloc; "{head}({parts})")?)
+    line.put("(")?;
+    add_operands(line, node)?;
+    line.put(")")
 }
 
-/// The parts of a node, which are expressions, or others.
 #[cycle(shown)]
-fn shown_operands(alloc: Global, places: bool, node: &Node) -> Result<String, NoMemory> {
+fn add_expr(line: &mut Line, expr: &Expr) -> Result<(), NoMemory> {
+    line.put_comma()?;
+    put_expr(line, expr)
+}
+
+/// Adds the parts of a node: here where they are expressions.
+#[cycle(shown)]
+fn add_operands(line: &mut Line, node: &Node) -> Result<(), NoMemory> {
     match node {
         Node::Seq(a, b)
         | Node::And(a, b)
@@ -162,9 +196,8 @@ fn shown_operands(alloc: Global, places: bool, node: &Node) -> Result<String, No
         | Node::Gt(a, b)
         | Node::Ge(a, b)
         | Node::Where(a, b) => {
-            let a = shown_expr(alloc, places, a)?;
-            let b = shown_expr(alloc, places, b)?;
-            joined(alloc, a.as_str(), b.as_str())
+            add_expr(line, a)?;
+            add_expr(line, b)
         }
         Node::Neg(e)
         | Node::Not(e)
@@ -172,236 +205,210 @@ fn shown_operands(alloc: Global, places: bool, node: &Node) -> Result<String, No
         | Node::Tl(e)
         | Node::Empty(e)
         | Node::IntToString(e)
-        | Node::Print(e) => shown_expr(alloc, places, e),
+        | Node::Print(e) => add_expr(line, e),
         Node::If(c, d, e) => {
-            let c = shown_expr(alloc, places, c)?;
-            let d = shown_expr(alloc, places, d)?;
-            let e = shown_expr(alloc, places, e)?;
-            Ok(format!(in alloc; "{c}, {d}, {e}")?)
+            add_expr(line, c)?;
+            add_expr(line, d)?;
+            add_expr(line, e)
         }
-        _ => shown_named(alloc, places, node),
+        _ => add_named(line, node),
     }
 }
 
-/// The parts of a node, which are a word and expressions, or others.
+/// Adds the parts of a node: here where one of them is a word.
 #[cycle(shown)]
-fn shown_named(alloc: Global, places: bool, node: &Node) -> Result<String, NoMemory> {
+fn add_named(line: &mut Line, node: &Node) -> Result<(), NoMemory> {
     match node {
         Node::Call(word, args) => {
-            let word = shown_word(alloc, places, word)?;
-            with_exprs(alloc, places, word, args.as_slice())
+            line.add_word(word)?;
+            add_exprs(line, args.as_slice())
         }
         Node::Var(word, a, b) | Node::ForList(word, a, b) | Node::ForTable(word, a, b) => {
-            let word = shown_word(alloc, places, word)?;
-            let a = shown_expr(alloc, places, a)?;
-            let b = shown_expr(alloc, places, b)?;
-            Ok(format!(in alloc; "{word}, {a}, {b}")?)
+            line.add_word(word)?;
+            add_expr(line, a)?;
+            add_expr(line, b)
         }
         Node::Tag(word, e) | Node::Insert(word, e) => {
-            let word = shown_word(alloc, places, word)?;
-            let e = shown_expr(alloc, places, e)?;
-            joined(alloc, word.as_str(), e.as_str())
+            line.add_word(word)?;
+            add_expr(line, e)
         }
         Node::Project(e, label) => {
-            let e = shown_expr(alloc, places, e)?;
-            let label = shown_word(alloc, places, label)?;
-            joined(alloc, e.as_str(), label.as_str())
+            add_expr(line, e)?;
+            line.add_word(label)
         }
-        Node::Table(word) => shown_word(alloc, places, word),
-        _ => shown_lists(alloc, places, node),
+        Node::Table(word) => line.add_word(word),
+        _ => add_lists(line, node),
     }
 }
 
-/// The parts of a node, which are in lists.
+/// Adds the parts of a node: here where they stand in a list or in a struct.
 #[cycle(shown)]
-fn shown_lists(alloc: Global, places: bool, node: &Node) -> Result<String, NoMemory> {
+fn add_lists(line: &mut Line, node: &Node) -> Result<(), NoMemory> {
     match node {
         Node::Apply(f, args) => {
-            let f = shown_expr(alloc, places, f)?;
-            with_exprs(alloc, places, f, args.as_slice())
+            add_expr(line, f)?;
+            add_exprs(line, args.as_slice())
         }
-        Node::List(items) => with_exprs(alloc, places, String::new(alloc), items.as_slice()),
-        Node::Record(parts) => with_parts(alloc, places, String::new(alloc), parts.as_slice()),
+        Node::List(items) => add_exprs(line, items.as_slice()),
+        Node::Record(parts) => add_parts(line, parts.as_slice()),
         Node::Extend(parts, e) => {
-            let parts = with_parts(alloc, places, String::new(alloc), parts.as_slice())?;
-            let e = shown_expr(alloc, places, e)?;
-            Ok(format!(in alloc; "[{parts}], {e}")?)
+            line.put("[")?;
+            add_parts(line, parts.as_slice())?;
+            line.put("]")?;
+            add_expr(line, e)
         }
         Node::Query(keys, e) => {
-            let keys = shown_keys(alloc, places, keys.as_slice())?;
-            let e = shown_expr(alloc, places, e)?;
-            Ok(format!(in alloc; "[{keys}], {e}")?)
+            put_keys(line, keys.as_slice())?;
+            add_expr(line, e)
         }
-        Node::Lambda(lambda) => shown_lambda(alloc, places, lambda),
-        Node::Update(change) | Node::Delete(change) => shown_change(alloc, places, change),
+        Node::Lambda(lambda) => add_lambda(line, lambda),
+        Node::Update(change) | Node::Delete(change) => add_change(line, change),
         Node::Switch(e, cases, last) => {
-            let e = shown_expr(alloc, places, e)?;
-            let line = with_cases(alloc, places, e, cases.as_slice())?;
-            with_last(alloc, places, line, last)
+            add_expr(line, e)?;
+            add_cases(line, cases.as_slice())?;
+            add_last(line, last)
         }
-        _ => Ok(String::new(alloc)),
+        _ => Ok(()),
     }
 }
 
 #[cycle(shown)]
-fn with_exprs(
-    alloc: Global,
-    places: bool,
-    first: String,
-    exprs: &[Expr],
-) -> Result<String, NoMemory> {
-    let mut line = first;
+fn add_exprs(line: &mut Line, exprs: &[Expr]) -> Result<(), NoMemory> {
     for expr in exprs {
-        add(&mut line, shown_expr(alloc, places, expr)?.as_str())?;
+        add_expr(line, expr)?;
     }
-    Ok(line)
+    Ok(())
 }
 
 #[cycle(shown)]
-fn with_parts(
-    alloc: Global,
-    places: bool,
-    first: String,
-    parts: &[PartExpr],
-) -> Result<String, NoMemory> {
-    let mut line = first;
+fn add_parts(line: &mut Line, parts: &[PartExpr]) -> Result<(), NoMemory> {
     for part in parts {
-        let label = shown_word(alloc, places, &part.label)?;
-        let expr = shown_expr(alloc, places, &part.expr)?;
-        add(&mut line, format!(in alloc; "{label} = {expr}")?.as_str())?;
+        line.add_word(&part.label)?;
+        line.put(" = ")?;
+        put_expr(line, &part.expr)?;
     }
-    Ok(line)
+    Ok(())
 }
 
-fn shown_keys(alloc: Global, places: bool, keys: &[SortKey]) -> Result<String, NoMemory> {
-    let mut line = String::new(alloc);
+/// Puts the keys of a query as a list.
+fn put_keys(line: &mut Line, keys: &[SortKey]) -> Result<(), NoMemory> {
+    line.put("[")?;
     for key in keys {
-        let label = shown_word(alloc, places, &key.label)?;
-        add(&mut line, label.as_str())?;
+        line.add_word(&key.label)?;
         if key.desc {
-            line.push_str(" desc")?;
+            line.put(" desc")?;
         }
     }
-    Ok(line)
+    line.put("]")
 }
 
 #[cycle(shown)]
-fn shown_lambda(alloc: Global, places: bool, lambda: &LambdaExpr) -> Result<String, NoMemory> {
-    let params = shown_words(alloc, places, lambda.params.as_slice())?;
-    let body = shown_expr(alloc, places, &lambda.body)?;
-    Ok(format!(in alloc; "[{params}], {body}")?)
+fn add_lambda(line: &mut Line, lambda: &LambdaExpr) -> Result<(), NoMemory> {
+    line.add_words(lambda.params.as_slice())?;
+    add_expr(line, &lambda.body)
 }
 
 #[cycle(shown)]
-fn shown_change(alloc: Global, places: bool, change: &ChangeExpr) -> Result<String, NoMemory> {
-    let name = shown_word(alloc, places, &change.name)?;
-    let table = shown_word(alloc, places, &change.table)?;
-    let cond = shown_expr(alloc, places, &change.cond)?;
-    let line = format!(in alloc; "{name}, {table}, {cond}")?;
-    with_parts(alloc, places, line, change.sets.as_slice())
+fn add_change(line: &mut Line, change: &ChangeExpr) -> Result<(), NoMemory> {
+    line.add_word(&change.name)?;
+    line.add_word(&change.table)?;
+    add_expr(line, &change.cond)?;
+    add_parts(line, change.sets.as_slice())
 }
 
 #[cycle(shown)]
-fn with_cases(
-    alloc: Global,
-    places: bool,
-    first: String,
-    cases: &[Case],
-) -> Result<String, NoMemory> {
-    let mut line = first;
+fn add_cases(line: &mut Line, cases: &[Case]) -> Result<(), NoMemory> {
     for case in cases {
-        add(&mut line, shown_case(alloc, places, case)?.as_str())?;
+        add_pattern(line, case)?;
+        line.put(" -> ")?;
+        put_expr(line, &case.body)?;
     }
-    Ok(line)
+    Ok(())
+}
+
+/// Adds what stands before the arrow of a case.
+fn add_pattern(line: &mut Line, case: &Case) -> Result<(), NoMemory> {
+    line.put_comma()?;
+    line.put("case ")?;
+    line.put_word(&case.tag)?;
+    if let Some(name) = &case.name {
+        line.put(" ")?;
+        line.put_word(name)?;
+    }
+    Ok(())
 }
 
 #[cycle(shown)]
-fn with_last(
-    alloc: Global,
-    places: bool,
-    first: String,
-    last: &Option<LastCase>,
-) -> Result<String, NoMemory> {
-    let mut line = first;
+fn add_last(line: &mut Line, last: &Option<LastCase>) -> Result<(), NoMemory> {
     if let Some(last) = last {
-        let name = shown_word(alloc, places, &last.name)?;
-        let body = shown_expr(alloc, places, &last.body)?;
-        add(
-            &mut line,
-            format!(in alloc; "last {name} -> {body}")?.as_str(),
-        )?;
+        line.put_comma()?;
+        line.put("last ")?;
+        line.put_word(&last.name)?;
+        line.put(" -> ")?;
+        put_expr(line, &last.body)?;
     }
-    Ok(line)
-}
-
-#[cycle(shown)]
-fn shown_case(alloc: Global, places: bool, case: &Case) -> Result<String, NoMemory> {
-    let tag = shown_word(alloc, places, &case.tag)?;
-    let body = shown_expr(alloc, places, &case.body)?;
-    match &case.name {
-        Some(name) => {
-            let name = shown_word(alloc, places, name)?;
-            Ok(format!(in alloc; "case {tag} {name} -> {body}")?)
-        }
-        None => Ok(format!(in alloc; "case {tag} -> {body}")?),
-    }
+    Ok(())
 }
 
 // ---- types
 
 #[cycle(shown_types)]
-fn shown_type(alloc: Global, places: bool, ty: &SigType) -> Result<String, NoMemory> {
+fn put_type(line: &mut Line, ty: &SigType) -> Result<(), NoMemory> {
     match ty {
-        SigType::Int => Ok(format!(in alloc; "Int")?),
-        SigType::Bool => Ok(format!(in alloc; "Bool")?),
-        SigType::Text => Ok(format!(in alloc; "Text")?),
+        SigType::Int => line.put("Int"),
+        SigType::Bool => line.put("Bool"),
+        SigType::Text => line.put("Text"),
         SigType::List(item) => {
-            let item = shown_type(alloc, places, item.get())?;
-            Ok(format!(in alloc; "List({item})")?)
+            line.put("List(")?;
+            put_type(line, item.get())?;
+            line.put(")")
         }
         SigType::Fields(fields) => {
-            let fields = shown_fields(alloc, places, fields.as_slice())?;
-            Ok(format!(in alloc; "Fields({fields})")?)
+            line.put("Fields(")?;
+            add_fields(line, fields.as_slice())?;
+            line.put(")")
         }
         SigType::Tags(tags) => {
-            let tags = shown_fields(alloc, places, tags.as_slice())?;
-            Ok(format!(in alloc; "Tags({tags})")?)
+            line.put("Tags(")?;
+            add_fields(line, tags.as_slice())?;
+            line.put(")")
         }
         SigType::Fun(params, answer) => {
-            let params = shown_params(alloc, places, params.as_slice())?;
-            let answer = shown_type(alloc, places, answer.get())?;
-            Ok(format!(in alloc; "Fun([{params}], {answer})")?)
+            line.put("Fun([")?;
+            add_types(line, params.as_slice())?;
+            line.put("], ")?;
+            put_type(line, answer.get())?;
+            line.put(")")
         }
     }
 }
 
 #[cycle(shown_types)]
-fn shown_params(alloc: Global, places: bool, types: &[SigType]) -> Result<String, NoMemory> {
-    let mut line = String::new(alloc);
+fn add_types(line: &mut Line, types: &[SigType]) -> Result<(), NoMemory> {
     for ty in types {
-        add(&mut line, shown_type(alloc, places, ty)?.as_str())?;
+        line.put_comma()?;
+        put_type(line, ty)?;
     }
-    Ok(line)
+    Ok(())
 }
 
 #[cycle(shown_types)]
-fn shown_fields(alloc: Global, places: bool, fields: &[SigField]) -> Result<String, NoMemory> {
-    let mut line = String::new(alloc);
+fn add_fields(line: &mut Line, fields: &[SigField]) -> Result<(), NoMemory> {
     for field in fields {
-        let label = shown_word(alloc, places, &field.label)?;
-        let ty = shown_type(alloc, places, &field.ty)?;
-        add(&mut line, format!(in alloc; "{label} : {ty}")?.as_str())?;
+        line.add_word(&field.label)?;
+        line.put(" : ")?;
+        put_type(line, &field.ty)?;
     }
-    Ok(line)
+    Ok(())
 }
 
 // ---- declarations
 
 fn fun_label(place: Loc) -> &'static str {
     match place {
-        Loc::Any => "fun",
-        Loc::Client => "fun client",
-        Loc::Server => "fun server",
+        Loc::Any => "fun(",
+        Loc::Client => "fun client(",
+        Loc::Server => "fun server(",
     }
 }
 
@@ -413,49 +420,70 @@ fn base_label(kind: BaseKind) -> &'static str {
     }
 }
 
-fn shown_table(alloc: Global, places: bool, table: &TableDecl) -> Result<String, NoMemory> {
-    let mut line = shown_word(alloc, places, &table.name)?;
+fn put_table(line: &mut Line, table: &TableDecl) -> Result<(), NoMemory> {
+    line.put("table(")?;
+    line.put_word(&table.name)?;
     for column in table.columns.as_slice() {
-        let label = shown_word(alloc, places, &column.label)?;
-        let kind = base_label(column.kind);
-        add(&mut line, format!(in alloc; "{label} : {kind}")?.as_str())?;
+        line.add_word(&column.label)?;
+        line.put(" : ")?;
+        line.put(base_label(column.kind))?;
     }
-    Ok(format!(in alloc; "table({line})")?)
+    line.put(")")
 }
 
-fn shown_fun(alloc: Global, places: bool, fun: &FunDef) -> Result<String, NoMemory> {
-    let mut line = shown_word(alloc, places, &fun.name)?;
-    if let Some(sig) = &fun.sig {
-        let name = shown_word(alloc, places, &sig.name)?;
-        let ty = shown_type(alloc, places, &sig.ty)?;
-        add(&mut line, format!(in alloc; "sig {name} : {ty}")?.as_str())?;
+/// Adds the signature of a function, if there is one.
+fn add_sig(line: &mut Line, sig: &Option<Sig>) -> Result<(), NoMemory> {
+    if let Some(sig) = sig {
+        line.put_comma()?;
+        line.put("sig ")?;
+        line.put_word(&sig.name)?;
+        line.put(" : ")?;
+        put_type(line, &sig.ty)?;
     }
-    let params = shown_words(alloc, places, fun.params.as_slice())?;
-    add(&mut line, format!(in alloc; "[{params}]")?.as_str())?;
-    add(&mut line, shown_expr(alloc, places, &fun.body)?.as_str())?;
-    let label = fun_label(fun.place);
-    Ok(format!(in alloc; "{label}({line})")?)
+    Ok(())
 }
 
-fn shown_decl(alloc: Global, places: bool, decl: &Decl) -> Result<String, NoMemory> {
+fn put_fun(line: &mut Line, fun: &FunDef) -> Result<(), NoMemory> {
+    line.put(fun_label(fun.place))?;
+    line.put_word(&fun.name)?;
+    add_sig(line, &fun.sig)?;
+    line.add_words(fun.params.as_slice())?;
+    add_expr(line, &fun.body)?;
+    line.put(")")
+}
+
+fn put_mutual(line: &mut Line, funs: &[FunDef]) -> Result<(), NoMemory> {
+    line.put("mutual(")?;
+    for fun in funs {
+        line.put_comma()?;
+        put_fun(line, fun)?;
+    }
+    line.put(")")
+}
+
+fn add_decl(line: &mut Line, decl: &Decl) -> Result<(), NoMemory> {
+    line.put_comma()?;
     match decl {
-        Decl::Table(table) => shown_table(alloc, places, table),
-        Decl::Fun(fun) => shown_fun(alloc, places, fun),
-        Decl::Mutual(funs) => {
-            let mut line = String::new(alloc);
-            for fun in funs.as_slice() {
-                add(&mut line, shown_fun(alloc, places, fun)?.as_str())?;
-            }
-            Ok(format!(in alloc; "mutual({line})")?)
-        }
+        Decl::Table(table) => put_table(line, table),
+        Decl::Fun(fun) => put_fun(line, fun),
+        Decl::Mutual(funs) => put_mutual(line, funs.as_slice()),
     }
 }
 
-/// A program: its declarations.
+// ---- what the tests call
+
+/// The line of an expression.
+pub fn shown_expr(alloc: Global, places: bool, expr: &Expr) -> Result<String, NoMemory> {
+    let mut line = Line::new(alloc, places);
+    put_expr(&mut line, expr)?;
+    Ok(line.text)
+}
+
+/// The line of a program: its declarations.
 pub fn shown_program(alloc: Global, places: bool, program: &Program) -> Result<String, NoMemory> {
-    let mut line = String::new(alloc);
+    let mut line = Line::new(alloc, places);
     for decl in program.decls.as_slice() {
-        add(&mut line, shown_decl(alloc, places, decl)?.as_str())?;
+        add_decl(&mut line, decl)?;
     }
-    Ok(line)
+    Ok(line.text)
 }
