@@ -119,13 +119,13 @@ fn a_print_at_the_server_goes_to_the_client(rt: HostRuntime) -> Result<(), Fail>
     check(&rt, alloc, &program, 1000, want)
 }
 
-// fun main(a) client { var b = a ^^ "1"; var a = "2"; if (true) a ^^ b else c }
+// fun main(a) client { var b = a ^^ "1"; var a = "2"; if (true) a ^^ b else a }
 #[test]
 fn an_inner_name_hides_an_outer_one(rt: HostRuntime) -> Result<(), Fail> {
     let alloc = rt.alloc();
     let joined = concat(alloc, name(alloc, "a")?, name(alloc, "b")?)?;
     let truth = expr(alloc, Node::Bool(true))?;
-    let choice = expr(alloc, Node::If(truth, joined, name(alloc, "c")?))?;
+    let choice = expr(alloc, Node::If(truth, joined, name(alloc, "a")?))?;
     let inner = expr(
         alloc,
         Node::Var(word(alloc, "a")?, text(alloc, "2")?, choice),

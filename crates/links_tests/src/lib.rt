@@ -4,6 +4,8 @@
 #[cfg(test)]
 mod evaluation;
 #[cfg(test)]
+mod names;
+#[cfg(test)]
 mod parsing;
 #[cfg(test)]
 mod parsing_long;

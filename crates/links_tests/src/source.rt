@@ -73,8 +73,8 @@ fn refuses_what_is_no_program(rt: HostRuntime) -> Result<(), Fail> {
     check(&rt, alloc, &line, List::new(alloc), List::new(alloc), want)
 }
 
-/// Runs `source` on a file with this text, and asserts that it is refused by this line.
-fn check_refused(rt: &impl Abort, alloc: Global, text: &[u8], want: &str) -> Result<(), Fail> {
+/// The status of `source` on a file with this text, and what the sink took.
+pub fn run_source(alloc: Global, text: &[u8]) -> Result<(u8, Vec<u8>), Fail> {
     let mut entries = List::new(alloc);
     entries.push(FileEntry {
         name: Text::from_str(alloc, "text.links")?,
@@ -84,8 +84,15 @@ fn check_refused(rt: &impl Abort, alloc: Global, text: &[u8], want: &str) -> Res
     let mut files = MemFiles::new(entries, List::new(alloc));
     let mut out = MemSink::new(alloc, List::new(alloc));
     let status = links_main(alloc, &words, &mut files, &mut out);
+    let printed = Vec::from_slice(alloc, out.taken().as_slice())?;
+    Ok((status, printed))
+}
+
+/// Runs `source` on a file with this text, and asserts that it is refused by this line.
+fn check_refused(rt: &impl Abort, alloc: Global, text: &[u8], want: &str) -> Result<(), Fail> {
+    let (status, printed) = run_source(alloc, text)?;
     assert_eq!(rt; status, 1);
-    assert_eq!(rt; out.taken().as_slice(), want.as_bytes());
+    assert_eq!(rt; printed.as_slice(), want.as_bytes());
     Ok(())
 }
 

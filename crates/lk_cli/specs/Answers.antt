@@ -4,6 +4,9 @@ use Rattle.lk_ast.specs.Functions.{main_of}
 use Rattle.lk_ast.specs.declared.place.Span.{Span}
 use Rattle.lk_ast.specs.declared.declaration.FunDef.{FunDef}
 use Rattle.lk_ast.specs.declared.declaration.Program.{Program}
+use Rattle.lk_names.specs.Programs as names
+use Rattle.lk_names.specs.declared.error.NameError.{NameError}
+use Rattle.lk_names.specs.declared.error.NameError.TheVariants as fault
 use Rattle.lk_outside.specs.Causes.{Rose}
 use Rattle.lk_outside.specs.Sink.{Appends, AppendsFront}
 use Rattle.lk_parse.specs.Refusals.{IsProgramText, IsRefused}
@@ -18,7 +21,7 @@ use Rattle.lk_cli.specs.Report.{line, report_of}
 use Rattle.lk_cli.specs.Seen.{FilesSeen, HasText}
 use Rattle.lk_parse.specs.Tokens.{text_limit}
 use Rattle.lk_cli.specs.declared.answer.Refusal.{Refusal}
-use Rattle.lk_cli.specs.declared.answer.Refusal.TheVariants.{Words, ReadFault, TextTooLong, NotUtf8, BadToken, TooNested, Unexpected, NoMain, NoMemory}
+use Rattle.lk_cli.specs.declared.answer.Refusal.TheVariants.{Words, ReadFault, TextTooLong, NotUtf8, BadToken, TooNested, Unexpected, Unbound, Twice, NoMain, NoMemory}
 use Rattle.lk_cli.specs.declared.command.SourceCommand.{SourceCommand}
 
 -- how many nodes the evaluation of `source` may enter
@@ -29,9 +32,9 @@ source_fuel = 1_000_000
 abbrev pub IsProgram : FilesSeen → List ℕ → Program → Type 0
 IsProgram files name program = (text : List ℕ) × HasText files name text × IsProgramText text program
 
--- the run is the evaluation of the program's session with this argument
+-- the program's names are bound, and the run is the evaluation of its session with this argument
 abbrev pub IsSession : Program → List ℕ → SourceRun → Type 0
-IsSession program arg run = (main : FunDef) × (main_of program ≡ Some main) × IsRunOf (session program main arg) source_fuel run
+IsSession program arg run = names.IsBound program × (main : FunDef) × (main_of program ≡ Some main) × IsRunOf (session program main arg) source_fuel run
 
 -- what a command comes to where nothing refuses it
 abbrev pub Gives : FilesSeen → Option SourceCommand → SourceRun → Type 0
@@ -62,9 +65,19 @@ refusal_of (parse.TooNested at) = TooNested at
 refusal_of (parse.Unexpected at) = Unexpected at
 refusal_of parse.NoMemory = NoMemory
 
--- why a program has no session: there is no `main`
+-- a reason why names aren't bound as a refusal
+abbrev pub refusal_of_names : NameError → Refusal
+refusal_of_names (fault.Unbound at) = Unbound at
+refusal_of_names (fault.Twice at) = Twice at
+refusal_of_names fault.NoMain = NoMain
+refusal_of_names fault.NoMemory = NoMemory
+
+-- why a program has no session: its names aren't bound, for this first reason in text order; or they are, and there is no
+-- `main`
 abbrev pub HasNoSession : Program → Refusal → Type 0
-HasNoSession program NoMain = main_of program ≡ None
+HasNoSession program (Unbound at) = names.IsRefused program (fault.Unbound at)
+HasNoSession program (Twice at) = names.IsRefused program (fault.Twice at)
+HasNoSession program NoMain = names.IsRefused program fault.NoMain
 HasNoSession program NoMemory = Unit {0}
 HasNoSession program refusal = ⊥
 
@@ -93,6 +106,8 @@ printed (Err (BadToken at)) = refused_at 2 (codes "BadToken") at
 printed (Err (Unexpected at)) = refused_at 3 (codes "Unexpected") at
 printed (Err (TooNested at)) = refused_at 4 (codes "TooNested") at
 printed (Err TextTooLong) = line (codes "refused" ∷ codes "5" ∷ codes "TextTooLong" ∷ [])
+printed (Err (Unbound at)) = refused_at 6 (codes "Unbound") at
+printed (Err (Twice at)) = refused_at 7 (codes "Twice") at
 printed (Err NoMain) = line (codes "refused" ∷ codes "8" ∷ codes "NoMain" ∷ [])
 printed (Err NoMemory) = []
 
@@ -109,6 +124,8 @@ status_of (Err (BadToken at)) = 1
 status_of (Err (Unexpected at)) = 1
 status_of (Err (TooNested at)) = 1
 status_of (Err TextTooLong) = 1
+status_of (Err (Unbound at)) = 1
+status_of (Err (Twice at)) = 1
 status_of (Err NoMain) = 1
 status_of (Err Words) = 2
 status_of (Err (ReadFault name)) = 3

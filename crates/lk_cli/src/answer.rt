@@ -5,6 +5,7 @@ ghost use Rattle.lk_cli.specs.Answers.{printed, refused_at, status_of, end_statu
 
 use crate::report::report;
 use lk_ast::{NoMemory as OutOfMemory, Span, Text};
+use lk_names::NameError;
 use lk_parse::ParseError;
 use lk_sem::{SourceEnd, SourceRun};
 use std::alloc::Global;
@@ -27,6 +28,10 @@ pub enum Refusal {
     TooNested(Span),
     #[error("the text is not a program")]
     Unexpected(Span),
+    #[error("a name is not bound")]
+    Unbound(Span),
+    #[error("a name is there twice")]
+    Twice(Span),
     #[error("the program has no main function")]
     NoMain,
     #[error("out of memory")]
@@ -60,6 +65,21 @@ impl From<ParseError> for Refusal {
     }
 }
 
+impl From<NameError> for Refusal {
+    ghost use Rattle.lk_cli.specs.Answers.{refusal_of_names};
+
+    ghost from_gives = { λ error refusal. refusal ≡ refusal_of_names error };
+
+    fn from(error: NameError) -> Self {
+        match error {
+            NameError::Unbound(at) => Refusal::Unbound(at),
+            NameError::Twice(at) => Refusal::Twice(at),
+            NameError::NoMain => Refusal::NoMain,
+            NameError::NoMemory => Refusal::NoMemory,
+        }
+    }
+}
+
 /// The line of a refusal that has a place in the program's text.
 fn refused_at(alloc: Global, number: u8, name: &str, at: Span) -> Result<Text, OutOfMemory>
     ensures { IfOk result (λ text. text ≡ refused_at number name.now at) }
@@ -87,6 +107,8 @@ pub fn print_answer(alloc: Global, answer: &Result<SourceRun, Refusal>) -> Resul
         Err(Refusal::Unexpected(at)) => refused_at(alloc, 3, "Unexpected", *at),
         Err(Refusal::TooNested(at)) => refused_at(alloc, 4, "TooNested", *at),
         Err(Refusal::TextTooLong) => Ok(Text::from_str(alloc, "refused 5 TextTooLong\n")?),
+        Err(Refusal::Unbound(at)) => refused_at(alloc, 6, "Unbound", *at),
+        Err(Refusal::Twice(at)) => refused_at(alloc, 7, "Twice", *at),
         Err(Refusal::NoMain) => Ok(Text::from_str(alloc, "refused 8 NoMain\n")?),
         Err(Refusal::NoMemory) => Ok(Text::new(alloc)),
     }
@@ -103,6 +125,8 @@ pub fn answer_status(answer: &Result<SourceRun, Refusal>) -> u8
         | Err(Refusal::BadToken(_))
         | Err(Refusal::TooNested(_))
         | Err(Refusal::Unexpected(_))
+        | Err(Refusal::Unbound(_))
+        | Err(Refusal::Twice(_))
         | Err(Refusal::NoMain) => 1,
         Err(Refusal::Words) => 2,
         Err(Refusal::ReadFault(_)) => 3,

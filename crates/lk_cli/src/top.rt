@@ -10,7 +10,8 @@ ghost use Rattle.lk_sem.specs.declared.run.SourceRun.{SourceRun as TheSourceRun}
 use crate::answer::{Refusal, answer_status, print_answer};
 use crate::command::{SourceCommand, read_words};
 use crate::{FUEL, READ_MAX};
-use lk_ast::{Program, Text, main_of};
+use lk_ast::{Program, Text};
+use lk_names::resolve;
 use lk_outside::{Files, OutFault, Sink};
 use lk_parse::parse;
 use lk_sem::{SourceRun, source_run};
@@ -70,7 +71,7 @@ fn answer_source<F: Files>(
     ensures { Answers (seen F.contents F.failed F.faults files.old files.new) (Some command.now) result }
 {
     let program = read_program(alloc, command.program.as_str(), files)?;
-    Ok(run_session(alloc, &program, &command.arg)?)
+    Ok(run_session(alloc, program, &command.arg)?)
 }
 
 /// The program of the file of that name.
@@ -89,12 +90,10 @@ fn read_program<F: Files>(alloc: Global, name: &str, files: &mut F) -> Result<Pr
 }
 
 /// The evaluation of the session of a program with this argument.
-fn run_session(alloc: Global, program: &Program, arg: &Text) -> Result<SourceRun, Refusal>
-    ensures run { IfOk result (IsSession program.now arg.now) }
-    ensures refused { IfErr result (HasNoSession program.now) }
+fn run_session(alloc: Global, program: Program, arg: &Text) -> Result<SourceRun, Refusal>
+    ensures run { IfOk result (IsSession program arg.now) }
+    ensures refused { IfErr result (HasNoSession program) }
 {
-    match main_of(program) {
-        Some(_) => Ok(source_run(alloc, program, arg, FUEL)?),
-        None => Err(Refusal::NoMain),
-    }
+    let scoped = resolve(alloc, program)?;
+    Ok(source_run(alloc, scoped.program(), arg, FUEL)?)
 }

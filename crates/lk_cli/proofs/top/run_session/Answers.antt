@@ -1,13 +1,10 @@
-use Rattle.std.proofs.Common.{sym, subst}
-use Rattle.std.specs.Prelude.{IfSome}
-use Rattle.lk_sem.specs.SourceRuns.{IsRunOf}
-use Rattle.lk_sem.specs.Source.{session}
-use Rattle.lk_cli.specs.Answers.{source_fuel}
+use Rattle.std.proofs.Common.{◌∙◌, subst}
+use Rattle.lk_cli.specs.Answers.{IsSession}
+use Rattle.lk_cli.proofs.Sessions.{session_of_main}
 use Rattle.lk_cli.proofs.top.run_session.Goals as goal
 
-pub returns-in_ok-source_run-in-Some-clause-run : goal.returns-in_ok-source_run-in-Some-clause-run
-returns-in_ok-source_run-in-Some-clause-run c = (
-  c.in-Some.field-0.now,
-  sym c.in-Some.ensures,
-  subst (λ o. IfSome o (λ main. IsRunOf (session c.args.program.now main c.args.arg.now) source_fuel c.in_ok-source_run-in-Some.field-0)) (sym c.in-Some.ensures) c.in_ok-source_run-in-Some.ensures,
-)
+pub returns-clause-run : goal.returns-clause-run
+returns-clause-run c =
+    let run = c.in_ok-source_run.field-0 in
+    let is = session_of_main c.program.result.now c.args.arg.now run c.program.ensures.bound c.program.ensures.begins c.in_ok-source_run.ensures in
+    subst (λ program. IsSession program c.args.arg.now run) (c.program.ensures.same ∙ c.in_ok-scoped.ensures.same) is
