@@ -1,6 +1,26 @@
-pub mod Ends
-pub mod GoodKinds
-pub mod Lines
-pub mod Printed
-pub mod Quoted
-pub mod Sources
+mod Contract
+mod Appends
+mod Blocks
+mod Calls
+mod Cases
+mod Declarations
+mod Ends
+mod Expressions
+mod Forms
+mod GoodKinds
+mod Goods
+mod Levels
+mod Lines
+mod Lists
+mod Meant
+mod Operators
+mod Prefixes
+mod Primaries
+mod Quoted
+mod ReadAgain
+mod Sources
+mod Spelled
+mod Types
+mod Params
+mod Written
+mod WrittenTypes

@@ -1,5 +1,5 @@
 -- The text of tokens. A line is its tokens with one space between and LF behind the last.
-use Rattle.std.specs.Prelude.{◌||◌, ◌==◌, ℕ, if◌then◌else◌, List, [], ◌∷◌, ◌++◌, flat_map}
+use Rattle.std.specs.Prelude.{◌||◌, ◌==◌, ℕ, if◌then◌else◌, List, [], ◌∷◌, ◌++◌, flat_map, codes}
 use Rattle.std.specs.Fmt.{signed_decimal}
 use Rattle.std.specs.Str.{byte}
 use Rattle.lk_ast.specs.declared.token.TokenKind.{TokenKind}
@@ -40,3 +40,7 @@ text_of lines = flat_map line_of lines
 
 abbrev pub kinds_of : List (List TokenKind) → List TokenKind
 kinds_of lines = flat_map (λ line. line) lines
+
+-- tokens behind a comma and other tokens
+abbrev pub after_comma : List TokenKind → List ℕ
+after_comma kinds = spaced (Sign (codes ",")) ++ flat_map spaced kinds

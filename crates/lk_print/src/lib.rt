@@ -1,5 +1,17 @@
-//! What a program's tokens are as text.
+//! Programs as text, which is read again as the same program.
 //!
-//! `specs/Written` has the text of lines of tokens, and `specs/Good` which tokens can be written. `proofs/Printed` shows that
-//! the text is UTF-8 and is read again as these tokens.
+//! `specs/Printed` says which tokens are printed, `specs/Written` how a line of them is written, and `specs/Again` what holds
+//! of the text: the grammar of `lk_grammar` and the scope of `lk_scope` give it the program that was printed.
 #![tactic(auto)]
+
+mod declaration;
+mod expression;
+mod operator;
+mod program;
+mod shape;
+mod signature;
+mod text_literal;
+mod token;
+mod words;
+
+pub use program::print;
