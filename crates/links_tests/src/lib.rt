@@ -18,6 +18,8 @@ mod parsing_spans;
 #[cfg(test)]
 mod parsing_trees;
 #[cfg(test)]
+mod printing;
+#[cfg(test)]
 mod shown_trees;
 #[cfg(test)]
 mod source;
