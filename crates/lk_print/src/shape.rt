@@ -40,8 +40,6 @@ pub fn shape_of(e: &Expr) -> Shape
         | Node::IntToString(_)
         | Node::Print(_) => Shape::Primary,
         Node::Var(_, _, _) | Node::Seq(_, _) => Shape::Block,
-        Node::Switch(_, _, None) => Shape::Compound,
-        Node::Switch(_, _, Some(_)) => Shape::Compound,
         _ => Shape::Compound,
     }
 }
