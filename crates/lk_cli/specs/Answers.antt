@@ -116,6 +116,7 @@ end_status (end.Value v) = 0
 end_status (end.Trap trap) = 8
 end_status end.Spent = 12
 end_status (end.Stuck at) = 8
+end_status (end.NoStore at) = 8
 
 abbrev pub status_of : Result SourceRun Refusal → ℕ
 status_of (Ok run) = end_status run.end

@@ -4,7 +4,7 @@ ghost use Rattle.std.specs.Prelude.{◌≡◌, IfOk};
 ghost use Rattle.lk_ast.specs.JsonText.{value_text_of};
 ghost use Rattle.lk_ast.specs.declared.value.Value.TheVariants.{List as list_value};
 ghost use Rattle.lk_cli.specs.Report.{event_line, end_line, report_of, trap_name};
-ghost use Rattle.lk_sem.specs.Values.{text as text_value};
+ghost use Rattle.lk_operators.specs.Values.{text as text_value};
 
 use lk_ast::{Base, Event, NoMemory, Text, Trap, Value, copy_values, rows_value, value_text};
 use lk_sem::{SourceEnd, SourceRun};
@@ -68,6 +68,10 @@ fn line_of_end(alloc: Global, end: &SourceEnd, used: u64) -> Result<Text, NoMemo
         SourceEnd::Spent => Ok(Text::from_str(alloc, "spent\n")?),
         SourceEnd::Stuck(at) => {
             let line = format!(in alloc; "stuck {} {}\n", at.start, at.end)?;
+            Ok(Text::from_string(line))
+        }
+        SourceEnd::NoStore(at) => {
+            let line = format!(in alloc; "no-store {} {}\n", at.start, at.end)?;
             Ok(Text::from_string(line))
         }
     }

@@ -14,7 +14,7 @@ use Rattle.lk_sem.specs.Names.{Names, bind_all, pairs}
 use Rattle.lk_sem.specs.Run.{Run}
 use Rattle.lk_sem.specs.SourceRuns.{start, ended, IsRunOf}
 use Rattle.lk_sem.specs.Source.{session, source, under}
-use Rattle.lk_sem.specs.Values.{text}
+use Rattle.lk_operators.specs.Values.{text}
 use Rattle.lk_sem.specs.declared.machine.Machine.{Machine}
 use Rattle.lk_sem.specs.declared.run.SourceEnd.{SourceEnd}
 use Rattle.lk_sem.specs.declared.run.SourceEnd.TheVariants as end
@@ -25,11 +25,12 @@ fuel_ended (end.Value v) s = refl
 fuel_ended (end.Trap t) s = refl
 fuel_ended end.Spent s = refl
 fuel_ended (end.Stuck at) s = refl
+fuel_ended (end.NoStore at) s = refl
 
 shows_start : (m : Machine) (fuel : ℕ) → m.log ≡ [] → m.fuel ≡ fuel → Shows m (start fuel)
 shows_start m fuel none is = record { fuel = sym is; log = sym none; whole = refl }
 
-bound : (params : List Word) (args : List Value) (names : Names) → Some names ≡ bind_all params args → names ≡ pairs params args
+bound : (params : List Word) (args : List Value) (names : Names) → Some names ≡ bind_all [] params args → names ≡ pairs params args
 bound params args names e = go (length params == length args) e
   where
     go : (b : Bool) → Some names ≡ (if b then Some (pairs params args) else None) → names ≡ pairs params args
@@ -44,14 +45,14 @@ fuel_left p body names old new e fuel none is h =
     let left : (run_of (eval (source p) (under names body) Client (start fuel))).fuel ≡ new.fuel = ap (λ o. (run_of o).fuel) a.2 ∙ fuel_ended e a.0 ∙ a.1.fuel in
     omega (arith, left, fuel_falls (source p) (under names body) Client (start fuel))
 
-pub finish : (p : Program) (main : FunDef) (arg : List ℕ) (fuel : ℕ) (params : List Word) (args : List Value) (names scope : Names) (old new : Machine) (e : SourceEnd)
-    → params ≡ main.params → args ≡ text arg ∷ [] → Some names ≡ bind_all params args → scope ≡ names
+pub finish : (p : Program) (main : FunDef) (arg : List ℕ) (fuel : ℕ) (params : List Word) (args : List Value) (kept names scope : Names) (old new : Machine) (e : SourceEnd)
+    → params ≡ main.params → args ≡ text arg ∷ [] → kept ≡ [] → Some names ≡ bind_all kept params args → scope ≡ names
     → old.log ≡ [] → old.fuel ≡ fuel → Ends old (eval (source p) (under scope main.body) Client) new e
     → IsRunOf (session p main arg) fuel (record { end = e; log = new.log; used = fuel - new.fuel })
-finish p main arg fuel params args names scope old new e own all some same none is h =
+finish p main arg fuel params args kept names scope old new e own all nothing some same none is h =
     let a = h.ends (start fuel) (shows_start old fuel none is) in
     let le : new.fuel ≤ fuel = fuel_left p main.body scope old new e fuel none is h in
-    let named : scope ≡ pairs main.params (text arg ∷ []) = same ∙ bound params args names some ∙ ap (λ xs. pairs xs args) own ∙ ap (pairs main.params) all in
+    let named : scope ≡ pairs main.params (text arg ∷ []) = same ∙ bound params args names (some ∙ ap (λ ns. bind_all ns params args) nothing) ∙ ap (λ xs. pairs xs args) own ∙ ap (pairs main.params) all in
     record {
       last = a.0;
       end = ap (λ ns. eval (source p) (under ns main.body) Client (start fuel)) (sym named) ∙ a.2;

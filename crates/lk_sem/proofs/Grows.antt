@@ -45,6 +45,7 @@ walk = record {
   goes = λ log A a r s e. e;
   fails = λ log t r s e. e;
   lacks = λ log t r s e. e;
+  misses = λ log t r s e. e;
   steps = λ log r s e. e;
   logged = λ log event what r s e. extends_later log _ s.log e;
   reads = λ log site args r s e. reading_extends log site args s.answers s e;

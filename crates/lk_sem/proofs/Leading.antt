@@ -12,6 +12,7 @@ use Rattle.lk_ast.specs.declared.event.Event.TheVariants.{Print, Enter, Leave}
 use Rattle.lk_ast.specs.declared.expression.Expr.{Expr}
 use Rattle.lk_ast.specs.declared.place.Loc.{Loc}
 use Rattle.lk_ast.specs.declared.place.Loc.TheVariants.{Client, Server, Any}
+use Rattle.lk_ast.specs.declared.place.Span.{Span}
 use Rattle.lk_ast.specs.declared.value.FunValue.{FunValue}
 use Rattle.lk_ast.specs.declared.value.Value.{Value}
 use Rattle.lk_sem.specs.Evaluation as spec
@@ -21,12 +22,12 @@ use Rattle.lk_sem.specs.Frames.{resumed, returned, handed_by}
 use Rattle.lk_sem.specs.Halt.{end_of}
 use Rattle.lk_sem.specs.Machine.{bodies, frame_of, frame_rest, wound, outcome, Shows, Leads, LeadsWhole, Ends}
 use Rattle.lk_sem.specs.Names.{Names, bind}
-use Rattle.lk_sem.specs.Run.{Run, Out, Goes, Trapped, Spent, Stuck, Crossing, Within, Called, Returned, Function, Printer, step, logs, and_then}
+use Rattle.lk_sem.specs.Run.{Run, Out, Goes, Stops, Trapped, Spent, Stuck, NoStore, Crossing, Within, Called, Returned, Function, Printer, Site, step, logs, and_then}
 use Rattle.lk_sem.specs.Scope.{names_of}
 use Rattle.lk_sem.specs.Source.{Point, under, source, act}
 use Rattle.lk_sem.specs.SourceRuns.{ended}
 use Rattle.lk_sem.specs.Syntax.{parts_of, is_plain}
-use Rattle.lk_sem.specs.Values.{text, unit, list_in}
+use Rattle.lk_operators.specs.Values.{text, unit, list_in}
 use Rattle.lk_sem.specs.declared.machine.Frame.{Frame}
 use Rattle.lk_sem.specs.declared.machine.Frame.TheVariants.{Part, Turn, Back}
 use Rattle.lk_sem.specs.declared.machine.Machine.{Machine}
@@ -266,6 +267,28 @@ leads_print_across p old one two three place bytes v there a b c is = record {
       );
 }
 
+-- what acts on tables, at the server
+pub leads_missing : (p : Program) (m : Machine) (place : Loc) (at : Span) → place ≢ Client
+    → Leads p m (perform (source p) (eval (source p)) place (spec.Uses Server (spec.Missing at))) m (now.Stop (halt.NoStore at))
+leads_missing p m place at there = record { runs = λ r h. (r, h, ap (wound p m.stack) (go place there r)) }
+  where
+    go : (place : Loc) → place ≢ Client → (r : Run) → perform (source p) (eval (source p)) place (spec.Uses Server (spec.Missing at)) r ≡ Stops (NoStore at) r
+    go Server ne r = refl
+    go Any ne r = refl
+    go Client ne r = absurd (ne refl)
+
+-- what acts on tables, at the client, from where control goes to the server
+pub leads_missing_across : (p : Program) (old : Machine) (log : List Event) (place : Loc) (at : Span) → place ≡ Client → log ≡ old.log ++ Enter ∷ []
+    → Leads p old (perform (source p) (eval (source p)) place (spec.Uses Server (spec.Missing at))) (record { stack = old.stack; log = log; fuel = old.fuel }) (now.Stop (halt.NoStore at))
+leads_missing_across p old log place at here logged = record {
+  runs = λ r h.
+      let called : Crossing = Called (Site at.start) [] in (
+        logs Enter called (step r),
+        shows_logs old (step r) Enter called log (shows_step old r h) logged,
+        ap (λ l. wound p old.stack (perform (source p) (eval (source p)) l (spec.Uses Server (spec.Missing at)) r)) here,
+      );
+}
+
 -- ---- the loop
 
 -- the last frame took the value
@@ -290,6 +313,7 @@ wound-ended : (p : Program) (fs : List Frame) (h : Halt) (r : Run) → wound p f
 wound-ended p fs (halt.Trap t) r = winding.wound-stops (source p) (map frame_of fs) (Trapped t) r
 wound-ended p fs halt.Spent r = winding.wound-stops (source p) (map frame_of fs) Spent r
 wound-ended p fs (halt.Stuck at) r = winding.wound-stops (source p) (map frame_of fs) (Stuck at) r
+wound-ended p fs (halt.NoStore at) r = winding.wound-stops (source p) (map frame_of fs) (NoStore at) r
 
 -- the evaluation ends without a value
 pub ends_halt : (p : Program) (first m : Machine) (next : Next) (o : Run → Out Value) (h : Halt) (e : SourceEnd) → next ≡ now.Stop h → e ≡ end_of h → LeadsWhole p first o m next → Ends first o m e

@@ -1,4 +1,4 @@
-pub mod Calls
+pub mod Going
 pub mod Finish
 pub mod Leading
 pub mod Lookup

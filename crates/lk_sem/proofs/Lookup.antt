@@ -1,5 +1,5 @@
--- Names looked up among the evaluator's, and the `main` of a program.
-use Rattle.std.proofs.Common.{◌≡◌, ℕ, List, [], ◌∷◌, ◌++◌, refl, sym, ◌∙◌, ap}
+-- Names and values among the evaluator's, and the `main` of a program.
+use Rattle.std.proofs.Common.{◌≡◌, ℕ, List, [], ◌∷◌, ◌++◌, refl, sym, ◌∙◌, ap, append-nil}
 use Rattle.std.specs.Prelude.{Bool, true, false, ◌&&◌, ◌==◌, Option, Some, None, if◌then◌else◌, length, map, reverse, find, bytes_eq}
 use Rattle.std.specs.Option.{option_map}
 use Rattle.std.proofs.lemmas.Bool.{eqb-true}
@@ -7,8 +7,9 @@ use Rattle.std.proofs.lemmas.List.{map-append, reverse-append}
 use Rattle.lk_ast.specs.Functions.{functions_of, is_main, main_of}
 use Rattle.lk_ast.specs.declared.declaration.FunDef.{FunDef}
 use Rattle.lk_ast.specs.declared.declaration.Program.{Program}
+use Rattle.lk_ast.specs.declared.value.Value.{Value}
 use Rattle.lk_sem.specs.Names as spec
-use Rattle.lk_sem.specs.Names.{lookup}
+use Rattle.lk_sem.specs.Names.{lookup, named}
 use Rattle.lk_sem.specs.Scope.{names_of}
 use Rattle.lk_sem.specs.declared.names.Binding.{Binding}
 
@@ -40,6 +41,15 @@ lookup-names_of bs x =
     ap (λ ns. option_map (λ (b : spec.Binding). b.value) (find (λ (b : spec.Binding). bytes_eq b.name x) ns)) (sym (map-reverse name_of bs))
     ∙ ap (option_map (λ (b : spec.Binding). b.value)) (find-map name_of (λ (b : spec.Binding). bytes_eq b.name x) (reverse bs))
     ∙ value_of (find (λ (b : Binding). bytes_eq b.name.now x) (reverse bs))
+
+-- where no value is left, no other name has one
+unnamed : (xs : List (List ℕ)) → named xs [] ≡ []
+unnamed [] = refl
+unnamed (x ∷ xs) = refl
+
+pub nothing_left : (bindings : spec.Names) (xs : List (List ℕ)) (left : List Value) (all : spec.Names) → left ≡ [] → bindings ++ named xs (reverse left) ≡ all → bindings ≡ all
+nothing_left bindings xs left all none e =
+    sym (append-nil bindings) ∙ ap (λ ns. bindings ++ ns) (sym (unnamed xs)) ∙ ap (λ vs. bindings ++ named xs (reverse vs)) (sym none) ∙ e
 
 -- ---- functions
 

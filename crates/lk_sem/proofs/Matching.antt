@@ -10,16 +10,17 @@ use Rattle.lk_ast.specs.declared.place.Span.{Span}
 use Rattle.lk_ast.specs.declared.value.FunValue.{FunValue}
 use Rattle.lk_ast.specs.declared.value.Value.{Value}
 use Rattle.lk_ast.specs.declared.value.Value.TheVariants as value
-use Rattle.lk_sem.specs.Evaluation.{Primitive, Printing, Reading, Writing, Act, Give, Tail, Goto, Uses, Each, Fails, Lacks, Language, Evaluates, handed, client_call, call_from, reading, used, callee_of, args_of, joined, part, all_parts, each, perform, node}
+use Rattle.lk_sem.specs.Evaluation.{Primitive, Printing, Reading, Writing, Missing, Act, Give, Tail, Goto, Uses, Each, Fails, Lacks, Language, Evaluates, handed, client_call, call_from, reading, used, callee_of, args_of, joined, part, all_parts, each, perform, node}
 use Rattle.lk_sem.specs.Laws.{Both, Maybe, MatchingCallees, MatchingActs, Match}
-use Rattle.lk_sem.specs.Run.{Run, Out, Goes, Stops, Stuck, Trapped, and_then, step, logs, Callee, Function, Within, Called, Returned}
-use Rattle.lk_sem.specs.Values.{list_in}
+use Rattle.lk_sem.specs.Run.{Run, Out, Goes, Stops, Stuck, NoStore, Trapped, and_then, step, logs, Callee, Function, Within, Called, Returned}
+use Rattle.lk_operators.specs.Values.{list_in}
 
 -- a relation of two runs and one of two outcomes, for each index, that each rule keeps
 pub record PairWalk (V : Value → Value → Type 0) (I : Type 0) (Runs : I → Run → Run → Type 0) (Outs : I → (A B : Type 0) → (A → B → Type 0) → Out A → Out B → Type 0) : Type 1 where
   pub goes : (i : I) (A B : Type 0) (R : A → B → Type 0) (a : A) (b : B) (r s : Run) → R a b → Runs i r s → Outs i A B R (Goes a r) (Goes b s)
   pub fails : (i : I) (trap : Trap) (r s : Run) → Runs i r s → Outs i Value Value V (Stops (Trapped trap) r) (Stops (Trapped trap) s)
   pub lacks : (i : I) (at : Span) (r s : Run) → Runs i r s → Outs i Value Value V (Stops (Stuck at) r) (Stops (Stuck at) s)
+  pub misses : (i : I) (at : Span) (r s : Run) → Runs i r s → Outs i Value Value V (Stops (NoStore at) r) (Stops (NoStore at) s)
   pub steps : (i : I) (r s : Run) → Runs i r s → Runs i (step r) (step s)
   pub logged : (i : I) (event : Event) (r s : Run) → Runs i r s → Runs i (logs event Within r) (logs event Within s)
   pub called : (i : I) (event : Event) (c d : Callee) (args others : List Value) (r s : Run) → MatchingCallees V c d → Both V args others → Runs i r s → Runs i (logs event (Called c args) r) (logs event (Called d others) s)
@@ -80,6 +81,7 @@ module _ (l m : Language) (R : l.Point → m.Point → Type 0) (V : Value → Va
   used_walks i (Printing bytes) r s k = w.goes i _ _ V _ _ _ _ h.units (w.logged i _ r s k)
   used_walks i (Reading site args) r s k = w.reads i site args r s k
   used_walks i (Writing site args) r s k = w.goes i _ _ V _ _ _ _ h.units (w.logged i _ r s k)
+  used_walks i (Missing at) r s k = w.misses i at r s k
 
   joined_walks : (i : I) (at : Span) (made made' : List Value) (o o' : Option (List Value)) (j k : List Value → Run → Out Value) (r s : Run) → Both V made made' → Maybe (Both V) o o' → Runs i r s
       → ((all all' : List Value) → Both V all all' → Outs i Value Value V (j all r) (k all' s)) → Outs i Value Value V (joined at made o j r) (joined at made' o' k s)
@@ -101,6 +103,7 @@ module _ (l m : Language) (R : l.Point → m.Point → Type 0) (V : Value → Va
   itself_called (Printing bytes) = tt
   itself_called (Reading site args) = refl
   itself_called (Writing site args) = refl
+  itself_called (Missing at) = refl
 
   uses_walk : (i : I) (place to at : Loc) (one other : Primitive) (r s : Run) → to ≡ at → one ≡ other → Both V (args_of one) (args_of one) → Runs i r s
       → Outs i Value Value V (perform l f place (Uses to one) r) (perform m g place (Uses at other) s)

@@ -51,6 +51,7 @@ module _ (l m : Language) (R : l.Point → m.Point → Type 0) (V : Value → Va
     goes = λ i A B Q a b r s ab k. (ab, k);
     fails = λ i t r s k. (refl, k);
     lacks = λ i at r s k. (refl, k);
+    misses = λ i at r s k. (refl, k);
     steps = λ i r s k. stepped r s k;
     logged = λ i event r s k. logged event Within Within r s tt k;
     called = λ i event c d args others r s cd ab k. logged event (Called c args) (Called d others) r s (cd, ab) k;

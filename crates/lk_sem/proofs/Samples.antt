@@ -16,7 +16,7 @@ use Rattle.lk_sem.specs.Evaluation.{eval_to}
 use Rattle.lk_sem.specs.Run.{Goes, Within, Called, Returned, Function}
 use Rattle.lk_sem.specs.Source.{session}
 use Rattle.lk_sem.specs.SourceRuns.{start}
-use Rattle.lk_sem.specs.Values.{text}
+use Rattle.lk_operators.specs.Values.{text}
 
 -- nodes at no place in particular, and words at their first byte
 abbrev at_zero : Node → Expr

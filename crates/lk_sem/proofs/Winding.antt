@@ -7,7 +7,7 @@ use Rattle.lk_ast.specs.declared.value.Value.{Value}
 use Rattle.lk_sem.specs.Evaluation.{Language, handed, all_parts, joined, each, perform, node, eval}
 use Rattle.lk_sem.specs.Frames.{Frame, Part, Turn, rest, resumed, handed_by, continued, wound}
 use Rattle.lk_sem.specs.Run.{Run, Out, Goes, Stops, Stop, and_then, enter_with}
-use Rattle.lk_sem.specs.Values.{list_in}
+use Rattle.lk_operators.specs.Values.{list_in}
 use Rattle.lk_sem.proofs.Fixpoint.{eval_is}
 
 drop-past : {A : Type 0} (xs : List A) (n : ℕ) → slice_get xs n ≡ None → drop n xs ≡ []

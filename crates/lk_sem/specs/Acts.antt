@@ -1,16 +1,15 @@
 -- The evaluator's acts, and those that they stand for.
 use Rattle.std.specs.Prelude.{◌≡◌, List, [], ◌∷◌, Option, Some, None, map}
-use Rattle.lk_ast.specs.declared.place.Loc.TheVariants.{Client}
+use Rattle.lk_ast.specs.declared.place.Loc.TheVariants.{Client, Server}
 use Rattle.lk_ast.specs.declared.place.Span.{Span}
 use Rattle.lk_ast.specs.declared.value.FunValue.{FunValue}
 use Rattle.lk_ast.specs.declared.value.Value.{Value}
 use Rattle.lk_sem.specs.Evaluation as spec
 use Rattle.lk_sem.specs.Names.{bind}
 use Rattle.lk_sem.specs.Scope.{names_of}
-use Rattle.lk_sem.specs.Source.{Point, under, concat}
-use Rattle.lk_sem.specs.Values.{text_in}
+use Rattle.lk_sem.specs.Source.{Point, under}
 use Rattle.lk_sem.specs.declared.act.Act.{Act}
-use Rattle.lk_sem.specs.declared.act.Act.TheVariants.{Give, Tail, Goto, Print, Each, Fails, Lacks}
+use Rattle.lk_sem.specs.declared.act.Act.TheVariants.{Give, Tail, Goto, Print, Each, Fails, NoStore, Lacks}
 
 -- the act of a node with this span; the evaluator keeps no note of which function it enters, nor of its arguments
 abbrev pub IsAct : Span → Act → spec.Act Point → Type 0
@@ -20,6 +19,7 @@ IsAct at (Goto mark body scope) a = (f : FunValue) × (args : List Value) × (a 
 IsAct at (Print bytes) a = a ≡ spec.Uses Client (spec.Printing bytes)
 IsAct at (Each x values body scope) a = a ≡ spec.Each at (map (λ v. under (bind x.now v (names_of scope)) body.now) values)
 IsAct at (Fails trap) a = a ≡ spec.Fails trap
+IsAct at NoStore a = a ≡ spec.Uses Server (spec.Missing at)
 IsAct at Lacks a = a ≡ spec.Lacks at
 
 -- the one value of a list
@@ -27,7 +27,7 @@ abbrev pub only_of : List Value → Option Value
 only_of (v ∷ []) = Some v
 only_of _ = None
 
--- `a ^^ b` of two values; any other number has no rule
-abbrev pub concat_all : Span → List Value → spec.Act Point
-concat_all at (v ∷ w ∷ []) = concat at (text_in v) (text_in w)
-concat_all at _ = spec.Lacks at
+-- the first value of a list, and the others
+abbrev pub first_of : List Value → Option (Value × List Value)
+first_of [] = None
+first_of (v ∷ values) = Some (v, values)

@@ -7,7 +7,7 @@ use Rattle.lk_ast.specs.declared.place.Span.{Span}
 use Rattle.lk_ast.specs.declared.value.Value.{Value}
 use Rattle.lk_sem.specs.Evaluation.{Language, eval, handed, all_parts, perform, joined, each}
 use Rattle.lk_sem.specs.Run.{Run, Out, Goes, and_then, step, logs, Returned}
-use Rattle.lk_sem.specs.Values.{list_in}
+use Rattle.lk_operators.specs.Values.{list_in}
 
 pub data Frame (P : Type 0) : Type 0 where
   -- a point whose first parts have these values, at the next of them

@@ -8,3 +8,4 @@ abbrev pub end_of : Halt → SourceEnd
 end_of (halt.Trap trap) = end.Trap trap
 end_of halt.Spent = end.Spent
 end_of (halt.Stuck at) = end.Stuck at
+end_of (halt.NoStore at) = end.NoStore at

@@ -5,8 +5,8 @@ use Rattle.lk_ast.specs.declared.table.Row.{Row}
 use Rattle.lk_ast.specs.declared.value.Value.{Value}
 use Rattle.lk_ast.specs.declared.value.Value.TheVariants as value
 use Rattle.lk_sem.specs.Evaluation.{Act, Give, Tail, Goto, Uses, Each, Fails, Lacks, Language, args_of}
-use Rattle.lk_sem.specs.Run.{Run, Entry, Out, Goes, Stops, Stop, Trapped, Spent, Waiting, Stuck, Asked, Callee, Function, Printer, Site, Crossing, Within, Called, Returned}
-use Rattle.lk_sem.specs.Values.{unit, list_in}
+use Rattle.lk_sem.specs.Run.{Run, Entry, Out, Goes, Stops, Stop, Trapped, Spent, Waiting, Stuck, NoStore, Asked, Callee, Function, Printer, Site, Crossing, Within, Called, Returned}
+use Rattle.lk_operators.specs.Values.{unit, list_in}
 
 -- ---- the run at an end
 
@@ -29,11 +29,13 @@ with_returns more (Some returns) = Some (returns ++ more)
 abbrev pub richer : ℕ → List (List Row) → List Value → Run → Run
 richer fuel answers returns r = record r { fuel = r.fuel + fuel; answers = r.answers ++ answers; returns = with_returns returns r.returns }
 
--- an evaluation that has ended with a value, a trap or for want of a rule ends so again; another one has a longer log
+-- an evaluation that has ended with a value, a trap or for want of a rule or a store ends so again; another one has a longer
+-- log
 abbrev pub IsRicher : ℕ → List (List Row) → List Value → (A : Type 0) → Out A → Out A → Type 0
 IsRicher fuel answers returns A (Goes a r) out = out ≡ Goes a (richer fuel answers returns r)
 IsRicher fuel answers returns A (Stops (Trapped trap) r) out = out ≡ Stops (Trapped trap) (richer fuel answers returns r)
 IsRicher fuel answers returns A (Stops (Stuck at) r) out = out ≡ Stops (Stuck at) (richer fuel answers returns r)
+IsRicher fuel answers returns A (Stops (NoStore at) r) out = out ≡ Stops (NoStore at) (richer fuel answers returns r)
 IsRicher fuel answers returns A (Stops Spent r) out = Extends r.log (run_of out).log
 IsRicher fuel answers returns A (Stops Waiting r) out = Extends r.log (run_of out).log
 IsRicher fuel answers returns A (Stops (Asked callee args) r) out = Extends r.log (run_of out).log
@@ -117,6 +119,7 @@ MatchingStops V (Trapped trap) (Trapped other) = trap ≡ other
 MatchingStops V Spent Spent = Unit {0}
 MatchingStops V Waiting Waiting = Unit {0}
 MatchingStops V (Stuck at) (Stuck other_at) = at ≡ other_at
+MatchingStops V (NoStore at) (NoStore other_at) = at ≡ other_at
 MatchingStops V (Asked c args) (Asked d others) = MatchingCallees V c d × Both V args others
 MatchingStops V _ _ = ⊥
 

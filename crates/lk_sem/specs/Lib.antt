@@ -10,4 +10,3 @@ pub mod SourceRuns
 pub mod Scope
 pub mod Source
 pub mod Syntax
-pub mod Values

@@ -35,13 +35,14 @@ pub record Run : Type 0 where
   pub answers : List (List Row)
   pub returns : Option (List Value)
 
--- why an evaluation ends without a value: a trap; no fuel; no answer for a reading; no rule for what it met; or, in the
--- server's part, a call of a client function without a return
+-- why an evaluation ends without a value: a trap; no fuel; no answer for a reading; no rule for what it met; no store for
+-- what acts on tables; or, in the server's part, a call of a client function without a return
 pub data Stop : Type 0 where
   Trapped : (trap : Trap) → Stop
   Spent : Stop
   Waiting : Stop
   Stuck : (at : Span) → Stop
+  NoStore : (at : Span) → Stop
   Asked : (callee : Callee) (args : List Value) → Stop
 
 -- what an evaluation comes to: it goes on with what was made, or it stops

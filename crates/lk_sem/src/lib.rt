@@ -6,11 +6,14 @@
 #![tactic(auto)]
 
 mod act;
+mod calls;
+mod cases;
 mod machine;
 mod names;
 mod run;
 mod source;
 mod syntax;
+mod values;
 
 pub use run::{SourceEnd, SourceRun};
 pub use source::source_run;

@@ -3,13 +3,14 @@
 
 ghost use Rattle.std.specs.Prelude.{◌≡◌, ◌++◌, ◌<◌, ◌+◌, ◌*◌, length, IfOk};
 ghost use Rattle.lk_sem.specs.Evaluation as spec;
-ghost use Rattle.lk_sem.specs.Values.{list_in, unit as unit_value};
+ghost use Rattle.lk_operators.specs.Values.{list_in, unit as unit_value};
 
 use crate::act::{Act, act_of};
 use crate::names::{Scope, with};
 use crate::run::Halt;
 use crate::syntax::part;
-use lk_ast::{Event, Expr, List, Loc, NoMemory, Program, Span, Text, Value};
+use lk_ast::{Event, Expr, List, Loc, NoMemory, Span, Text, Value};
+use lk_index::Index;
 use std::alloc::Global;
 
 /// A node whose first parts have these values, at the next of them.
@@ -25,7 +26,7 @@ pub struct Waiting<'p> {
 #[derive(Drop)]
 pub struct Turns<'p> {
     pub at: Span,
-    pub name: &'p Text,
+    pub name: &'p str,
     pub left: List<Value>,
     pub body: &'p Expr,
     pub scope: Scope<'p>,
@@ -69,13 +70,13 @@ impl<'p> Machine<'p> {
     pub fn enter(
         &mut self,
         alloc: Global,
-        program: &'p Program,
+        index: &'p Index<'p>,
         e: &'p Expr,
         scope: Scope<'p>,
         place: Loc,
     ) -> Result<Next<'p>, NoMemory>
-        ensures leads { IfOk result (λ next. Leads program.now self.old
-            (eval (source program.now) (under (names_of scope.entry) e.now) place)
+        ensures leads { IfOk result (λ next. Leads index.now self.old
+            (eval (source index.now) (under (names_of scope.entry) e.now) place)
             self.new next) }
         ensures falls { IfOk result (λ next. weight self.new next < 4 * self.old.fuel + 2 * length self.old.stack + 1) }
     {
@@ -84,21 +85,21 @@ impl<'p> Machine<'p> {
         }
         self.fuel -= 1;
         let done = List::new(alloc);
-        Ok(self.go_on(alloc, program, e, done, scope, place)?)
+        Ok(self.go_on(alloc, index, e, done, scope, place)?)
     }
 
     /// Goes on with the next part of a node, or with its act.
     fn go_on(
         &mut self,
         alloc: Global,
-        program: &'p Program,
+        index: &'p Index<'p>,
         e: &'p Expr,
         done: List<Value>,
         scope: Scope<'p>,
         place: Loc,
     ) -> Result<Next<'p>, NoMemory>
-        ensures leads { IfOk result (λ next. Leads program.now self.old
-            (resumed (source program.now) (under (names_of scope.entry) e.now) done place)
+        ensures leads { IfOk result (λ next. Leads index.now self.old
+            (resumed (source index.now) (under (names_of scope.entry) e.now) done place)
             self.new next) }
         ensures falls { IfOk result (Falls self.old self.new) }
     {
@@ -115,8 +116,8 @@ impl<'p> Machine<'p> {
                 Ok(Next::Enter(next, shared, place))
             }
             None => {
-                let act = act_of(alloc, program, e, scope, done)?;
-                Ok(self.perform(alloc, program, e.span, place, act)?)
+                let act = act_of(alloc, index, e, scope, done)?;
+                Ok(self.perform(alloc, index, e.span, place, act)?)
             }
         }
     }
@@ -125,20 +126,20 @@ impl<'p> Machine<'p> {
     fn perform(
         &mut self,
         alloc: Global,
-        program: &'p Program,
+        index: &'p Index<'p>,
         at: Span,
         place: Loc,
         act: Act<'p>,
     ) -> Result<Next<'p>, NoMemory>
-        ensures leads { IfOk result (λ next. (a : spec.Act Point) → IsAct at act.entry a → Leads program.now self.old (perform (source program.now) (eval (source program.now)) place a)
+        ensures leads { IfOk result (λ next. (a : spec.Act Point) → IsAct at act.entry a → Leads index.now self.old (perform (source index.now) (eval (source index.now)) place a)
             self.new next) }
         ensures falls { IfOk result (Falls self.old self.new) }
     {
         match act {
             Act::Give(value) => Ok(Next::Give(value)),
             Act::Tail(e, scope) => Ok(Next::Enter(e, scope, place)),
-            Act::Goto(mark, body, scope) => Ok(self.go_to(program, place, mark, body, scope)?),
-            Act::Print(text) => Ok(self.print(alloc, program, place, text)?),
+            Act::Goto(mark, body, scope) => Ok(self.go_to(index, place, mark, body, scope)?),
+            Act::Print(text) => Ok(self.print(alloc, index, place, text)?),
             Act::Each(name, values, body, scope) => {
                 let mut left = values.into_vec();
                 left.reverse();
@@ -151,9 +152,10 @@ impl<'p> Machine<'p> {
                     place,
                     made: List::new(alloc),
                 };
-                Ok(self.turn(alloc, program, turns)?)
+                Ok(self.turn(alloc, index, turns)?)
             }
             Act::Fails(trap) => Ok(Next::Stop(Halt::Trap(trap))),
+            Act::NoStore => Ok(self.no_store(index, place, at)?),
             Act::Lacks => Ok(Next::Stop(Halt::Stuck(at))),
         }
     }
@@ -161,13 +163,13 @@ impl<'p> Machine<'p> {
     /// Enters the body of a function of that mark.
     fn go_to(
         &mut self,
-        program: &'p Program,
+        index: &'p Index<'p>,
         place: Loc,
         mark: Loc,
         body: &'p Expr,
         scope: Scope<'p>,
     ) -> Result<Next<'p>, NoMemory>
-        ensures leads { IfOk result (λ next. (f : _) (args : _) → Leads program.now self.old (perform (source program.now) (eval (source program.now)) place (spec.Goto mark f args (under (names_of scope.entry) body.now)))
+        ensures leads { IfOk result (λ next. (f : _) (args : _) → Leads index.now self.old (perform (source index.now) (eval (source index.now)) place (spec.Goto mark f args (under (names_of scope.entry) body.now)))
             self.new next) }
         ensures falls { IfOk result (Falls self.old self.new) }
     {
@@ -190,12 +192,12 @@ impl<'p> Machine<'p> {
     fn print(
         &mut self,
         alloc: Global,
-        program: &'p Program,
+        index: &'p Index<'p>,
         place: Loc,
         text: Text,
     ) -> Result<Next<'p>, NoMemory>
-        ensures leads { IfOk result (λ next. Leads program.now self.old
-            (perform (source program.now) (eval (source program.now)) place (spec.Uses Loc.Client (spec.Printing text)))
+        ensures leads { IfOk result (λ next. Leads index.now self.old
+            (perform (source index.now) (eval (source index.now)) place (spec.Uses Loc.Client (spec.Printing text)))
             self.new next) }
         ensures falls { IfOk result (Falls self.old self.new) }
     {
@@ -213,15 +215,36 @@ impl<'p> Machine<'p> {
         }
     }
 
+    /// Ends at what acts on tables, for which there is no store, once control is at the server.
+    fn no_store(
+        &mut self,
+        index: &'p Index<'p>,
+        place: Loc,
+        at: Span,
+    ) -> Result<Next<'p>, NoMemory>
+        ensures leads { IfOk result (λ next. Leads index.now self.old
+            (perform (source index.now) (eval (source index.now)) place (spec.Uses Loc.Server (spec.Missing at)))
+            self.new next) }
+        ensures falls { IfOk result (Falls self.old self.new) }
+    {
+        match place {
+            Loc::Client => {
+                self.log.push(Event::Enter)?;
+                Ok(Next::Stop(Halt::NoStore(at)))
+            }
+            _ => Ok(Next::Stop(Halt::NoStore(at))),
+        }
+    }
+
     /// Enters the body for the next element, or has the list that was made.
     fn turn(
         &mut self,
         alloc: Global,
-        program: &'p Program,
+        index: &'p Index<'p>,
         turns: Turns<'p>,
     ) -> Result<Next<'p>, NoMemory>
-        ensures leads { IfOk result (λ next. Leads program.now self.old
-            (each (source program.now) (eval (source program.now)) turns.entry.at (bodies turns.entry) turns.entry.place turns.entry.made)
+        ensures leads { IfOk result (λ next. Leads index.now self.old
+            (each (source index.now) (eval (source index.now)) turns.entry.at (bodies turns.entry) turns.entry.place turns.entry.made)
             self.new next) }
         ensures falls { IfOk result (Falls self.old self.new) }
     {
@@ -241,19 +264,19 @@ impl<'p> Machine<'p> {
     fn take(
         &mut self,
         alloc: Global,
-        program: &'p Program,
+        index: &'p Index<'p>,
         turns: Turns<'p>,
         value: Value,
     ) -> Result<Next<'p>, NoMemory>
-        ensures leads { IfOk result (λ next. Leads program.now self.old
-            (frame_rest program.now (Frame.Turn turns.entry) value)
+        ensures leads { IfOk result (λ next. Leads index.now self.old
+            (frame_rest index.now (Frame.Turn turns.entry) value)
             self.new next) }
         ensures falls { IfOk result (Falls self.old self.new) }
     {
         match list_of(value) {
             Some(values) => {
                 let made = joined(turns.made, values)?;
-                Ok(self.turn(alloc, program, Turns { made, ..turns })?)
+                Ok(self.turn(alloc, index, Turns { made, ..turns })?)
             }
             None => Ok(Next::Stop(Halt::Stuck(turns.at))),
         }
@@ -262,11 +285,11 @@ impl<'p> Machine<'p> {
     /// Goes back to the place of a call with its value.
     fn come_back(
         &mut self,
-        program: &'p Program,
+        index: &'p Index<'p>,
         place: Loc,
         value: Value,
     ) -> Result<Next<'p>, NoMemory>
-        ensures leads { IfOk result (λ next. Leads program.now self.old
+        ensures leads { IfOk result (λ next. Leads index.now self.old
             (returned place value)
             self.new next) }
         ensures falls { IfOk result (Falls self.old self.new) }
@@ -288,12 +311,12 @@ impl<'p> Machine<'p> {
     pub fn give(
         &mut self,
         alloc: Global,
-        program: &'p Program,
+        index: &'p Index<'p>,
         frame: Frame<'p>,
         value: Value,
     ) -> Result<Next<'p>, NoMemory>
-        ensures leads { IfOk result (λ next. Leads program.now self.old
-            (frame_rest program.now frame.entry value)
+        ensures leads { IfOk result (λ next. Leads index.now self.old
+            (frame_rest index.now frame.entry value)
             self.new next) }
         ensures falls { IfOk result (Falls self.old self.new) }
     {
@@ -306,10 +329,10 @@ impl<'p> Machine<'p> {
                     place,
                 } = waiting;
                 done.push(value)?;
-                Ok(self.go_on(alloc, program, expr, done, scope, place)?)
+                Ok(self.go_on(alloc, index, expr, done, scope, place)?)
             }
-            Frame::Turn(turns) => Ok(self.take(alloc, program, turns, value)?),
-            Frame::Back(place) => Ok(self.come_back(program, place, value)?),
+            Frame::Turn(turns) => Ok(self.take(alloc, index, turns, value)?),
+            Frame::Back(place) => Ok(self.come_back(index, place, value)?),
         }
     }
 }

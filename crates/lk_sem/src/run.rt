@@ -2,13 +2,15 @@
 
 use lk_ast::{Event, List, Span, Trap, Value};
 
-/// How an evaluation ends: with a value or a trap, without fuel, or at an expression that has no rule for what it met.
+/// How an evaluation ends: with a value or a trap, without fuel, at an expression that has no rule for what it met, or at
+/// one that acts on tables, for which there is no store yet.
 #[derive(Debug, Drop)]
 pub enum SourceEnd {
     Value(Value),
     Trap(Trap),
     Spent,
     Stuck(Span),
+    NoStore(Span),
 }
 
 /// An evaluation: its end, its events in order, and the fuel that it used, one unit for each node entered.
@@ -25,6 +27,7 @@ pub enum Halt {
     Trap(Trap),
     Spent,
     Stuck(Span),
+    NoStore(Span),
 }
 
 impl Halt {
@@ -38,6 +41,7 @@ impl Halt {
             Halt::Trap(trap) => SourceEnd::Trap(trap),
             Halt::Spent => SourceEnd::Spent,
             Halt::Stuck(at) => SourceEnd::Stuck(at),
+            Halt::NoStore(at) => SourceEnd::NoStore(at),
         }
     }
 }

@@ -10,6 +10,7 @@ use crate::machine::{Machine, Next};
 use crate::names::bind_params;
 use crate::run::{SourceEnd, SourceRun};
 use lk_ast::{Base, FunDef, List, Loc, NoMemory, Program, Shared, Text, Value, main_of};
+use lk_index::Index;
 use std::alloc::Global;
 
 /// Evaluates the `main` of a program, which has one, with this argument and at most this fuel.
@@ -23,25 +24,29 @@ pub fn source_run(
     ensures { IfOk result (λ run. IfSome (main_in program.now) (λ main. IsRunOf (session program.now main arg.now) fuel run)) }
 {
     match main_of(program) {
-        Some(main) => run_main(alloc, program, main, arg, fuel),
+        Some(main) => {
+            let index = Index::new(alloc, program)?;
+            Ok(run_main(alloc, &index, main, arg, fuel)?)
+        }
         None => unreachable!(),
     }
 }
 
 /// Evaluates the body of a function of one parameter at the client.
-fn run_main(
+fn run_main<'p>(
     alloc: Global,
-    program: &Program,
-    main: &FunDef,
+    index: &'p Index<'p>,
+    main: &'p FunDef,
     arg: &Text,
     fuel: u64,
 ) -> Result<SourceRun, NoMemory>
     requires { length main.now.params ≡ 1 }
-    ensures { IfOk result (IsRunOf (session program.now main.now arg.now) fuel) }
+    ensures { IfOk result (IsRunOf (session index.now main.now arg.now) fuel) }
 {
     let mut args = List::new(alloc);
     args.push(Value::Base(Base::Text(arg.copy(alloc)?)))?;
-    let bindings = match bind_params(alloc, main.params.as_slice(), args)? {
+    let none = List::new(alloc);
+    let bindings = match bind_params(alloc, none, main.params.as_slice(), args)? {
         Some(bindings) => bindings,
         None => unreachable!(),
     };
@@ -52,7 +57,7 @@ fn run_main(
         fuel,
     };
     let first = Next::Enter(&main.body, scope, Loc::Client);
-    let end = run(alloc, program, &mut machine, first)?;
+    let end = run(alloc, index, &mut machine, first)?;
     Ok(SourceRun {
         end,
         used: fuel - machine.fuel,
@@ -63,19 +68,19 @@ fn run_main(
 /// Goes on to the end.
 fn run<'p>(
     alloc: Global,
-    program: &'p Program,
+    index: &'p Index<'p>,
     machine: &mut Machine<'p>,
     first: Next<'p>,
 ) -> Result<SourceEnd, NoMemory>
     requires { machine.old.stack ≡ [] }
-    ensures { IfOk result (λ end. Ends machine.old (outcome program.now first.entry) machine.new end) }
+    ensures { IfOk result (λ end. Ends machine.old (outcome index.now first.entry) machine.new end) }
 {
     let mut next = first;
     loop {
         next = match next {
-            Next::Enter(e, scope, place) => machine.enter(alloc, program, e, scope, place)?,
+            Next::Enter(e, scope, place) => machine.enter(alloc, index, e, scope, place)?,
             Next::Give(value) => match machine.stack.pop() {
-                Some(frame) => machine.give(alloc, program, frame, value)?,
+                Some(frame) => machine.give(alloc, index, frame, value)?,
                 None => return Ok(SourceEnd::Value(value)),
             },
             Next::Stop(halt) => return Ok(halt.end()),

@@ -7,5 +7,5 @@ use Rattle.lk_sem.proofs.names.bind_params.Given as goal
 abbrev pub invariant-loop-param : goal.invariant-loop-param
 invariant-loop-param l = record {
   left : length l.left.items + l.param-index ≡ length l.params;
-  bound : names_of l.bindings ++ pairs (drop l.param-index l.params) (reverse l.left.items) ≡ pairs l.params l.fn.args;
+  bound : names_of l.bindings ++ pairs (drop l.param-index l.params) (reverse l.left.items) ≡ names_of l.fn.kept ++ pairs l.params l.fn.args;
 }

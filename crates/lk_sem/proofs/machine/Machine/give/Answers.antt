@@ -5,5 +5,5 @@ use Rattle.lk_sem.proofs.machine.Machine.give.Goals as goal
 
 pub returns-in_ok-go_on-in-Part-clause-leads : goal.returns-in_ok-go_on-in-Part-clause-leads
 returns-in_ok-go_on-in-Part-clause-leads c =
-    subst (λ f. Leads c.args.program.now c.args.self.now (frame_rest c.args.program.now f c.args.value) c.go_on.new.self c.in_ok-go_on-in-Part.field-0) (sym c.in-Part.is)
+    subst (λ f. Leads c.args.index.now c.args.self.now (frame_rest c.args.index.now f c.args.value) c.go_on.new.self c.in_ok-go_on-in-Part.field-0) (sym c.in-Part.is)
     (leads_given _ _ _ _ c.in-Part.waiting _ _ c.in_ok-push-in-Part.ensures.ok c.in_ok-go_on-in-Part.ensures.leads)
