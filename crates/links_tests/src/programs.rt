@@ -65,9 +65,9 @@ const ARGUMENTS: Programs = &[
     ("fun main(a) client { a }", "", "", "done 1 \"\"\n", 0),
     (
         "fun main(a) client { a }",
-        "1 + 2",
+        "1 / 2",
         "",
-        "done 1 \"1 + 2\"\n",
+        "done 1 \"1 / 2\"\n",
         0,
     ),
     (

@@ -285,3 +285,49 @@ const RESULTS_WITH_FUNCTIONS: Programs = &[
 fn functions_inside_results(rt: HostRuntime) -> Result<(), Fail> {
     check(&rt, rt.alloc(), RESULTS_WITH_FUNCTIONS)
 }
+
+const PARTS_IN_ORDER: Bodies = &[
+    (
+        "{ print(\"l\"); \"a\" } ^^ { print(\"r\"); \"b\" }",
+        "print \"l\"\nprint \"r\"\ndone 9 \"ab\"\n",
+        0,
+    ),
+    (
+        "\"a\" ^^ { print(\"m\"); \"b\" } ^^ { print(\"r\"); \"c\" }",
+        "print \"m\"\nprint \"r\"\ndone 11 \"abc\"\n",
+        0,
+    ),
+    (
+        "{ print(\"l\"); 1 } :: { print(\"r\"); [2] }",
+        "print \"l\"\nprint \"r\"\ndone 10 [1,2]\n",
+        0,
+    ),
+    (
+        "{ print(\"l\"); [1] } ++ { print(\"r\"); [2] }",
+        "print \"l\"\nprint \"r\"\ndone 11 [1,2]\n",
+        0,
+    ),
+    (
+        "{ print(\"l\"); 6 } - { print(\"r\"); 2 }",
+        "print \"l\"\nprint \"r\"\ndone 9 4\n",
+        0,
+    ),
+    (
+        "{ print(\"l\"); 1 } / { print(\"r\"); 0 }",
+        "print \"l\"\nprint \"r\"\ntrap 9 divide\n",
+        8,
+    ),
+    (
+        "print({ print(\"in\"); \"out\" })",
+        "print \"in\"\nprint \"out\"\ndone 5 null\n",
+        0,
+    ),
+    ("hd([]) ^^ print(\"r\")", "trap 3 head\n", 8),
+    ("(x = tl([]), y = print(\"y\"))", "trap 3 tail\n", 8),
+    ("1 + true + print(\"r\")", "stuck 21 29\n", 8),
+];
+
+#[test]
+fn parts_go_from_the_left(rt: HostRuntime) -> Result<(), Fail> {
+    check_bodies(&rt, rt.alloc(), PARTS_IN_ORDER)
+}
