@@ -1,4 +1,4 @@
-//! Evaluations of programs that the parser doesn't read yet.
+//! Evaluations of programs whose trees are made by hand.
 
 use crate::trees::{call, concat, expr, function, list, name, program, text, word};
 use lk_ast::{Event, Loc, Node, Program, Text, main_of, value_text};

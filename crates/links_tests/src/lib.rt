@@ -4,6 +4,8 @@
 #[cfg(test)]
 mod evaluation;
 #[cfg(test)]
+mod language;
+#[cfg(test)]
 mod names;
 #[cfg(test)]
 mod parsing;
@@ -19,6 +21,24 @@ mod parsing_spans;
 mod parsing_trees;
 #[cfg(test)]
 mod printing;
+#[cfg(test)]
+mod programs;
+#[cfg(test)]
+mod programs_choices;
+#[cfg(test)]
+mod programs_comparisons;
+#[cfg(test)]
+mod programs_data;
+#[cfg(test)]
+mod programs_fuel;
+#[cfg(test)]
+mod programs_functions;
+#[cfg(test)]
+mod programs_numbers;
+#[cfg(test)]
+mod programs_places;
+#[cfg(test)]
+mod programs_tables;
 #[cfg(test)]
 mod shown_trees;
 #[cfg(test)]

@@ -9,7 +9,8 @@ use std::test::Fail;
 
 const HELLO: &str = "fun main(a) client { \"hi \" ^^ a }\n";
 
-fn words(alloc: Global, line: &[&str]) -> Result<Vec<String>, Fail> {
+/// The words of a line.
+pub fn words(alloc: Global, line: &[&str]) -> Result<Vec<String>, Fail> {
     let mut words = Vec::new(alloc);
     for word in line {
         words.push(String::from_str(alloc, word)?)?;

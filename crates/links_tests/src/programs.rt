@@ -1,0 +1,178 @@
+//! Programs, and what `source` prints for them, worked by hand: every node that is entered is counted.
+
+use crate::source::words;
+use lk_ast::{Bytes, List, Text};
+use lk_cli::links_main;
+use lk_outside::{FileEntry, MemFiles, MemSink};
+use std::alloc::Global;
+use std::process::Abort;
+use std::test::Fail;
+
+/// The body of `fun main(a) client { .. }`, where it begins at byte 21; what is printed for the argument `ann`; the status.
+pub type Bodies = &'static [(&'static str, &'static str, u8)];
+
+/// A program; its argument; the fuel that is given, or the empty text where none is; what is printed; the status.
+pub type Programs = &'static [(&'static str, &'static str, &'static str, &'static str, u8)];
+
+/// The status of `source` on the file `p.links` with this program, and what the sink took.
+pub fn run(alloc: Global, program: &str, arg: &str, fuel: &str) -> Result<(u8, String), Fail> {
+    let mut entries = List::new(alloc);
+    entries.push(FileEntry {
+        name: Text::from_str(alloc, "p.links")?,
+        content: Bytes::from_slice(alloc, program.as_bytes())?,
+    })?;
+    let mut words = words(alloc, &["source", "p.links", arg])?;
+    if !fuel.is_empty() {
+        words.push(String::from_str(alloc, "--fuel")?)?;
+        words.push(String::from_str(alloc, fuel)?)?;
+    }
+    let mut files = MemFiles::new(entries, List::new(alloc));
+    let mut out = MemSink::new(alloc, List::new(alloc));
+    let status = links_main(alloc, &words, &mut files, &mut out);
+    let printed = String::from_utf8(Vec::from_slice(alloc, out.taken().as_slice())?)?;
+    Ok((status, printed))
+}
+
+/// Runs each program, and asserts what is printed and the status.
+pub fn check(rt: &impl Abort, alloc: Global, rows: Programs) -> Result<(), Fail> {
+    for (program, arg, fuel, want, status) in rows {
+        let (ended, printed) = run(alloc, program, arg, fuel)?;
+        assert_eq!(rt; printed.as_str(), *want, "{program:?} {arg:?} {fuel:?}");
+        assert_eq!(rt; ended, *status, "{program:?} {arg:?} {fuel:?}");
+    }
+    Ok(())
+}
+
+/// Runs a program with each body, and asserts what is printed and the status.
+pub fn check_bodies(rt: &impl Abort, alloc: Global, rows: Bodies) -> Result<(), Fail> {
+    for (body, want, status) in rows {
+        let program = format!(in alloc; "fun main(a) client {{ {body} }}")?;
+        let (ended, printed) = run(alloc, program.as_str(), "ann", "")?;
+        assert_eq!(rt; printed.as_str(), *want, "{body:?}");
+        assert_eq!(rt; ended, *status, "{body:?}");
+    }
+    Ok(())
+}
+
+const ARGUMENTS: Programs = &[
+    (
+        "fun main(a) client { \"hi \" ^^ a }",
+        "ann",
+        "",
+        "done 3 \"hi ann\"\n",
+        0,
+    ),
+    ("fun main(a) client { a }", "", "", "done 1 \"\"\n", 0),
+    (
+        "fun main(a) client { a }",
+        "1 / 2",
+        "",
+        "done 1 \"1 / 2\"\n",
+        0,
+    ),
+    (
+        "fun main(a) client { a }",
+        "say \"\u{e9}\" \\ \u{1f600}",
+        "",
+        "done 1 \"say \\\"\u{e9}\\\" \\\\ \u{1f600}\"\n",
+        0,
+    ),
+    (
+        "fun main(a) client { a }",
+        "l1\nl2\r\tend",
+        "",
+        "done 1 \"l1\\nl2\\r\\tend\"\n",
+        0,
+    ),
+    (
+        "fun main(a) client { a }",
+        "\u{1}\u{8}\u{c}\u{1f}\u{7f}",
+        "",
+        "done 1 \"\\u0001\\b\\f\\u001f\u{7f}\"\n",
+        0,
+    ),
+    (
+        "fun main(a) client { print(a); a ^^ a }",
+        "\"\u{e9}",
+        "",
+        "print \"\\\"\u{e9}\"\ndone 6 \"\\\"\u{e9}\\\"\u{e9}\"\n",
+        0,
+    ),
+    (
+        "fun main(a) client { if (a == \"yes\") 1 else 0 }",
+        "yes",
+        "",
+        "done 5 1\n",
+        0,
+    ),
+    (
+        "fun main(a) client { if (a == \"yes\") 1 else 0 }",
+        "Yes",
+        "",
+        "done 5 0\n",
+        0,
+    ),
+    (
+        "fun main(name) client { name }",
+        "ann",
+        "",
+        "done 1 \"ann\"\n",
+        0,
+    ),
+];
+
+#[test]
+fn arguments_are_texts(rt: HostRuntime) -> Result<(), Fail> {
+    check(&rt, rt.alloc(), ARGUMENTS)
+}
+
+// Comments, lines and characters of several bytes in front of a place.
+const TEXTS: Programs = &[
+    (
+        "# one line\nfun main(a) client {\n  a # the argument\n}\n",
+        "ann",
+        "",
+        "done 1 \"ann\"\n",
+        0,
+    ),
+    (
+        "fun main(a) client {\r\n  1 +\r\n  a\r\n}",
+        "ann",
+        "",
+        "stuck 24 32\n",
+        8,
+    ),
+    (
+        "fun main(a) client { # \u{e9}\n 1 + a }",
+        "ann",
+        "",
+        "stuck 27 32\n",
+        8,
+    ),
+    (
+        "fun main(a) client { \"\u{e9}\" ^^ 1 }",
+        "ann",
+        "",
+        "stuck 21 30\n",
+        8,
+    ),
+    (
+        "fun main(a) client { print(\"q\\\"\u{e9}\\\\\\n\\r\\t\") }",
+        "ann",
+        "",
+        "print \"q\\\"\u{e9}\\\\\\n\\r\\t\"\ndone 2 null\n",
+        0,
+    ),
+    (
+        "fun main(a) client { \"\u{1}\t\" }",
+        "ann",
+        "",
+        "done 1 \"\\u0001\\t\"\n",
+        0,
+    ),
+];
+
+#[test]
+fn texts_of_programs(rt: HostRuntime) -> Result<(), Fail> {
+    check(&rt, rt.alloc(), TEXTS)
+}
