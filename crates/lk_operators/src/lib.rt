@@ -1,0 +1,7 @@
+//! What the nodes of the language come to whose values depend on those of their parts alone: literals, operators, lists,
+//! records and tags.
+#![tactic(auto)]
+
+mod outcome;
+
+pub use outcome::Outcome;
