@@ -10,37 +10,37 @@ use Rattle.lk_operators.specs.Values.{int, int_in, text}
 use Rattle.lk_operators.specs.declared.outcome.Outcome.{Outcome}
 use Rattle.lk_operators.specs.declared.outcome.Outcome.TheVariants as outcome
 
--- an operation on two integers that always has a result
-abbrev calculated : (ℤ → ℤ → ℤ) → Value → Value → Outcome
-calculated f = both int_in (λ m n. outcome.Value (int (f m n)))
+-- an operation that always has a result
+abbrev pub calculation : (ℤ → ℤ → ℤ) → ℤ → ℤ → Outcome
+calculation f m n = outcome.Value (int (f m n))
 
 abbrev pub add : Value → Value → Outcome
-add = calculated (int_wrapping_add w64)
+add = both int_in (calculation (int_wrapping_add w64))
 
 abbrev pub subtract : Value → Value → Outcome
-subtract = calculated (int_wrapping_sub w64)
+subtract = both int_in (calculation (int_wrapping_sub w64))
 
 abbrev pub multiply : Value → Value → Outcome
-multiply = calculated (int_wrapping_mul w64)
+multiply = both int_in (calculation (int_wrapping_mul w64))
 
 abbrev pub negate : Value → Outcome
 negate v = given (λ n. outcome.Value (int (int_wrapping_neg w64 n))) (int_in v)
 
-abbrev is_zero : ℤ → Bool
+abbrev pub is_zero : ℤ → Bool
 is_zero (pos zero) = true
 is_zero _ = false
 
--- an operation on two integers of which the second is a divisor
-abbrev divided : (ℤ → ℤ → ℤ) → Value → Value → Outcome
-divided f = both int_in (λ m n. if is_zero n then outcome.Trap Divide else outcome.Value (int (f m n)))
+-- an operation whose second operand is a divisor
+abbrev pub division : (ℤ → ℤ → ℤ) → ℤ → ℤ → Outcome
+division f m n = if is_zero n then outcome.Trap Divide else outcome.Value (int (f m n))
 
 -- The quotient is truncated toward zero, so the remainder has the sign of the dividend (ISO C99, 6.5.5). The least integer
 -- by -1 wraps round to itself, with the remainder 0.
 abbrev pub quotient : Value → Value → Outcome
-quotient = divided (int_wrapping_div w64)
+quotient = both int_in (division (int_wrapping_div w64))
 
 abbrev pub remainder : Value → Value → Outcome
-remainder = divided int_rem
+remainder = both int_in (division int_rem)
 
 -- the decimal digits, behind a minus where it is negative
 abbrev pub int_to_string : Value → Outcome

@@ -63,6 +63,10 @@ same_field f g = bytes_eq f.label g.label && f.value g.value
 abbrev pub same : Value → Value → Bool
 same = fold-Value (Value → Bool) (Field → Bool) ⊤ same_level same_field (λ fun. tt)
 
+-- a field as another one
+abbrev pub same_fields : Field → Field → Bool
+same_fields f g = bytes_eq f.label g.label && same f.value g.value
+
 -- a truth value as the outcome
 abbrev pub holds : (Value → Value → Bool) → Value → Value → Outcome
 holds test v w = outcome.Value (truth (test v w))

@@ -14,15 +14,23 @@ abbrev pub on_none : Outcome → List Value → Outcome
 on_none o [] = o
 on_none o _ = outcome.NoRule
 
+-- the one value of a list
+abbrev pub only : List Value → Option Value
+only (v ∷ []) = Some v
+only _ = None
+
+-- the two values of a list
+abbrev pub pair : List Value → Option (Value × Value)
+pair (v ∷ w ∷ []) = Some (v, w)
+pair _ = None
+
 -- a node with one operand
 abbrev pub on_one : (Value → Outcome) → List Value → Outcome
-on_one f (v ∷ []) = f v
-on_one f _ = outcome.NoRule
+on_one f values = given f (only values)
 
 -- a node with two operands
 abbrev pub on_two : (Value → Value → Outcome) → List Value → Outcome
-on_two f (v ∷ w ∷ []) = f v w
-on_two f _ = outcome.NoRule
+on_two f values = given (λ p. f p.0 p.1) (pair values)
 
 -- both operands are of one kind
 abbrev pub both : {A : Type 0} → (Value → Option A) → (A → A → Outcome) → Value → Value → Outcome

@@ -2,6 +2,10 @@
 //! records and tags.
 #![tactic(auto)]
 
+mod numbers;
+mod operands;
+mod order;
 mod outcome;
 
+pub use order::same;
 pub use outcome::Outcome;
