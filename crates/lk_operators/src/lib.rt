@@ -2,6 +2,7 @@
 //! records and tags.
 #![tactic(auto)]
 
+mod lists;
 mod numbers;
 mod operands;
 mod order;
