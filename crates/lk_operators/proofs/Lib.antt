@@ -1,1 +1,3 @@
+mod Ascending
+mod LastValue
 mod Passing

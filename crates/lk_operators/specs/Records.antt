@@ -17,21 +17,25 @@ abbrev pub Entries : Type 0
 Entries = finite.FinMap (slice_cmp nat_cmp) Value
 
 -- the fields put in one after the other
-abbrev pub entries_of : List Field → Entries
-entries_of = fold (λ entries f. finite.insert entries f.label f.value) finite.empty
+abbrev pub with_fields : Entries → List Field → Entries
+with_fields = fold (λ entries f. finite.insert entries f.label f.value)
 
--- the value that a map is: its entries in byte order of their labels
-abbrev pub record_value : Entries → Value
-record_value entries = fields (map (λ e. field e.0 e.1) (finite.entries entries))
+abbrev pub entries_of : List Field → Entries
+entries_of = with_fields finite.empty
+
+-- the entries in byte order of their labels
+abbrev pub fields_in_order : Entries → List Field
+fields_in_order entries = map (λ e. field e.0 e.1) (finite.entries entries)
 
 -- The record with these fields. There is none where a label comes twice: the map then has fewer entries than there are fields.
 abbrev pub record_of : List Field → Outcome
-record_of fs = if finite.len (entries_of fs) == length fs then outcome.Value (record_value (entries_of fs)) else outcome.NoRule
+record_of fs = if finite.len (entries_of fs) == length fs then outcome.Value (fields (fields_in_order (entries_of fs))) else outcome.NoRule
 
 -- the first value under the first part's label, and so on
 abbrev pub labelled : List PartExpr → List Value → List Field
+labelled parts [] = []
+labelled [] values = []
 labelled (part ∷ parts) (v ∷ values) = field part.label.text v ∷ labelled parts values
-labelled _ _ = []
 
 -- `(l = e, ..)`, with a value for each part
 abbrev pub new_record : List PartExpr → List Value → Outcome

@@ -2,11 +2,15 @@
 //! records and tags.
 #![tactic(auto)]
 
+mod entries;
 mod lists;
+mod nodes;
 mod numbers;
 mod operands;
 mod order;
 mod outcome;
+mod records;
 
+pub use nodes::operate;
 pub use order::same;
 pub use outcome::Outcome;
