@@ -1,3 +1,4 @@
 mod Ascending
 mod LastValue
 mod Passing
+mod Samples

@@ -1,8 +1,7 @@
-//! Lists, texts put together, and the negation of a truth value.
+//! Lists, and texts put together.
 
 ghost use Rattle.std.specs.Prelude.{◌≡◌, IfOk};
 ghost use Rattle.lk_operators.specs.Lists.{append as append_values, concat as concat_values, cons as cons_values, empty as empty_value, head as head_value, tail as tail_value};
-ghost use Rattle.lk_operators.specs.Operators.{negation};
 ghost use Rattle.lk_operators.specs.Outcomes.{on_one, on_two};
 
 use crate::operands::{one, two};
@@ -46,16 +45,16 @@ pub fn append(values: List<Value>) -> Result<Outcome, NoMemory>
 pub fn cons(values: List<Value>) -> Result<Outcome, NoMemory>
     ensures { IfOk result (λ outcome. outcome ≡ on_two cons_values values) }
 {
-    match two(values) {
-        Some((first, rest)) => match rest {
-            Value::List(items) => {
-                let mut items = items.into_vec();
-                items.insert(0, first)?;
-                Ok(Outcome::Value(Value::List(List::from_vec(items))))
-            }
-            _ => Ok(Outcome::NoRule),
-        },
-        None => Ok(Outcome::NoRule),
+    let Some((first, rest)) = two(values) else {
+        return Ok(Outcome::NoRule);
+    };
+    match rest {
+        Value::List(items) => {
+            let mut items = items.into_vec();
+            items.insert(0, first)?;
+            Ok(Outcome::Value(Value::List(List::from_vec(items))))
+        }
+        _ => Ok(Outcome::NoRule),
     }
 }
 
@@ -100,16 +99,6 @@ pub fn empty(values: &[Value]) -> Outcome
 {
     match values {
         [Value::List(items)] => Outcome::Value(Value::Base(Base::Bool(items.is_empty()))),
-        _ => Outcome::NoRule,
-    }
-}
-
-/// `!e`.
-pub fn negation(values: &[Value]) -> Outcome
-    ensures { result ≡ on_one negation values.now }
-{
-    match values {
-        [Value::Base(Base::Bool(truth))] => Outcome::Value(Value::Base(Base::Bool(!*truth))),
         _ => Outcome::NoRule,
     }
 }

@@ -2,8 +2,8 @@
 
 ghost use Rattle.std.specs.Prelude.{◌≡◌, IfOk};
 ghost use Rattle.lk_ast.specs.declared.expression.Node.{out-Node};
-ghost use Rattle.lk_operators.specs.Operators.{operated};
-ghost use Rattle.lk_operators.specs.Outcomes.{on_none};
+ghost use Rattle.lk_operators.specs.Operators.{negation, operated};
+ghost use Rattle.lk_operators.specs.Outcomes.{on_none, on_one};
 ghost use Rattle.lk_operators.specs.Values.{text};
 ghost use Rattle.lk_operators.specs.declared.outcome.Outcome.TheVariants as outcome;
 
@@ -38,7 +38,7 @@ pub fn operate(alloc: Global, node: &Node, values: List<Value>) -> Result<Outcom
         Node::Gt(_, _) => Ok(order::comparison(Test::Gt, values.as_slice())),
         Node::Ge(_, _) => Ok(order::comparison(Test::Ge, values.as_slice())),
         Node::Neg(_) => Ok(numbers::negate(values.as_slice())),
-        Node::Not(_) => Ok(lists::negation(values.as_slice())),
+        Node::Not(_) => Ok(negation(values.as_slice())),
         Node::Hd(_) => Ok(lists::head(values)),
         Node::Tl(_) => Ok(lists::tail(values)),
         Node::Empty(_) => Ok(lists::empty(values.as_slice())),
@@ -87,4 +87,14 @@ fn text(alloc: Global, bytes: &Text, values: List<Value>) -> Result<Outcome, NoM
 {
     let bytes = bytes.copy(alloc)?;
     Ok(literal(Value::Base(Base::Text(bytes)), values))
+}
+
+/// `!e`.
+pub fn negation(values: &[Value]) -> Outcome
+    ensures { result ≡ on_one negation values.now }
+{
+    match values {
+        [Value::Base(Base::Bool(truth))] => Outcome::Value(Value::Base(Base::Bool(!*truth))),
+        _ => Outcome::NoRule,
+    }
 }

@@ -1,8 +1,8 @@
 //! Records, and tags.
 
-ghost use Rattle.std.specs.Prelude.{◌≡◌, ◌++◌, IfOk, OnOk, bytes_eq, find as find_first};
+ghost use Rattle.std.specs.Prelude.{◌≡◌, ◌++◌, IfOk, OnOk, bytes_eq, find};
 ghost use Rattle.lk_operators.specs.Outcomes.{on_one};
-ghost use Rattle.lk_operators.specs.Records.{extended, labelled as labelled_values, new_record, project as project_value, record_of as record_with, tag as tag_value, value_under as value_in};
+ghost use Rattle.lk_operators.specs.Records.{extended, labelled as labelled_values, new_record, project as project_value, record_of, tag as tag_value, value_under as value_in};
 
 use crate::entries::Entries;
 use crate::operands::one;
@@ -19,7 +19,7 @@ pub fn record(alloc: Global, parts: &[PartExpr], values: List<Value>) -> Result<
     }
     let mut fields = List::new(alloc);
     label(alloc, &mut fields, parts, values)?;
-    Ok(record_of(alloc, fields)?)
+    Ok(record_with(alloc, fields)?)
 }
 
 /// `(l = e, .. | r)`.
@@ -36,9 +36,9 @@ pub fn extend(
         return Ok(Outcome::NoRule);
     }
     match last {
-        Some(Value::Fields(mut fields)) => {
-            label(alloc, &mut fields, parts, values)?;
-            Ok(record_of(alloc, fields)?)
+        Some(Value::Fields(mut known)) => {
+            label(alloc, &mut known, parts, values)?;
+            Ok(record_with(alloc, known)?)
         }
         _ => Ok(Outcome::NoRule),
     }
@@ -66,8 +66,8 @@ fn label(
 }
 
 /// The record with these fields, unless a label comes twice.
-fn record_of(alloc: Global, fields: List<Field>) -> Result<Outcome, NoMemory>
-    ensures { IfOk result (λ outcome. outcome ≡ record_with fields) }
+fn record_with(alloc: Global, fields: List<Field>) -> Result<Outcome, NoMemory>
+    ensures { IfOk result (λ outcome. outcome ≡ record_of fields) }
 {
     let count = fields.len();
     let entries = Entries::from_fields(alloc, fields)?;
@@ -117,7 +117,7 @@ pub fn tag(alloc: Global, tag: &Text, values: List<Value>) -> Result<Outcome, No
 
 /// The first field with that label.
 fn find(label: &Text, fields: List<Field>) -> Option<Field>
-    ensures { result ≡ find_first (λ f. bytes_eq f.label label.now) fields }
+    ensures { result ≡ find (λ f. bytes_eq f.label label.now) fields }
 {
     fields
         .into_vec()
