@@ -1,0 +1,4 @@
+mod Ascending
+mod LastValue
+mod Passing
+mod Samples

@@ -1,0 +1,7 @@
+use Rattle.std.proofs.Common.{◌≡◌, ◌++◌}
+use Rattle.std.specs.Vec.Iter.{into_iter_items}
+use Rattle.lk_operators.specs.Records.{labelled}
+use Rattle.lk_operators.proofs.records.label.Given as goal
+
+abbrev pub invariant-loop-value : goal.invariant-loop-value
+invariant-loop-value l = l.fields ++ labelled l.rest (into_iter_items l.value-iterator) ≡ l.initial.fields ++ labelled l.initial.rest (into_iter_items l.initial.value-iterator)
