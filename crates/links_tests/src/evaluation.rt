@@ -27,6 +27,7 @@ fn put_end(line: &mut String, alloc: Global, end: &SourceEnd) -> Result<(), Fail
         SourceEnd::Trap(_) => line.push_str("trap")?,
         SourceEnd::Spent => line.push_str("spent")?,
         SourceEnd::Stuck(at) => write!(line, "stuck {} {}", at.start, at.end)?,
+        SourceEnd::NoStore(at) => write!(line, "no-store {} {}", at.start, at.end)?,
     }
     Ok(())
 }

@@ -190,10 +190,14 @@ const CASES: Bodies = &[
     ),
     (
         "switch (a) { case x -> x ^^ \"!\" }",
-        "done 5 \"ann!\"\n",
-        0,
+        "stuck 21 54\n",
+        8,
     ),
-    ("switch (1) { case T -> 2 case x -> x }", "done 3 1\n", 0),
+    (
+        "switch (1) { case T -> 2 case x -> x }",
+        "stuck 21 59\n",
+        8,
+    ),
     (
         "switch (A(B(3))) { case A(x) -> switch (x) { case B(y) -> y case z -> 0 } }",
         "done 7 3\n",

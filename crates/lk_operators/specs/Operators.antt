@@ -13,7 +13,7 @@ use Rattle.lk_operators.specs.Values.{int, truth, text, list, bool_in}
 use Rattle.lk_operators.specs.declared.outcome.Outcome.{Outcome}
 use Rattle.lk_operators.specs.declared.outcome.Outcome.TheVariants as outcome
 
--- `!e`
+-- `not(e)`
 abbrev pub negation : Value → Outcome
 negation v = given (λ b. outcome.Value (truth (not b))) (bool_in v)
 

@@ -54,6 +54,10 @@ abbrev tag_at : Value-F Value Field FunValue → Option (List ℕ × Value)
 tag_at (Value-F.Tag tag v) = Some (tag, v)
 tag_at _ = None
 
+abbrev fun_at : Value-F Value Field FunValue → Option FunValue
+fun_at (Value-F.Fun f) = Some f
+fun_at _ = None
+
 abbrev int_of : Option Base → Option ℤ
 int_of (Some (base.Int n)) = Some n
 int_of _ = None
@@ -88,6 +92,9 @@ fields_in v = fields_at (out-Value v)
 -- a tag and the value with it
 abbrev pub tag_in : Value → Option (List ℕ × Value)
 tag_in v = tag_at (out-Value v)
+
+abbrev pub fun_in : Value → Option FunValue
+fun_in v = fun_at (out-Value v)
 
 abbrev is_empty_record : Option (List Field) → Bool
 is_empty_record (Some []) = true

@@ -135,20 +135,24 @@ switch at v (Some (t, held)) cases last names = in_cases at (case_of t cases) la
 
 -- ---- nodes
 
--- What a form does with the value of its first part. The last line is for the operations, which say what they come to on
--- the values of their parts, and for numbers of values that never occur.
+-- What a choice does with its truth value. The last line is for the operations, which say what they come to on the values
+-- of their parts, and for numbers of values that never occur.
+abbrev pub choice : Span → Layer → Names → List Value → Act Point
+choice at (Node-F.If c d e) names (v ∷ []) = choose at (bool_in v) (Tail (under names d)) (Tail (under names e))
+choice at (Node-F.And a b) names (v ∷ []) = choose at (bool_in v) (Tail (under names b)) (Give (truth false))
+choice at (Node-F.Or a b) names (v ∷ []) = choose at (bool_in v) (Give (truth true)) (Tail (under names b))
+choice at (Node-F.Where c e) names (v ∷ []) = choose at (bool_in v) (Tail (under names e)) (Give (value.List []))
+choice at other names values = done at (operated other values)
+
+-- what a form does with the value of its first part
 abbrev pub form : Span → Layer → Names → List Value → Act Point
 form at (Node-F.Var x e rest) names (v ∷ []) = Tail (under (bind x.text v names) rest)
 form at (Node-F.Seq e rest) names (v ∷ []) = after_unit at (is_unit v) (Tail (under names rest))
-form at (Node-F.If c d e) names (v ∷ []) = choose at (bool_in v) (Tail (under names d)) (Tail (under names e))
-form at (Node-F.And a b) names (v ∷ []) = choose at (bool_in v) (Tail (under names b)) (Give (truth false))
-form at (Node-F.Or a b) names (v ∷ []) = choose at (bool_in v) (Give (truth true)) (Tail (under names b))
 form at (Node-F.Print e) names (v ∷ []) = print at (text_in v)
 form at (Node-F.Switch e cases last) names (v ∷ []) = switch at v (tag_in v) cases last names
 form at (Node-F.ForList x e body) names (v ∷ []) = over at x.text (list_in v) body names
 form at (Node-F.ForTable x table body) names (v ∷ []) = over at x.text (list_in v) body names
-form at (Node-F.Where c e) names (v ∷ []) = choose at (bool_in v) (Tail (under names e)) (Give (value.List []))
-form at other names values = done at (operated other values)
+form at other names values = choice at other names values
 
 -- What a node does with the values of its parts. There is no store yet, so what acts on tables ends at the server.
 abbrev pub act : Program → Span → Layer → Names → List Value → Act Point

@@ -5,12 +5,12 @@ ghost use Rattle.lk_ast.specs.Layers.{layer};
 ghost use Rattle.lk_ast.specs.declared.expression.Node.{out-Node};
 ghost use Rattle.lk_sem.specs.Scope.{names_of};
 ghost use Rattle.lk_sem.specs.Acts.{IsAct};
-ghost use Rattle.lk_sem.specs.Source.{act, form};
+ghost use Rattle.lk_sem.specs.Source.{act, choice, form};
 
 use crate::calls::{apply_first, call, closure, function_value};
-use crate::names::{Scope, find, with};
 use crate::cases::switch;
-use crate::values::{after_unit, done, only};
+use crate::names::{Scope, find, with};
+use crate::values::{after_unit, done, only, truth};
 use lk_ast::{Base, Expr, List, Loc, NoMemory, Node, Span, Text, Trap, Value, copy_value};
 use lk_index::Index;
 use lk_operators::operate;
@@ -77,30 +77,6 @@ fn form<'p>(
             Some(value) => Ok(after_unit(at, &value, rest, scope)),
             None => Ok(Act::Lacks),
         },
-        Node::If(_, then, other) => match only(values) {
-            Some(Value::Base(Base::Bool(true))) => Ok(Act::Tail(then, scope)),
-            Some(Value::Base(Base::Bool(false))) => Ok(Act::Tail(other, scope)),
-            _ => Ok(Act::Lacks),
-        },
-        Node::And(_, right) => match only(values) {
-            Some(Value::Base(Base::Bool(true))) => Ok(Act::Tail(right, scope)),
-            Some(Value::Base(Base::Bool(false))) => {
-                Ok(Act::Give(Value::Base(Base::Bool(false))))
-            }
-            _ => Ok(Act::Lacks),
-        },
-        Node::Or(_, right) => match only(values) {
-            Some(Value::Base(Base::Bool(true))) => Ok(Act::Give(Value::Base(Base::Bool(true)))),
-            Some(Value::Base(Base::Bool(false))) => Ok(Act::Tail(right, scope)),
-            _ => Ok(Act::Lacks),
-        },
-        Node::Where(_, body) => match only(values) {
-            Some(Value::Base(Base::Bool(true))) => Ok(Act::Tail(body, scope)),
-            Some(Value::Base(Base::Bool(false))) => {
-                Ok(Act::Give(Value::List(List::new(alloc))))
-            }
-            _ => Ok(Act::Lacks),
-        },
         Node::Print(_) => match only(values) {
             Some(Value::Base(Base::Text(text))) => Ok(Act::Print(text)),
             _ => Ok(Act::Lacks),
@@ -111,6 +87,41 @@ fn form<'p>(
         },
         Node::ForList(name, _, body) | Node::ForTable(name, _, body) => match only(values) {
             Some(Value::List(items)) => Ok(Act::Each(name.text.as_str(), items, body, scope)),
+            _ => Ok(Act::Lacks),
+        },
+        node => Ok(choice(alloc, at, node, scope, values)?),
+    }
+}
+
+/// What a choice does with its truth value; `at` is the node's span.
+fn choice<'p>(
+    alloc: Global,
+    at: Span,
+    node: &'p Node,
+    scope: Scope<'p>,
+    values: List<Value>,
+) -> Result<Act<'p>, NoMemory>
+    ensures { IfOk result (λ a. IsAct at a (choice at (out-Node node.now) (names_of scope.entry) values)) }
+{
+    match node {
+        Node::If(_, then, other) => match only(values) {
+            Some(Value::Base(Base::Bool(true))) => Ok(Act::Tail(then, scope)),
+            Some(Value::Base(Base::Bool(false))) => Ok(Act::Tail(other, scope)),
+            _ => Ok(Act::Lacks),
+        },
+        Node::And(_, right) => match only(values) {
+            Some(Value::Base(Base::Bool(true))) => Ok(Act::Tail(right, scope)),
+            Some(Value::Base(Base::Bool(false))) => Ok(Act::Give(truth(false))),
+            _ => Ok(Act::Lacks),
+        },
+        Node::Or(_, right) => match only(values) {
+            Some(Value::Base(Base::Bool(true))) => Ok(Act::Give(truth(true))),
+            Some(Value::Base(Base::Bool(false))) => Ok(Act::Tail(right, scope)),
+            _ => Ok(Act::Lacks),
+        },
+        Node::Where(_, body) => match only(values) {
+            Some(Value::Base(Base::Bool(true))) => Ok(Act::Tail(body, scope)),
+            Some(Value::Base(Base::Bool(false))) => Ok(Act::Give(Value::List(List::new(alloc)))),
             _ => Ok(Act::Lacks),
         },
         node => Ok(done(at, operate(alloc, node, values)?)),

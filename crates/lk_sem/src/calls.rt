@@ -41,7 +41,10 @@ pub fn closure<'p>(
 {
     let names = captured(alloc, lambda)?;
     match find_all(alloc, scope.get().as_slice(), names.as_slice())? {
-        Some(env) => Ok(Act::Give(Value::Fun(FunValue { site: at.start, env }))),
+        Some(env) => Ok(Act::Give(Value::Fun(FunValue {
+            site: at.start,
+            env,
+        }))),
         None => Ok(Act::Lacks),
     }
 }
@@ -60,7 +63,15 @@ pub fn call<'p>(
         Some(function) => {
             let none = List::new(alloc);
             let params = function.params.as_slice();
-            Ok(go_to(alloc, at, function.place, none, params, args, &function.body)?)
+            Ok(go_to(
+                alloc,
+                at,
+                function.place,
+                none,
+                params,
+                args,
+                &function.body,
+            )?)
         }
         None => Ok(Act::Lacks),
     }
@@ -97,14 +108,30 @@ fn apply<'p>(
     if let Some(function) = index.function_at(f.site) {
         let none = List::new(alloc);
         let params = function.params.as_slice();
-        return Ok(go_to(alloc, at, function.place, none, params, args, &function.body)?);
+        return Ok(go_to(
+            alloc,
+            at,
+            function.place,
+            none,
+            params,
+            args,
+            &function.body,
+        )?);
     }
     match index.lambda_at(f.site) {
         Some(found) => {
             let FunValue { site: _, env } = f;
             let kept = bind_names(alloc, found.names.as_slice(), env)?;
             let params = found.lambda.params.as_slice();
-            Ok(go_to(alloc, at, found.lambda.place, kept, params, args, &found.lambda.body)?)
+            Ok(go_to(
+                alloc,
+                at,
+                found.lambda.place,
+                kept,
+                params,
+                args,
+                &found.lambda.body,
+            )?)
         }
         None => Ok(Act::Lacks),
     }

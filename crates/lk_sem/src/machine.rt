@@ -216,12 +216,7 @@ impl<'p> Machine<'p> {
     }
 
     /// Ends at what acts on tables, for which there is no store, once control is at the server.
-    fn no_store(
-        &mut self,
-        index: &'p Index<'p>,
-        place: Loc,
-        at: Span,
-    ) -> Result<Next<'p>, NoMemory>
+    fn no_store(&mut self, index: &'p Index<'p>, place: Loc, at: Span) -> Result<Next<'p>, NoMemory>
         ensures leads { IfOk result (λ next. Leads index.now self.old
             (perform (source index.now) (eval (source index.now)) place (spec.Uses Loc.Server (spec.Missing at)))
             self.new next) }

@@ -31,10 +31,7 @@ pub fn find<'a>(bindings: &'a [Binding], name: &str) -> Option<&'a Value>
 fn find_binding<'a, 'p>(bindings: &'a [Binding<'p>], name: &str) -> Option<&'a Binding<'p>>
     ensures { option_copied result ≡ find (λ b. bytes_eq b.name.now name.now) (reverse bindings.now) }
 {
-    bindings
-        .iter()
-        .rev()
-        .find(|binding| binding.name == name)
+    bindings.iter().rev().find(|binding| binding.name == name)
 }
 
 /// The names with one more, which hides an outer one. They are copied only where something else needs them as they are.

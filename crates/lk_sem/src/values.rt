@@ -1,7 +1,7 @@
 //! Acts that the values of a node's parts decide.
 
 ghost use Rattle.std.specs.Prelude.{◌≡◌};
-ghost use Rattle.lk_operators.specs.Values.{is_unit};
+ghost use Rattle.lk_operators.specs.Values.{is_unit, truth as truth_value};
 ghost use Rattle.lk_sem.specs.Acts.{IsAct, only_of, first_of};
 ghost use Rattle.lk_sem.specs.Evaluation.{Tail};
 ghost use Rattle.lk_sem.specs.Scope.{names_of};
@@ -9,7 +9,7 @@ ghost use Rattle.lk_sem.specs.Source.{done, under, after_unit as after_value};
 
 use crate::act::Act;
 use crate::names::Scope;
-use lk_ast::{Expr, List, Span, Value};
+use lk_ast::{Base, Expr, List, Span, Value};
 use lk_operators::Outcome;
 
 /// The one value of a list.
@@ -32,6 +32,13 @@ pub fn first(values: List<Value>) -> Option<(Value, List<Value>)>
         let first = values.remove(0);
         Some((first, List::from_vec(values)))
     }
+}
+
+/// A truth value.
+pub fn truth(truth: bool) -> Value
+    ensures { result ≡ truth_value truth }
+{
+    Value::Base(Base::Bool(truth))
 }
 
 /// What an operation on values comes to; `at` is the node's span.
