@@ -25,3 +25,5 @@ mod shown_trees;
 mod source;
 #[cfg(test)]
 mod trees;
+#[cfg(test)]
+mod words;
