@@ -45,3 +45,5 @@ mod shown_trees;
 mod source;
 #[cfg(test)]
 mod trees;
+#[cfg(test)]
+mod words;

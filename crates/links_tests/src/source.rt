@@ -74,6 +74,16 @@ fn refuses_what_is_no_program(rt: HostRuntime) -> Result<(), Fail> {
     check(&rt, alloc, &line, List::new(alloc), List::new(alloc), want)
 }
 
+/// The status of these words, and what the sink took.
+pub fn run_words(alloc: Global, line: &[&str]) -> Result<(u8, Vec<u8>), Fail> {
+    let words = words(alloc, line)?;
+    let mut files = files(alloc, List::new(alloc))?;
+    let mut out = MemSink::new(alloc, List::new(alloc));
+    let status = links_main(alloc, &words, &mut files, &mut out);
+    let printed = Vec::from_slice(alloc, out.taken().as_slice())?;
+    Ok((status, printed))
+}
+
 /// The status of `source` on a file with this text, and what the sink took.
 pub fn run_source(alloc: Global, text: &[u8]) -> Result<(u8, Vec<u8>), Fail> {
     let mut entries = List::new(alloc);

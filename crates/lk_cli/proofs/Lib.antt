@@ -1,2 +1,5 @@
+pub mod Forms
 pub mod Limits
+pub mod Numbers
+pub mod Samples
 pub mod Sessions

@@ -8,11 +8,11 @@ use Rattle.lk_names.specs.Programs.{IsBound}
 use Rattle.lk_sem.specs.Source.{session}
 use Rattle.lk_sem.specs.SourceRuns.{IsRunOf}
 use Rattle.lk_sem.specs.declared.run.SourceRun.{SourceRun}
-use Rattle.lk_cli.specs.Answers.{IsSession, source_fuel}
+use Rattle.lk_cli.specs.Answers.{IsSession}
 
-pub session_of_main : (program : Program) (arg : List ℕ) (run : SourceRun) → IsBound program → IsSome (main_of program) → IfSome (main_of program) (λ main. IsRunOf (session program main arg) source_fuel run) → IsSession program arg run
-session_of_main program arg run bound begins is = go (main_of program) refl begins is
+pub session_of_main : (program : Program) (arg : List ℕ) (fuel : ℕ) (run : SourceRun) → IsBound program → IsSome (main_of program) → IfSome (main_of program) (λ main. IsRunOf (session program main arg) fuel run) → IsSession program arg fuel run
+session_of_main program arg fuel run bound begins is = go (main_of program) refl begins is
   where
-    go : (found : Option FunDef) → main_of program ≡ found → IsSome found → IfSome found (λ main. IsRunOf (session program main arg) source_fuel run) → IsSession program arg run
+    go : (found : Option FunDef) → main_of program ≡ found → IsSome found → IfSome found (λ main. IsRunOf (session program main arg) fuel run) → IsSession program arg fuel run
     go None e begins is = absurd (true≢false (sym begins))
     go (Some main) e begins is = (bound, main, e, is)

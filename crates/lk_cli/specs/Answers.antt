@@ -24,21 +24,18 @@ use Rattle.lk_cli.specs.declared.answer.Refusal.{Refusal}
 use Rattle.lk_cli.specs.declared.answer.Refusal.TheVariants.{Words, ReadFault, TextTooLong, NotUtf8, BadToken, TooNested, Unexpected, Unbound, Twice, NoMain, NoMemory}
 use Rattle.lk_cli.specs.declared.command.SourceCommand.{SourceCommand}
 
--- how many nodes the evaluation of `source` may enter
-abbrev pub source_fuel : ℕ
-source_fuel = 1_000_000
-
 -- the program that the text of that file is
 abbrev pub IsProgram : FilesSeen → List ℕ → Program → Type 0
 IsProgram files name program = (text : List ℕ) × HasText files name text × IsProgramText text program
 
--- the program's names are bound, and the run is the evaluation of its session with this argument
-abbrev pub IsSession : Program → List ℕ → SourceRun → Type 0
-IsSession program arg run = names.IsBound program × (main : FunDef) × (main_of program ≡ Some main) × IsRunOf (session program main arg) source_fuel run
+-- the program's names are bound, and the run is the evaluation of its session with this argument, which begins with
+-- this fuel
+abbrev pub IsSession : Program → List ℕ → ℕ → SourceRun → Type 0
+IsSession program arg fuel run = names.IsBound program × (main : FunDef) × (main_of program ≡ Some main) × IsRunOf (session program main arg) fuel run
 
 -- what a command comes to where nothing refuses it
 abbrev pub Gives : FilesSeen → Option SourceCommand → SourceRun → Type 0
-Gives files (Some command) run = (program : Program) × IsProgram files command.program program × IsSession program command.arg run
+Gives files (Some command) run = (program : Program) × IsProgram files command.program program × IsSession program command.arg command.fuel run
 Gives files None run = ⊥
 
 -- the text of that file is refused for this reason

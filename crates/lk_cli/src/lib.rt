@@ -13,6 +13,3 @@ pub use top::links_main;
 
 /// How many bytes of a program's file are read: one more than a program's text may have.
 const READ_MAX: u64 = 1_048_577;
-
-/// The fuel of `source`: how many nodes an evaluation may enter.
-const FUEL: u64 = 1_000_000;

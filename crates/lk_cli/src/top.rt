@@ -7,9 +7,9 @@ ghost use Rattle.lk_cli.specs.Words.{form_of};
 ghost use Rattle.lk_cli.specs.declared.answer.Refusal.{Refusal as TheRefusal};
 ghost use Rattle.lk_sem.specs.declared.run.SourceRun.{SourceRun as TheSourceRun};
 
+use crate::READ_MAX;
 use crate::answer::{Refusal, answer_status, print_answer};
 use crate::command::{SourceCommand, read_words};
-use crate::{FUEL, READ_MAX};
 use lk_ast::{Program, Text};
 use lk_names::resolve;
 use lk_outside::{Files, OutFault, Sink};
@@ -71,7 +71,7 @@ fn answer_source<F: Files>(
     ensures { Answers (seen F.contents F.failed F.faults files.old files.new) (Some command.now) result }
 {
     let program = read_program(alloc, command.program.as_str(), files)?;
-    Ok(run_session(alloc, program, &command.arg)?)
+    Ok(run_session(alloc, program, &command.arg, command.fuel)?)
 }
 
 /// The program of the file of that name.
@@ -89,11 +89,11 @@ fn read_program<F: Files>(alloc: Global, name: &str, files: &mut F) -> Result<Pr
     Ok(parse(alloc, text.as_slice())?)
 }
 
-/// The evaluation of the session of a program with this argument.
-fn run_session(alloc: Global, program: Program, arg: &Text) -> Result<SourceRun, Refusal>
-    ensures run { IfOk result (IsSession program arg.now) }
+/// The evaluation of the session of a program with this argument and fuel.
+fn run_session(alloc: Global, program: Program, arg: &Text, fuel: u64) -> Result<SourceRun, Refusal>
+    ensures run { IfOk result (IsSession program arg.now fuel) }
     ensures refused { IfErr result (HasNoSession program) }
 {
     let scoped = resolve(alloc, program)?;
-    Ok(source_run(alloc, scoped.program(), arg, FUEL)?)
+    Ok(source_run(alloc, scoped.program(), arg, fuel)?)
 }

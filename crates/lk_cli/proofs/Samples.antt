@@ -1,0 +1,66 @@
+-- Words worked by hand, and the forms that the definition computes of them.
+use Rattle.std.proofs.Common.{◌≡◌, ℕ, List, [], ◌∷◌, codes, refl, Option, Some, None}
+use Rattle.std.specs.Fmt.{digits}
+use Rattle.clap.proofs.OnLiterals.{clap_on_literals}
+use Rattle.lk_cli.specs.Words.{form_of, source_of}
+use Rattle.lk_cli.specs.declared.command.SourceCommand.{SourceCommand}
+
+-- `source p` with this argument and fuel
+abbrev source : List ℕ → ℕ → Option SourceCommand
+source arg fuel = Some (record { program = codes "p"; arg = arg; fuel = fuel })
+
+-- ---- words that have a form
+
+plain : form_of (codes "source" ∷ codes "p" ∷ codes "a" ∷ []) ≡ source (codes "a") 1_000_000
+unfolding clap_on_literals form_of source_of
+plain = refl
+
+option_between : form_of (codes "source" ∷ codes "p" ∷ codes "--fuel" ∷ codes "5" ∷ codes "a" ∷ []) ≡ source (codes "a") 5
+unfolding clap_on_literals form_of source_of digits
+option_between = refl
+
+option_in_one_word : form_of (codes "source" ∷ codes "--fuel=1000000000" ∷ codes "p" ∷ codes "a" ∷ []) ≡ source (codes "a") 1_000_000_000
+unfolding clap_on_literals form_of source_of digits
+option_in_one_word = refl
+
+-- what begins with a `-` is an argument behind `--`, and `-` alone is one anywhere
+hyphens : (form_of (codes "source" ∷ codes "p" ∷ codes "--" ∷ codes "-1" ∷ []) ≡ source (codes "-1") 1_000_000)
+    × (form_of (codes "source" ∷ codes "p" ∷ codes "-" ∷ []) ≡ source (codes "-") 1_000_000)
+unfolding clap_on_literals form_of source_of
+hyphens = (refl, refl)
+
+-- ---- words that have none
+
+nothing : form_of [] ≡ None
+unfolding clap_on_literals form_of
+nothing = refl
+
+other_counts : (form_of (codes "source" ∷ codes "p" ∷ []) ≡ None) × (form_of (codes "source" ∷ codes "p" ∷ codes "a" ∷ codes "b" ∷ []) ≡ None)
+unfolding clap_on_literals form_of
+other_counts = (refl, refl)
+
+unknown_option : form_of (codes "source" ∷ codes "p" ∷ codes "-1" ∷ []) ≡ None
+unfolding clap_on_literals form_of
+unknown_option = refl
+
+repeated_option : form_of (codes "source" ∷ codes "p" ∷ codes "a" ∷ codes "--fuel" ∷ codes "5" ∷ codes "--fuel=5" ∷ []) ≡ None
+unfolding clap_on_literals form_of
+repeated_option = refl
+
+option_without_value : form_of (codes "source" ∷ codes "p" ∷ codes "a" ∷ codes "--fuel" ∷ []) ≡ None
+unfolding clap_on_literals form_of
+option_without_value = refl
+
+-- the form with `--fuel` and this text
+abbrev with_fuel : List ℕ → Option SourceCommand
+with_fuel text = form_of (codes "source" ∷ codes "p" ∷ codes "a" ∷ codes "--fuel" ∷ text ∷ [])
+
+no_numbers : (with_fuel (codes "0") ≡ None) × (with_fuel (codes "007") ≡ None) × (with_fuel (codes "+5") ≡ None)
+    × (with_fuel (codes "1000000001") ≡ None) × (with_fuel [] ≡ None)
+unfolding clap_on_literals form_of source_of digits
+no_numbers = (refl, refl, refl, refl, refl)
+
+help_and_version : (form_of (codes "--help" ∷ []) ≡ None) × (form_of (codes "help" ∷ []) ≡ None) × (form_of (codes "-h" ∷ []) ≡ None)
+    × (form_of (codes "--version" ∷ []) ≡ None) × (form_of (codes "source" ∷ codes "--help" ∷ []) ≡ None)
+unfolding clap_on_literals form_of
+help_and_version = (refl, refl, refl, refl, refl)
