@@ -1,0 +1,4 @@
+//! Where the functions of a program stand, and which names a lambda captures.
+#![tactic(auto)]
+
+mod trial;
