@@ -1,9 +1,13 @@
 -- The free local names of an expression, those that it uses and nothing in it binds (Barendregt, The Lambda Calculus, 1984,
 -- section 2.1), where a name is bound in the part of the text that its binder says (Aho, Lam, Sethi and Ullman, Compilers,
 -- 2006, section 1.6.3). A function value captures them.
-use Rattle.std.specs.Prelude.{ℕ, List, [], ◌∷◌, ◌++◌, Option, Some, None, if◌then◌else◌}
-use Rattle.std.specs.FinSet as set
+use Rattle.std.specs.Prelude.{ℕ, List, [], ◌∷◌, ◌++◌, Option, Some, None, map, if◌then◌else◌}
+use Rattle.std.specs.Borrow.{Bor}
+use Rattle.std.specs.Cmp.Lexicographic.{slice_cmp}
+use Rattle.std.specs.FinMap as finite
 use Rattle.std.specs.List.{flat_map}
+use Rattle.std.specs.Ordering.{nat_cmp}
+use Rattle.std.specs.declared.cmp.Ordering.{Ordering}
 use Rattle.lk_ast.specs.declared.expression.Case.{Case, fold-Case}
 use Rattle.lk_ast.specs.declared.expression.ChangeExpr.{ChangeExpr, fold-ChangeExpr}
 use Rattle.lk_ast.specs.declared.expression.Expr.{Expr, Expr-F, fold-Expr}
@@ -133,10 +137,17 @@ free_change = fold-ChangeExpr Uses Uses Uses Uses Uses Uses Uses node_in case_in
 
 -- ---- what a function value captures
 
--- the set of these names
-abbrev pub names_of : List (List ℕ) → Names
-names_of words = set.from_list words
+-- the texts of borrowed names
+abbrev pub texts : List (Bor (List ℕ)) → List (List ℕ)
+texts names = map (λ n. n.now) names
+
+abbrev pub byte_order : Bor (List ℕ) → Bor (List ℕ) → Ordering
+byte_order x y = slice_cmp nat_cmp x.now y.now
+
+-- these words in byte order, each once: the keys of the finite map that has something at each of them
+abbrev pub in_byte_order : List (List ℕ) → List (List ℕ)
+in_byte_order words = finite.keys (finite.from_entries {R = slice_cmp nat_cmp} (map (λ word. (word, tt {0})) words))
 
 -- the free names of a lambda in byte order, each once
 abbrev pub captured : LambdaExpr → List (List ℕ)
-captured lambda = set.items (names_of (free_lambda lambda no_names))
+captured lambda = in_byte_order (free_lambda lambda no_names)

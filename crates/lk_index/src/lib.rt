@@ -1,4 +1,6 @@
 //! Where the functions of a program stand, and which names a lambda captures.
 #![tactic(auto)]
 
-mod trial;
+mod free;
+
+pub use free::captured;
