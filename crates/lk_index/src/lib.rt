@@ -2,5 +2,6 @@
 #![tactic(auto)]
 
 mod free;
+mod places;
 
 pub use free::captured;
