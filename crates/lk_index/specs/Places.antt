@@ -16,8 +16,8 @@ use Rattle.lk_ast.specs.declared.expression.PartExpr.{PartExpr, para-PartExpr}
 
 -- a lambda, and the place where it begins
 pub record PlacedLambda : Type 0 where
-  site : ℕ
-  lambda : LambdaExpr
+  pub site : ℕ
+  pub lambda : LambdaExpr
 
 -- lambdas in text order, each before those in its body
 abbrev pub Lambdas : Type 0

@@ -2,6 +2,8 @@
 #![tactic(auto)]
 
 mod free;
+mod index;
 mod places;
 
 pub use free::captured;
+pub use index::{Index, IndexedLambda};
