@@ -89,7 +89,7 @@ fn text(alloc: Global, bytes: &Text, values: List<Value>) -> Result<Outcome, NoM
     Ok(literal(Value::Base(Base::Text(bytes)), values))
 }
 
-/// `!e`.
+/// `not(e)`.
 pub fn negation(values: &[Value]) -> Outcome
     ensures { result ≡ on_one negation values.now }
 {
