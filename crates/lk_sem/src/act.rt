@@ -33,7 +33,7 @@ pub enum Act<'p> {
 /// What the node does with the values of its parts.
 pub fn act_of<'p>(
     alloc: Global,
-    index: &'p Index<'p>,
+    index: &Index<'p>,
     e: &'p Expr,
     scope: Scope<'p>,
     values: List<Value>,

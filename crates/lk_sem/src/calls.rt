@@ -18,7 +18,7 @@ use lk_index::{Index, captured};
 use std::alloc::Global;
 
 /// The value of the first function of that name; `at` is the node's span.
-pub fn function_value<'p>(alloc: Global, index: &'p Index<'p>, at: Span, name: &Text) -> Act<'p>
+pub fn function_value<'p>(alloc: Global, index: &Index<'p>, at: Span, name: &Text) -> Act<'p>
     ensures { IsAct at result (function_value at (function_named index.now name.now)) }
 {
     match index.function(name.as_str()) {
@@ -52,7 +52,7 @@ pub fn closure<'p>(
 /// A call of the first function of that name; `at` is the node's span.
 pub fn call<'p>(
     alloc: Global,
-    index: &'p Index<'p>,
+    index: &Index<'p>,
     at: Span,
     name: &Text,
     args: List<Value>,
@@ -80,7 +80,7 @@ pub fn call<'p>(
 /// A call of the first value with the others; `at` is the node's span.
 pub fn apply_first<'p>(
     alloc: Global,
-    index: &'p Index<'p>,
+    index: &Index<'p>,
     at: Span,
     values: List<Value>,
 ) -> Result<Act<'p>, NoMemory>
@@ -98,7 +98,7 @@ pub fn apply_first<'p>(
 /// A call of a function by its value; `at` is the node's span.
 fn apply<'p>(
     alloc: Global,
-    index: &'p Index<'p>,
+    index: &Index<'p>,
     at: Span,
     f: FunValue,
     args: List<Value>,

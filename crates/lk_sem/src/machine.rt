@@ -70,7 +70,7 @@ impl<'p> Machine<'p> {
     pub fn enter(
         &mut self,
         alloc: Global,
-        index: &'p Index<'p>,
+        index: &Index<'p>,
         e: &'p Expr,
         scope: Scope<'p>,
         place: Loc,
@@ -92,7 +92,7 @@ impl<'p> Machine<'p> {
     fn go_on(
         &mut self,
         alloc: Global,
-        index: &'p Index<'p>,
+        index: &Index<'p>,
         e: &'p Expr,
         done: List<Value>,
         scope: Scope<'p>,
@@ -126,7 +126,7 @@ impl<'p> Machine<'p> {
     fn perform(
         &mut self,
         alloc: Global,
-        index: &'p Index<'p>,
+        index: &Index<'p>,
         at: Span,
         place: Loc,
         act: Act<'p>,
@@ -163,7 +163,7 @@ impl<'p> Machine<'p> {
     /// Enters the body of a function of that mark.
     fn go_to(
         &mut self,
-        index: &'p Index<'p>,
+        index: &Index<'p>,
         place: Loc,
         mark: Loc,
         body: &'p Expr,
@@ -192,7 +192,7 @@ impl<'p> Machine<'p> {
     fn print(
         &mut self,
         alloc: Global,
-        index: &'p Index<'p>,
+        index: &Index<'p>,
         place: Loc,
         text: Text,
     ) -> Result<Next<'p>, NoMemory>
@@ -216,7 +216,7 @@ impl<'p> Machine<'p> {
     }
 
     /// Ends at what acts on tables, for which there is no store, once control is at the server.
-    fn no_store(&mut self, index: &'p Index<'p>, place: Loc, at: Span) -> Result<Next<'p>, NoMemory>
+    fn no_store(&mut self, index: &Index<'p>, place: Loc, at: Span) -> Result<Next<'p>, NoMemory>
         ensures leads { IfOk result (λ next. Leads index.now self.old
             (perform (source index.now) (eval (source index.now)) place (spec.Uses Loc.Server (spec.Missing at)))
             self.new next) }
@@ -235,7 +235,7 @@ impl<'p> Machine<'p> {
     fn turn(
         &mut self,
         alloc: Global,
-        index: &'p Index<'p>,
+        index: &Index<'p>,
         turns: Turns<'p>,
     ) -> Result<Next<'p>, NoMemory>
         ensures leads { IfOk result (λ next. Leads index.now self.old
@@ -259,7 +259,7 @@ impl<'p> Machine<'p> {
     fn take(
         &mut self,
         alloc: Global,
-        index: &'p Index<'p>,
+        index: &Index<'p>,
         turns: Turns<'p>,
         value: Value,
     ) -> Result<Next<'p>, NoMemory>
@@ -280,7 +280,7 @@ impl<'p> Machine<'p> {
     /// Goes back to the place of a call with its value.
     fn come_back(
         &mut self,
-        index: &'p Index<'p>,
+        index: &Index<'p>,
         place: Loc,
         value: Value,
     ) -> Result<Next<'p>, NoMemory>
@@ -306,7 +306,7 @@ impl<'p> Machine<'p> {
     pub fn give(
         &mut self,
         alloc: Global,
-        index: &'p Index<'p>,
+        index: &Index<'p>,
         frame: Frame<'p>,
         value: Value,
     ) -> Result<Next<'p>, NoMemory>

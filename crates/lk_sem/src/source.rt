@@ -35,7 +35,7 @@ pub fn source_run(
 /// Evaluates the body of a function of one parameter at the client.
 fn run_main<'p>(
     alloc: Global,
-    index: &'p Index<'p>,
+    index: &Index<'p>,
     main: &'p FunDef,
     arg: &Text,
     fuel: u64,
@@ -68,7 +68,7 @@ fn run_main<'p>(
 /// Goes on to the end.
 fn run<'p>(
     alloc: Global,
-    index: &'p Index<'p>,
+    index: &Index<'p>,
     machine: &mut Machine<'p>,
     first: Next<'p>,
 ) -> Result<SourceEnd, NoMemory>
