@@ -49,7 +49,7 @@ same_order : (ks words : List (List ℕ)) → IsStrictlySortedBy order ks → ((
 same_order ks words rise same =
     let sorted : T (is_sorted order (keyed ks)) = sorted-keyed ks rise in
     let is : finite.from_sorted (keyed ks) ≡ finite.from_entries {R = order} (keyed words) = finite.same_map nat_list_cmp_total (slice_cmp-IsAntisymmetric nat_cmp-IsAntisymmetric) _ _ (λ q.
-        finite.get-from_sorted order (keyed ks) q sorted ∙ find-keyed q ks ∙ ap found (same q) ∙ sym (find-keyed q words) ∙ sym (finite.get-from_entries nat_list_cmp_total (keyed words) q)) in
+    finite.get-from_sorted order (keyed ks) q sorted ∙ find-keyed q ks ∙ ap found (same q) ∙ sym (find-keyed q words) ∙ sym (finite.get-from_entries nat_list_cmp_total (keyed words) q)) in
     sym (keys-keyed ks) ∙ ap (map (λ e. e.0)) (sym (finite.entries-from_sorted order (keyed ks) sorted)) ∙ ap finite.keys is
 
 any-texts : (q : List ℕ) (names : List (Bor (List ℕ))) → list_any (eq_by_cmp order q) (texts names) ≡ list_any (λ (name : Bor (List ℕ)). eq_by_cmp order q name.now) names

@@ -4,6 +4,8 @@
 mod free;
 mod index;
 mod places;
+#[cfg(test)]
+mod tests;
 
 pub use free::captured;
 pub use index::{Index, IndexedLambda};

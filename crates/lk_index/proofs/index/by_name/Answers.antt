@@ -10,6 +10,6 @@ use Rattle.lk_index.proofs.index.by_name.Goals as goal
 pub loop-i-preserved : goal.loop-i-preserved
 loop-i-preserved c = λ name.
     first_or-insert _ (λ (q : Bor (List ℕ)) (f : FunDef). is_named q.now f) (λ f. f) (λ f. f.now) _ _ c.index-functions-i.result.now c.loop-i.map c.insert.new.self c.as_str.result _
-        (shown_take (λ f. f.now) c.args.functions.now c.loop-i.i c.index-functions-i.result c.loop-i-test.true c.loop-i.auto.i c.index-functions-i.is)
-        c.in_ok-insert.ensures.updates (λ q. is_eq-slice_cmp _ q.now ∙ ap (λ text. bytes_eq text q.now) c.as_str.ensures) refl name
+    (shown_take (λ f. f.now) c.args.functions.now c.loop-i.i c.index-functions-i.result c.loop-i-test.true c.loop-i.auto.i c.index-functions-i.is)
+    c.in_ok-insert.ensures.updates (λ q. is_eq-slice_cmp _ q.now ∙ ap (λ text. bytes_eq text q.now) c.as_str.ensures) refl name
     ∙ c.loop-i.invariant name

@@ -13,6 +13,6 @@ placed p = record { site = p.0; lambda = p.1.now }
 pub loop-i-preserved : goal.loop-i-preserved
 loop-i-preserved c = λ site.
     first_or-insert _ lambda_begins with_captured lambda_shown _ _ (placed c.index-found-i.result) c.loop-i.map c.insert.new.self _ _
-        (shown_take placed c.args.found.now c.loop-i.i c.index-found-i.result c.loop-i-test.true c.loop-i.auto.i c.index-found-i.is)
-        c.in_ok-insert.ensures.updates (λ q. unsigned_tied _ q) (λ i. (c.index-found-i.result.1.now, c.in_ok-names.ensures i)) site
+    (shown_take placed c.args.found.now c.loop-i.i c.index-found-i.result c.loop-i-test.true c.loop-i.auto.i c.index-found-i.is)
+    c.in_ok-insert.ensures.updates (λ q. unsigned_tied _ q) (λ i. (c.index-found-i.result.1.now, c.in_ok-names.ensures i)) site
     ∙ c.loop-i.invariant site
