@@ -1,9 +1,9 @@
 -- The lambdas in a part of the text, by those in its parts.
-use Rattle.std.proofs.Common.{◌≡◌, refl, ℕ, List, map, ◌++◌, Option, Some, None, ap, sym, ◌∙◌}
+use Rattle.std.proofs.Common.{◌≡◌, ℕ, List, Option, Some, None, ap, sym, ◌∙◌}
 use Rattle.std.specs.Option.{option_map}
 use Rattle.lk_ast.specs.Layers.{Layer, before, statement_node}
 use Rattle.lk_ast.specs.declared.expression.Case.{Case, para-roll-Case}
-use Rattle.lk_ast.specs.declared.expression.ChangeExpr.{ChangeExpr, roll-ChangeExpr, out-ChangeExpr, roll-out-ChangeExpr, para-roll-ChangeExpr}
+use Rattle.lk_ast.specs.declared.expression.ChangeExpr.{ChangeExpr, out-ChangeExpr, roll-out-ChangeExpr, para-roll-ChangeExpr}
 use Rattle.lk_ast.specs.declared.expression.Expr.{Expr, para-roll-Expr}
 use Rattle.lk_ast.specs.declared.expression.LambdaExpr.{LambdaExpr, para-roll-LambdaExpr}
 use Rattle.lk_ast.specs.declared.expression.LastCase.{LastCase, para-roll-LastCase}
@@ -12,7 +12,6 @@ use Rattle.lk_ast.specs.declared.expression.Node.TheFolds.{map-Node}
 use Rattle.lk_ast.specs.declared.expression.Node.TheOpen.{Node-F}
 use Rattle.lk_ast.specs.declared.expression.Node.TheVariants as node
 use Rattle.lk_ast.specs.declared.expression.PartExpr.{PartExpr, para-roll-PartExpr}
-use Rattle.lk_ast.specs.declared.place.Span.{Span}
 use Rattle.lk_ast.specs.declared.place.Word.{Word}
 use Rattle.lk_ast.specs.declared.statements.Statement.{Statement}
 use Rattle.lk_index.specs.Places.{Gather, Lambdas, gather_all, gather_some, each_with, node_in, case_in, change_in, expr_in, lambda_in, last_in, part_in, gather, gather_node, gather_part, gather_lambda, gather_case, gather_last, gather_change}

@@ -16,7 +16,7 @@ use Rattle.lk_ast.specs.declared.expression.LastCase.{LastCase, fold-LastCase}
 use Rattle.lk_ast.specs.declared.expression.Node.{Node, fold-Node}
 use Rattle.lk_ast.specs.declared.expression.Node.TheOpen.{Node-F, Case-F, ChangeExpr-F, LambdaExpr-F, LastCase-F, PartExpr-F}
 use Rattle.lk_ast.specs.declared.expression.PartExpr.{PartExpr, fold-PartExpr}
-use Rattle.lk_scope.specs.Names.{Names, no_names, is_local, bind, bind_all, bind_some}
+use Rattle.lk_scope.specs.Names.{no_names, is_local, bind, bind_all, bind_some}
 use Rattle.lk_scope.specs.Scoped.{In}
 
 -- the names that a part of the text uses where these are bound round it, in text order, once for each use

@@ -1,5 +1,5 @@
 -- Maps that answer as the definitions do.
-use Rattle.std.specs.Prelude.{◌≡◌, ℕ, List, Option, find}
+use Rattle.std.specs.Prelude.{◌≡◌, ℕ, List, find}
 use Rattle.std.specs.Borrow.{Bor}
 use Rattle.std.specs.BTreeMap.{BTreeMap, get}
 use Rattle.std.specs.Option.{option_copied, option_map}

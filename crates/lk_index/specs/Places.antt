@@ -149,15 +149,15 @@ seen found = map (λ f. record { site = f.0; lambda = f.1.now }) found
 -- ---- programs
 
 -- the lambdas in the bodies of functions, in text order
-abbrev pub lambdas_in : List FunDef → Lambdas
-lambdas_in functions = gather_all (each_with (λ (f : FunDef). gather f.body) functions) []
+abbrev pub lambdas_of : List FunDef → Lambdas
+lambdas_of functions = gather_all (each_with (λ (f : FunDef). gather f.body) functions) []
 
 abbrev pub lambda_begins : ℕ → PlacedLambda → Bool
 lambda_begins site placed = placed.site == site
 
 -- the first lambda of a program that begins at this place
 abbrev pub lambda_at : Program → ℕ → Option LambdaExpr
-lambda_at program site = option_map (λ placed. placed.lambda) (find (lambda_begins site) (lambdas_in (functions_of program)))
+lambda_at program site = option_map (λ placed. placed.lambda) (find (lambda_begins site) (lambdas_of (functions_of program)))
 
 abbrev pub name_begins : ℕ → FunDef → Bool
 name_begins site f = f.name.at.start == site

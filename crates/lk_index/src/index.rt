@@ -3,7 +3,7 @@
 ghost use Rattle.lk_ast.specs.Functions.{functions_in, functions_of, function_named};
 ghost use Rattle.lk_index.specs.Free.{texts, captured};
 ghost use Rattle.lk_index.specs.Index.{FindsNamed, FindsPlaced, FindsLambdas};
-ghost use Rattle.lk_index.specs.Places.{function_at, lambda_at, lambdas_in, seen, shown};
+ghost use Rattle.lk_index.specs.Places.{function_at, lambda_at, lambdas_of, seen, shown};
 ghost use Rattle.std.specs.List.{flat_map};
 ghost use Rattle.std.specs.Option.{option_copied, option_map};
 ghost use Rattle.std.specs.Prelude.{◌≡◌, ◌++◌, IfOk, IfSome, OnOk};
@@ -38,7 +38,7 @@ impl<'p> Model for Index<'p> {
     ghost use Rattle.lk_ast.specs.contracts.signature.SigType as ty;
     ghost use Rattle.lk_ast.specs.declared.declaration.Program.{Program as TheProgram};
     ghost use Rattle.lk_index.specs.Index.{FindsNamed, FindsPlaced, FindsLambdas};
-    ghost use Rattle.lk_index.specs.Places.{lambdas_in};
+    ghost use Rattle.lk_index.specs.Places.{lambdas_of};
     ghost use Rattle.std.specs.Coded.{codes};
 
     ghost Value = { TheProgram };
@@ -47,7 +47,7 @@ impl<'p> Model for Index<'p> {
 
     ghost view = { λ index. index.program.now };
 
-    ghost invariant = { λ index. FindsNamed index.named (functions_of index.program.now) × FindsPlaced index.placed (functions_of index.program.now) × FindsLambdas index.lambdas (lambdas_in (functions_of index.program.now)) };
+    ghost invariant = { λ index. FindsNamed index.named (functions_of index.program.now) × FindsPlaced index.placed (functions_of index.program.now) × FindsLambdas index.lambdas (lambdas_of (functions_of index.program.now)) };
 }
 
 impl<'p> Index<'p> {
@@ -91,6 +91,7 @@ impl<'p> Index<'p> {
     }
 }
 
+/// The functions of a declaration.
 fn functions_in(decl: &Decl) -> &[FunDef]
     ensures { result.now ≡ functions_in decl.now }
 {
@@ -164,6 +165,7 @@ fn indexed<'p>(
         let placed = &found[i];
         let lambda = placed.1;
         let names = captured(alloc, lambda)?;
+        // The one that stood there, if any, comes later in the text.
         drop(map.insert(placed.0, IndexedLambda { lambda, names })?);
     }
     Ok(map)

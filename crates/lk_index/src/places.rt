@@ -1,6 +1,6 @@
 //! The lambdas of functions, by their places.
 
-ghost use Rattle.lk_index.specs.Places.{gather_all, gather_some, each_with, gather, gather_node, gather_part, gather_case, gather_last, gather_change, lambdas_in, seen, shown};
+ghost use Rattle.lk_index.specs.Places.{gather_all, gather_some, each_with, gather, gather_node, gather_part, gather_case, gather_last, gather_change, lambdas_of, seen, shown};
 ghost use Rattle.std.specs.Option.{option_map};
 ghost use Rattle.std.specs.Prelude.{◌≡◌, IfOk, OnOk};
 
@@ -15,7 +15,7 @@ pub fn lambdas<'p>(
     alloc: Global,
     functions: &[&'p FunDef],
 ) -> Result<List<(u32, &'p LambdaExpr)>, NoMemory>
-    ensures { IfOk result (λ found. seen found ≡ lambdas_in (shown functions.now)) }
+    ensures { IfOk result (λ found. seen found ≡ lambdas_of (shown functions.now)) }
 {
     let mut found = List::new(alloc);
     for function in functions {

@@ -1,11 +1,6 @@
-use Rattle.std.proofs.Common.{◌≡◌, ℕ, List, take}
-use Rattle.std.specs.Borrow.{Bor}
+use Rattle.std.proofs.Common.{◌≡◌, ℕ, take}
 use Rattle.std.specs.Ordering.{nat_cmp}
-use Rattle.lk_ast.specs.Functions.{is_named}
-use Rattle.lk_ast.specs.declared.declaration.FunDef.{FunDef}
-use Rattle.lk_index.specs.Free.{byte_order}
-use Rattle.lk_index.specs.Index.{lambda_shown, with_captured}
-use Rattle.lk_index.specs.Places.{lambda_begins, name_begins, shown, seen}
+use Rattle.lk_index.specs.Places.{name_begins, shown}
 use Rattle.lk_index.proofs.Firsts.{first_or}
 use Rattle.lk_index.proofs.index.by_place.Given as goal
 

@@ -1,4 +1,4 @@
-use Rattle.std.proofs.Common.{◌≡◌, ap, ◌∙◌, ℕ, List}
+use Rattle.std.proofs.Common.{◌∙◌, ℕ}
 use Rattle.std.specs.Borrow.{Bor}
 use Rattle.std.specs.Cmp.{unsigned_tied}
 use Rattle.lk_ast.specs.declared.expression.LambdaExpr.{LambdaExpr}

@@ -1,9 +1,9 @@
-use Rattle.std.proofs.Common.{arith, ◌≡◌, ◌++◌, ◌∷◌, [], ap, ap₂, sym, ◌∙◌, List, map}
+use Rattle.std.proofs.Common.{arith, ap, ap₂, sym, ◌∙◌}
 use Rattle.std.specs.Option.{option_map}
 use Rattle.std.proofs.lemmas.List.{map-append}
 use Rattle.lk_ast.specs.declared.expression.Node.TheOpen.{Node-F}
 use Rattle.lk_ast.specs.declared.expression.Node.TheVariants.{rolls-Extend, rolls-Lambda}
-use Rattle.lk_index.specs.Places.{Lambdas, gather_all, gather_some, each_with, gather, gather_node, gather_part, gather_lambda, gather_case, gather_last, gather_change, seen}
+use Rattle.lk_index.specs.Places.{gather_all, gather_some, each_with, gather, gather_node, gather_part, gather_case, gather_last, seen}
 use Rattle.lk_index.proofs.Paras.{before_level, lambda_level, node_is, switch_level}
 use Rattle.lk_index.proofs.places.+places.Goals as goal
 
