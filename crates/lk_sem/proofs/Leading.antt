@@ -15,15 +15,14 @@ use Rattle.lk_ast.specs.declared.place.Loc.TheVariants.{Client, Server, Any}
 use Rattle.lk_ast.specs.declared.place.Span.{Span}
 use Rattle.lk_ast.specs.declared.value.FunValue.{FunValue}
 use Rattle.lk_ast.specs.declared.value.Value.{Value}
+use Rattle.lk_locals.specs.Names.{Names, bind}
 use Rattle.lk_sem.specs.Evaluation as spec
 use Rattle.lk_sem.specs.Evaluation.{eval, handed, perform, joined, each, client_call, used}
 use Rattle.lk_sem.specs.Frames as frames
 use Rattle.lk_sem.specs.Frames.{resumed, returned, handed_by}
 use Rattle.lk_sem.specs.Halt.{end_of}
 use Rattle.lk_sem.specs.Machine.{bodies, frame_of, frame_rest, wound, outcome, Shows, Leads, LeadsWhole, Ends}
-use Rattle.lk_sem.specs.Names.{Names, bind}
 use Rattle.lk_sem.specs.Run.{Run, Out, Goes, Stops, Trapped, Spent, Stuck, NoStore, Crossing, Within, Called, Returned, Function, Printer, Site, step, logs, and_then}
-use Rattle.lk_sem.specs.Scope.{names_of}
 use Rattle.lk_sem.specs.Source.{Point, under, source, act}
 use Rattle.lk_sem.specs.SourceRuns.{ended}
 use Rattle.lk_sem.specs.Syntax.{parts_of, is_plain}
@@ -35,7 +34,6 @@ use Rattle.lk_sem.specs.declared.machine.Next.{Next}
 use Rattle.lk_sem.specs.declared.machine.Next.TheVariants as now
 use Rattle.lk_sem.specs.declared.machine.Turns.{Turns}
 use Rattle.lk_sem.specs.declared.machine.Waiting.{Waiting}
-use Rattle.lk_sem.specs.declared.names.Binding.{Binding}
 use Rattle.lk_sem.specs.declared.run.Halt.{Halt}
 use Rattle.lk_sem.specs.declared.run.Halt.TheVariants as halt
 use Rattle.lk_sem.specs.declared.run.SourceEnd.{SourceEnd}
@@ -107,9 +105,9 @@ leads_act p old new next names e place done past l =
     leads_as p old new next _ _ (λ r h. winding.acts (source p) (under names e) done place r (no_part p names e (length done) past)) l
 
 -- a part is entered, and the node waits
-pub leads_wait : (p : Program) (old : Machine) (stack : List Frame) (w : Waiting) (e : Bor Expr) (scope : List Binding) (o : Option Expr) (n : ℕ)
+pub leads_wait : (p : Program) (old : Machine) (stack : List Frame) (w : Waiting) (e : Bor Expr) (scope : Names) (o : Option Expr) (n : ℕ)
     → o ≡ slice_get (parts_of (layer w.expr.now)) n → n ≡ length w.done → o ≡ Some e.now → stack ≡ old.stack ++ Part w ∷ [] → scope ≡ w.scope
-    → Leads p old (resumed (source p) (under (names_of w.scope) w.expr.now) w.done w.place) (record { stack = stack; log = old.log; fuel = old.fuel }) (now.Enter e scope w.place)
+    → Leads p old (resumed (source p) (under w.scope w.expr.now) w.done w.place) (record { stack = stack; log = old.log; fuel = old.fuel }) (now.Enter e scope w.place)
 leads_wait p old stack w e scope o n part len some pushed same = record {
   runs = λ r h. (
     r,
@@ -117,25 +115,25 @@ leads_wait p old stack w e scope o n part len some pushed same = record {
     ap (wound p old.stack) (winding.waits (source p) (under names w.expr.now) (under names e.now) w.done w.place r (part_of p names w.expr.now e.now (length w.done) at))
         ∙ sym (wound-push p old.stack (Part w) (eval (source p) (under names e.now) w.place r))
         ∙ ap (λ fs. wound p fs (eval (source p) (under names e.now) w.place r)) (sym pushed)
-        ∙ ap (λ bs. wound p stack (eval (source p) (under (names_of bs) e.now) w.place r)) (sym same),
+        ∙ ap (λ bs. wound p stack (eval (source p) (under bs e.now) w.place r)) (sym same),
   );
 }
   where
     names : Names
-    names = names_of w.scope
+    names = w.scope
 
     at : slice_get (parts_of (layer w.expr.now)) (length w.done) ≡ Some e.now
     at = ap (slice_get (parts_of (layer w.expr.now))) (sym len) ∙ sym part ∙ some
 
 -- a call of a server function at the client
-pub leads_across : (p : Program) (old : Machine) (stack : List Frame) (log : List Event) (place mark : Loc) (f : FunValue) (args : List Value) (body : Bor Expr) (scope : List Binding)
+pub leads_across : (p : Program) (old : Machine) (stack : List Frame) (log : List Event) (place mark : Loc) (f : FunValue) (args : List Value) (body : Bor Expr) (scope : Names)
     → place ≡ Client → mark ≡ Server → log ≡ old.log ++ Enter ∷ [] → stack ≡ old.stack ++ Back place ∷ []
-    → Leads p old (perform (source p) (eval (source p)) place (spec.Goto mark f args (under (names_of scope) body.now))) (record { stack = stack; log = log; fuel = old.fuel }) (now.Enter body scope mark)
+    → Leads p old (perform (source p) (eval (source p)) place (spec.Goto mark f args (under scope body.now))) (record { stack = stack; log = log; fuel = old.fuel }) (now.Enter body scope mark)
 leads_across p old stack log place mark f args body scope here there logged pushed = record {
   runs = λ r h.
       let s : Run = logs Enter (Called (Function f) args) (step r) in
       let shown = shows_logs old (step r) Enter (Called (Function f) args) log (shows_step old r h) logged in
-      let e : Point = under (names_of scope) body.now in
+      let e : Point = under scope body.now in
       let o : Out Value = eval (source p) e Server s in (
         s,
         record { fuel = shown.fuel; log = shown.log; whole = shown.whole },
@@ -149,14 +147,14 @@ leads_across p old stack log place mark f args body scope here there logged push
 }
 
 -- a call of a client function at the server
-pub leads_home : (p : Program) (old : Machine) (stack : List Frame) (log : List Event) (place mark : Loc) (f : FunValue) (args : List Value) (body : Bor Expr) (scope : List Binding)
+pub leads_home : (p : Program) (old : Machine) (stack : List Frame) (log : List Event) (place mark : Loc) (f : FunValue) (args : List Value) (body : Bor Expr) (scope : Names)
     → place ≡ Server → mark ≡ Client → log ≡ old.log ++ Leave ∷ [] → stack ≡ old.stack ++ Back place ∷ []
-    → Leads p old (perform (source p) (eval (source p)) place (spec.Goto mark f args (under (names_of scope) body.now))) (record { stack = stack; log = log; fuel = old.fuel }) (now.Enter body scope mark)
+    → Leads p old (perform (source p) (eval (source p)) place (spec.Goto mark f args (under scope body.now))) (record { stack = stack; log = log; fuel = old.fuel }) (now.Enter body scope mark)
 leads_home p old stack log place mark f args body scope here there logged pushed = record {
   runs = λ r h.
       let s : Run = logs Leave (Called (Function f) args) (step r) in
       let shown = shows_logs old (step r) Leave (Called (Function f) args) log (shows_step old r h) logged in
-      let e : Point = under (names_of scope) body.now in
+      let e : Point = under scope body.now in
       let o : Out Value = eval (source p) e Client s in (
         s,
         record { fuel = shown.fuel; log = shown.log; whole = shown.whole },
@@ -179,16 +177,16 @@ leads_back p old log place e v is logged = record {
 
 -- a node that waited goes on
 pub leads_given : (p : Program) (old new : Machine) (next : Next) (w : Waiting) (done : List Value) (v : Value) → done ≡ w.done ++ v ∷ []
-    → Leads p old (resumed (source p) (under (names_of w.scope) w.expr.now) done w.place) new next → Leads p old (frame_rest p (Part w) v) new next
+    → Leads p old (resumed (source p) (under w.scope w.expr.now) done w.place) new next → Leads p old (frame_rest p (Part w) v) new next
 leads_given p old new next w done v is l =
-    let e : Point = under (names_of w.scope) w.expr.now in
+    let e : Point = under w.scope w.expr.now in
     let q : Option Point = slice_get ((source p).parts e) (length w.done) in
     leads_after p old new next (resumed (source p) e done w.place) _ (handed_by (source p) q) (λ r h. shows_handed_by p old q r h)
     (λ r. ap (λ d. resumed (source p) e d w.place (handed_by (source p) q r)) (sym is)) l
 
 -- the body of a `for` is entered for its next element
-pub leads_turn : (p : Program) (old : Machine) (stack : List Frame) (t : Turns) (v : Value) (left : List Value) (scope : List Binding)
-    → left ≡ t.left ++ v ∷ [] → names_of scope ≡ bind t.name.now v (names_of t.scope) → stack ≡ old.stack ++ Turn t ∷ []
+pub leads_turn : (p : Program) (old : Machine) (stack : List Frame) (t : Turns) (v : Value) (left : List Value) (scope : Names)
+    → left ≡ t.left ++ v ∷ [] → scope ≡ bind t.name.now v t.scope → stack ≡ old.stack ++ Turn t ∷ []
     → Leads p old (each (source p) (eval (source p)) t.at (bodies (record t { left = left })) t.place t.made) (record { stack = stack; log = old.log; fuel = old.fuel }) (now.Enter t.body scope t.place)
 leads_turn p old stack t v left scope last bound pushed = record {
   runs = λ r h. (
@@ -202,7 +200,7 @@ leads_turn p old stack t v left scope last bound pushed = record {
 }
   where
     body : Value → Point
-    body u = under (bind t.name.now u (names_of t.scope)) t.body.now
+    body u = under (bind t.name.now u t.scope) t.body.now
 
     first : map body (reverse left) ≡ body v ∷ map body (reverse t.left)
     first = ap (λ vs. map body (reverse vs)) last ∙ ap (map body) (reverse-append t.left (v ∷ []))

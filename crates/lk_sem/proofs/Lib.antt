@@ -1,7 +1,7 @@
 pub mod Going
 pub mod Finish
 pub mod Leading
-pub mod Lookup
+pub mod MainParams
 pub mod Winding
 pub mod Walk
 pub mod Fixpoint

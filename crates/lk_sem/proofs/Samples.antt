@@ -1,6 +1,10 @@
 -- Evaluations worked by hand, computed by the definition.
 use Rattle.std.proofs.Common.{◌≡◌, ℕ, List, [], ◌∷◌}
-use Rattle.std.specs.Prelude.{codes, None}
+use Rattle.std.specs.Prelude.{codes, None, Some, cond}
+use Rattle.std.proofs.lemmas.Cmp.{nat_list_cmp_total}
+use Rattle.std.specs.Cmp.Lexicographic.{slice_cmp}
+use Rattle.std.specs.FinMap as finite
+use Rattle.std.specs.Ordering.{nat_cmp, eq_by_cmp}
 use Rattle.lk_ast.specs.declared.declaration.Decl.TheVariants as decl
 use Rattle.lk_ast.specs.declared.declaration.FunDef.{FunDef}
 use Rattle.lk_ast.specs.declared.declaration.Program.{Program}
@@ -11,12 +15,18 @@ use Rattle.lk_ast.specs.declared.expression.Node.TheVariants as node
 use Rattle.lk_ast.specs.declared.place.Loc.{Loc}
 use Rattle.lk_ast.specs.declared.place.Loc.TheVariants.{Client, Server}
 use Rattle.lk_ast.specs.declared.place.Word.{Word}
+use Rattle.lk_ast.specs.declared.value.Value.{Value}
 use Rattle.lk_ast.specs.declared.value.Value.TheVariants as value
+use Rattle.lk_locals.specs.Names.{Names, bind, lookup}
 use Rattle.lk_sem.specs.Evaluation.{eval_to}
 use Rattle.lk_sem.specs.Run.{Goes, Within, Called, Returned, Function}
 use Rattle.lk_sem.specs.Source.{session}
 use Rattle.lk_sem.specs.SourceRuns.{start}
 use Rattle.lk_operators.specs.Values.{text}
+
+-- the value of a name that was bound
+lookup-bind : (names : Names) (x : List ℕ) (v : Value) (q : List ℕ) → lookup (bind x v names) q ≡ cond (eq_by_cmp (slice_cmp nat_cmp) q x) (Some v) (lookup names q)
+lookup-bind names x v q = finite.get-insert nat_list_cmp_total names x v q
 
 -- nodes at no place in particular, and words at their first byte
 abbrev at_zero : Node → Expr
@@ -59,7 +69,7 @@ pub greets : session greet greet_main (codes "ann") (start 10)
       returns = None;
     })
 unfolding eval_to
-greets = simp (node.outs-Concat, node.outs-Text, node.outs-Name, node.outs-Call, value.outs-Base)
+greets = simp (node.outs-Concat, node.outs-Text, node.outs-Name, node.outs-Call, value.outs-Base, lookup-bind)
 
 -- fun log(s) client { print(s); s ^^ "!" } fun work(n) server { "<" ^^ log(n) ^^ ">" } fun main(a) client { work(a) }
 abbrev nest_main : FunDef
@@ -86,4 +96,4 @@ pub nests : session nest nest_main (codes "ann") (start 20)
       returns = None;
     })
 unfolding eval_to
-nests = simp (node.outs-Concat, node.outs-Text, node.outs-Name, node.outs-Call, node.outs-Seq, node.outs-Print, value.outs-Base, value.outs-Fields)
+nests = simp (node.outs-Concat, node.outs-Text, node.outs-Name, node.outs-Call, node.outs-Seq, node.outs-Print, value.outs-Base, value.outs-Fields, lookup-bind)

@@ -4,9 +4,8 @@ use Rattle.lk_ast.specs.declared.place.Loc.TheVariants.{Client, Server}
 use Rattle.lk_ast.specs.declared.place.Span.{Span}
 use Rattle.lk_ast.specs.declared.value.FunValue.{FunValue}
 use Rattle.lk_ast.specs.declared.value.Value.{Value}
+use Rattle.lk_locals.specs.Names.{bind}
 use Rattle.lk_sem.specs.Evaluation as spec
-use Rattle.lk_sem.specs.Names.{bind}
-use Rattle.lk_sem.specs.Scope.{names_of}
 use Rattle.lk_sem.specs.Source.{Point, under}
 use Rattle.lk_sem.specs.declared.act.Act.{Act}
 use Rattle.lk_sem.specs.declared.act.Act.TheVariants.{Give, Tail, Goto, Print, Each, Fails, NoStore, Lacks}
@@ -14,10 +13,10 @@ use Rattle.lk_sem.specs.declared.act.Act.TheVariants.{Give, Tail, Goto, Print, E
 -- the act of a node with this span; the evaluator keeps no note of which function it enters, nor of its arguments
 abbrev pub IsAct : Span → Act → spec.Act Point → Type 0
 IsAct at (Give v) a = a ≡ spec.Give v
-IsAct at (Tail e scope) a = a ≡ spec.Tail (under (names_of scope) e.now)
-IsAct at (Goto mark body scope) a = (f : FunValue) × (args : List Value) × (a ≡ spec.Goto mark f args (under (names_of scope) body.now))
+IsAct at (Tail e scope) a = a ≡ spec.Tail (under scope e.now)
+IsAct at (Goto mark body scope) a = (f : FunValue) × (args : List Value) × (a ≡ spec.Goto mark f args (under scope body.now))
 IsAct at (Print bytes) a = a ≡ spec.Uses Client (spec.Printing bytes)
-IsAct at (Each x values body scope) a = a ≡ spec.Each at (map (λ v. under (bind x.now v (names_of scope)) body.now) values)
+IsAct at (Each x values body scope) a = a ≡ spec.Each at (map (λ v. under (bind x.now v scope) body.now) values)
 IsAct at (Fails trap) a = a ≡ spec.Fails trap
 IsAct at NoStore a = a ≡ spec.Uses Server (spec.Missing at)
 IsAct at Lacks a = a ≡ spec.Lacks at

@@ -4,9 +4,7 @@ pub mod Frames
 pub mod Halt
 pub mod Laws
 pub mod Machine
-pub mod Names
 pub mod Run
 pub mod SourceRuns
-pub mod Scope
 pub mod Source
 pub mod Syntax

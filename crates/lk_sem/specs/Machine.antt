@@ -2,12 +2,11 @@
 use Rattle.std.specs.Prelude.{◌≡◌, ℕ, ◌+◌, ◌*◌, ◌≤◌, List, None, length, reverse, map}
 use Rattle.lk_ast.specs.declared.declaration.Program.{Program}
 use Rattle.lk_ast.specs.declared.value.Value.{Value}
+use Rattle.lk_locals.specs.Names.{bind}
 use Rattle.lk_sem.specs.Evaluation.{eval}
 use Rattle.lk_sem.specs.Frames as spec
 use Rattle.lk_sem.specs.Halt.{end_of}
-use Rattle.lk_sem.specs.Names.{bind}
 use Rattle.lk_sem.specs.Run.{Run, Out, Goes, events_of}
-use Rattle.lk_sem.specs.Scope.{names_of}
 use Rattle.lk_sem.specs.Source.{Point, under, source}
 use Rattle.lk_sem.specs.SourceRuns.{ended}
 use Rattle.lk_sem.specs.declared.machine.Frame.{Frame}
@@ -20,12 +19,12 @@ use Rattle.lk_sem.specs.declared.run.SourceEnd.{SourceEnd}
 
 -- the bodies for the elements that are left
 abbrev pub bodies : Turns → List Point
-bodies t = map (λ v. under (bind t.name.now v (names_of t.scope)) t.body.now) (reverse t.left)
+bodies t = map (λ v. under (bind t.name.now v t.scope) t.body.now) (reverse t.left)
 
 -- the frame that a frame of the evaluator stands for
 abbrev pub frame_of : Frame → spec.Frame Point
-frame_of (Part w) = spec.Part (under (names_of w.scope) w.expr.now) w.done w.place
-frame_of (Turn t) = spec.Turn t.at (under (names_of t.scope) t.body.now) (bodies t) t.place t.made
+frame_of (Part w) = spec.Part (under w.scope w.expr.now) w.done w.place
+frame_of (Turn t) = spec.Turn t.at (under t.scope t.body.now) (bodies t) t.place t.made
 frame_of (Back place) = spec.Back place
 
 -- what a frame does with the value that it waits for
@@ -37,7 +36,7 @@ abbrev pub wound : Program → List Frame → Out Value → Out Value
 wound p frames out = spec.wound (source p) (map frame_of frames) out
 
 abbrev pub outcome : Program → Next → Run → Out Value
-outcome p (Enter e scope place) r = eval (source p) (under (names_of scope) e.now) place r
+outcome p (Enter e scope place) r = eval (source p) (under scope e.now) place r
 outcome p (Give v) r = Goes v r
 outcome p (Stop halt) r = ended (end_of halt) r
 

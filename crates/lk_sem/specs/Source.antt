@@ -18,12 +18,12 @@ use Rattle.lk_ast.specs.declared.value.Value.{Value}
 use Rattle.lk_ast.specs.declared.value.Value.TheVariants as value
 use Rattle.lk_index.specs.Free.{captured}
 use Rattle.lk_index.specs.Places.{function_at, lambda_at}
+use Rattle.lk_locals.specs.Names.{Names, no_names, bind, lookup, lookup_all, bind_each, bind_all}
 use Rattle.lk_operators.specs.Operators.{operated}
 use Rattle.lk_operators.specs.Values.{text, truth, text_in, bool_in, list_in, tag_in, fun_in, is_unit}
 use Rattle.lk_operators.specs.declared.outcome.Outcome.{Outcome}
 use Rattle.lk_operators.specs.declared.outcome.Outcome.TheVariants as outcome
 use Rattle.lk_sem.specs.Evaluation.{Printing, Missing, Act, Give, Tail, Goto, Uses, Each, Fails, Lacks, Language, eval}
-use Rattle.lk_sem.specs.Names.{Names, bind, lookup, lookup_all, named, bind_all, pairs}
 use Rattle.lk_sem.specs.Run.{Run, Out}
 use Rattle.lk_sem.specs.Syntax.{parts_of, is_plain}
 
@@ -65,16 +65,16 @@ goto at mark f args body (Some names) = Goto mark f args (under names body)
 -- a call of a function of the program by its name; in the log it is the place of that name in the text, nothing captured
 abbrev pub call : Span → List Value → Option FunDef → Act Point
 call at args None = Lacks at
-call at args (Some f) = goto at f.place (record { site = f.name.at.start; env = [] }) args f.body (bind_all [] f.params args)
+call at args (Some f) = goto at f.place (record { site = f.name.at.start; env = [] }) args f.body (bind_all no_names f.params args)
 
 -- a call of a lambda: the names that it captured stand for the values that were kept
 abbrev pub enter_lambda : Span → FunValue → List Value → Option LambdaExpr → Act Point
 enter_lambda at f args None = Lacks at
-enter_lambda at f args (Some lambda) = goto at lambda.place f args lambda.body (bind_all (named (captured lambda) f.env) lambda.params args)
+enter_lambda at f args (Some lambda) = goto at lambda.place f args lambda.body (bind_all (bind_each no_names (captured lambda) f.env) lambda.params args)
 
 -- a call of the function that was made at a place in the text: one of the program, else a lambda
 abbrev pub enter_made : Span → FunValue → List Value → Option FunDef → Option LambdaExpr → Act Point
-enter_made at f args (Some g) lambda = goto at g.place f args g.body (bind_all [] g.params args)
+enter_made at f args (Some g) lambda = goto at g.place f args g.body (bind_all no_names g.params args)
 enter_made at f args None lambda = enter_lambda at f args lambda
 
 -- a call of a value
@@ -178,4 +178,4 @@ source p = record {
 
 -- A session is the evaluation of the body of `main` at the client, its parameter bound to the session's argument.
 abbrev pub session : Program → FunDef → List ℕ → Run → Out Value
-session p main arg r = eval (source p) (under (pairs main.params (text arg ∷ [])) main.body) Client r
+session p main arg r = eval (source p) (under (bind_each no_names (map (λ x. x.text) main.params) (text arg ∷ [])) main.body) Client r

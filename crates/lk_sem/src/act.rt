@@ -3,16 +3,15 @@
 ghost use Rattle.std.specs.Prelude.{IfOk};
 ghost use Rattle.lk_ast.specs.Layers.{layer};
 ghost use Rattle.lk_ast.specs.declared.expression.Node.{out-Node};
-ghost use Rattle.lk_sem.specs.Scope.{names_of};
 ghost use Rattle.lk_sem.specs.Acts.{IsAct};
 ghost use Rattle.lk_sem.specs.Source.{act, choice, form};
 
 use crate::calls::{apply_first, call, closure, function_value};
 use crate::cases::switch;
-use crate::names::{Scope, find, with};
 use crate::values::{after_unit, done, only, truth};
 use lk_ast::{Base, Expr, List, Loc, NoMemory, Node, Span, Text, Trap, Value, copy_value};
 use lk_index::Index;
+use lk_locals::Locals;
 use lk_operators::operate;
 use std::alloc::Global;
 
@@ -21,10 +20,10 @@ use std::alloc::Global;
 #[derive(Drop)]
 pub enum Act<'p> {
     Give(Value),
-    Tail(&'p Expr, Scope<'p>),
-    Goto(Loc, &'p Expr, Scope<'p>),
+    Tail(&'p Expr, Locals<'p>),
+    Goto(Loc, &'p Expr, Locals<'p>),
     Print(Text),
-    Each(&'p str, List<Value>, &'p Expr, Scope<'p>),
+    Each(&'p str, List<Value>, &'p Expr, Locals<'p>),
     Fails(Trap),
     NoStore,
     Lacks,
@@ -35,13 +34,13 @@ pub fn act_of<'p>(
     alloc: Global,
     index: &Index<'p>,
     e: &'p Expr,
-    scope: Scope<'p>,
+    scope: Locals<'p>,
     values: List<Value>,
 ) -> Result<Act<'p>, NoMemory>
-    ensures { IfOk result (λ a. IsAct e.now.span a (act index.now e.now.span (layer e.now) (names_of scope.entry) values)) }
+    ensures { IfOk result (λ a. IsAct e.now.span a (act index.now e.now.span (layer e.now) scope.entry values)) }
 {
     match e.node.get() {
-        Node::Name(name) => match find(scope.get().as_slice(), name.as_str()) {
+        Node::Name(name) => match scope.get(name.as_str()) {
             Some(value) => Ok(Act::Give(copy_value(alloc, value)?)),
             None => Ok(Act::Lacks),
         },
@@ -63,14 +62,14 @@ fn form<'p>(
     alloc: Global,
     at: Span,
     node: &'p Node,
-    scope: Scope<'p>,
+    scope: Locals<'p>,
     values: List<Value>,
 ) -> Result<Act<'p>, NoMemory>
-    ensures { IfOk result (λ a. IsAct at a (form at (out-Node node.now) (names_of scope.entry) values)) }
+    ensures { IfOk result (λ a. IsAct at a (form at (out-Node node.now) scope.entry values)) }
 {
     match node {
         Node::Var(name, _, rest) => match only(values) {
-            Some(value) => Ok(Act::Tail(rest, with(alloc, scope, name.text.as_str(), value)?)),
+            Some(value) => Ok(Act::Tail(rest, scope.bind(alloc, name.text.as_str(), value)?)),
             None => Ok(Act::Lacks),
         },
         Node::Seq(_, rest) => match only(values) {
@@ -98,10 +97,10 @@ fn choice<'p>(
     alloc: Global,
     at: Span,
     node: &'p Node,
-    scope: Scope<'p>,
+    scope: Locals<'p>,
     values: List<Value>,
 ) -> Result<Act<'p>, NoMemory>
-    ensures { IfOk result (λ a. IsAct at a (choice at (out-Node node.now) (names_of scope.entry) values)) }
+    ensures { IfOk result (λ a. IsAct at a (choice at (out-Node node.now) scope.entry values)) }
 {
     match node {
         Node::If(_, then, other) => match only(values) {

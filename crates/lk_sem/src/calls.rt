@@ -3,18 +3,17 @@
 ghost use Rattle.std.specs.Prelude.{IfOk};
 ghost use Rattle.lk_ast.specs.Functions.{function_named};
 ghost use Rattle.lk_index.specs.Free.{captured};
+ghost use Rattle.lk_locals.specs.Names.{bind_all, lookup_all};
 ghost use Rattle.lk_sem.specs.Acts.{IsAct};
-ghost use Rattle.lk_sem.specs.Names.{bind_all, lookup_all};
-ghost use Rattle.lk_sem.specs.Scope.{names_of};
 ghost use Rattle.std.specs.Prelude.{Some};
 ghost use Rattle.lk_ast.specs.declared.value.FunValue.{FunValue as TheFunction};
 ghost use Rattle.lk_sem.specs.Source.{apply, apply_first, call, closure, function_value, goto};
 
 use crate::act::Act;
-use crate::names::{Binding, Scope, bind_names, bind_params, find_all};
 use crate::values::first;
-use lk_ast::{Expr, FunValue, LambdaExpr, List, Loc, NoMemory, Shared, Span, Text, Value, Word};
+use lk_ast::{Expr, FunValue, LambdaExpr, List, Loc, NoMemory, Span, Text, Value, Word};
 use lk_index::{Index, captured};
+use lk_locals::Locals;
 use std::alloc::Global;
 
 /// The value of the first function of that name; `at` is the node's span.
@@ -35,12 +34,12 @@ pub fn closure<'p>(
     alloc: Global,
     at: Span,
     lambda: &'p LambdaExpr,
-    scope: Scope<'p>,
+    scope: Locals<'p>,
 ) -> Result<Act<'p>, NoMemory>
-    ensures { IfOk result (λ a. IsAct at a (closure at (lookup_all (names_of scope.entry) (captured lambda.now)))) }
+    ensures { IfOk result (λ a. IsAct at a (closure at (lookup_all scope.entry (captured lambda.now)))) }
 {
     let names = captured(alloc, lambda)?;
-    match find_all(alloc, scope.get().as_slice(), names.as_slice())? {
+    match scope.get_all(alloc, names.as_slice())? {
         Some(env) => Ok(Act::Give(Value::Fun(FunValue {
             site: at.start,
             env,
@@ -61,7 +60,7 @@ pub fn call<'p>(
 {
     match index.function(name.as_str()) {
         Some(function) => {
-            let none = List::new(alloc);
+            let none = Locals::new(alloc)?;
             let params = function.params.as_slice();
             Ok(go_to(
                 alloc,
@@ -106,7 +105,7 @@ fn apply<'p>(
     ensures { IfOk result (λ a. IsAct at a (apply index.now at (Some f) args)) }
 {
     if let Some(function) = index.function_at(f.site) {
-        let none = List::new(alloc);
+        let none = Locals::new(alloc)?;
         let params = function.params.as_slice();
         return Ok(go_to(
             alloc,
@@ -121,7 +120,7 @@ fn apply<'p>(
     match index.lambda_at(f.site) {
         Some(found) => {
             let FunValue { site: _, env } = f;
-            let kept = bind_names(alloc, found.names.as_slice(), env)?;
+            let kept = Locals::new(alloc)?.bind_each(alloc, found.names.as_slice(), env)?;
             let params = found.lambda.params.as_slice();
             Ok(go_to(
                 alloc,
@@ -143,15 +142,15 @@ fn go_to<'p>(
     alloc: Global,
     at: Span,
     mark: Loc,
-    kept: List<Binding<'p>>,
+    kept: Locals<'p>,
     params: &'p [Word],
     args: List<Value>,
     body: &'p Expr,
 ) -> Result<Act<'p>, NoMemory>
-    ensures { IfOk result (λ a. (f : TheFunction) → IsAct at a (goto at mark f args body.now (bind_all (names_of kept.entry) params.now args))) }
+    ensures { IfOk result (λ a. (f : TheFunction) → IsAct at a (goto at mark f args body.now (bind_all kept.entry params.now args))) }
 {
-    match bind_params(alloc, kept, params, args)? {
-        Some(bindings) => Ok(Act::Goto(mark, body, Shared::new(alloc, bindings)?)),
+    match kept.bind_all(alloc, params, args)? {
+        Some(scope) => Ok(Act::Goto(mark, body, scope)),
         None => Ok(Act::Lacks),
     }
 }

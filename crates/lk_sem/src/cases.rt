@@ -4,13 +4,12 @@ ghost use Rattle.std.specs.Option.{option_copied};
 ghost use Rattle.std.specs.Prelude.{◌≡◌, IfOk};
 ghost use Rattle.lk_operators.specs.Values.{tag_in};
 ghost use Rattle.lk_sem.specs.Acts.{IsAct};
-ghost use Rattle.lk_sem.specs.Scope.{names_of};
 ghost use Rattle.lk_sem.specs.Source.{case_of, in_case, in_last, switch};
 
 use crate::act::Act;
-use crate::names::{Scope, with};
 use crate::values::after_unit;
 use lk_ast::{Case, LastCase, List, NoMemory, Span, Text, Value};
+use lk_locals::Locals;
 use std::alloc::Global;
 
 /// Goes on with the case of a value's tag, or with the last one; `at` is the node's span.
@@ -20,9 +19,9 @@ pub fn switch<'p>(
     value: Value,
     cases: &'p [Case],
     last: &'p Option<LastCase>,
-    scope: Scope<'p>,
+    scope: Locals<'p>,
 ) -> Result<Act<'p>, NoMemory>
-    ensures { IfOk result (λ a. IsAct at a (switch at value (tag_in value) cases.now last.now (names_of scope.entry))) }
+    ensures { IfOk result (λ a. IsAct at a (switch at value (tag_in value) cases.now last.now scope.entry)) }
 {
     match value {
         Value::Tag(tag, held) => match find_case(cases, &tag) {
@@ -46,13 +45,13 @@ fn in_case<'p>(
     at: Span,
     case: &'p Case,
     held: Value,
-    scope: Scope<'p>,
+    scope: Locals<'p>,
 ) -> Result<Act<'p>, NoMemory>
-    ensures { IfOk result (λ a. IsAct at a (in_case at case.now.name case.now.body held (names_of scope.entry))) }
+    ensures { IfOk result (λ a. IsAct at a (in_case at case.now.name case.now.body held scope.entry)) }
 {
     match &case.name {
         Some(name) => {
-            let inner = with(alloc, scope, name.text.as_str(), held)?;
+            let inner = scope.bind(alloc, name.text.as_str(), held)?;
             Ok(Act::Tail(&case.body, inner))
         }
         None => Ok(after_unit(at, &held, &case.body, scope)),
@@ -65,13 +64,13 @@ fn in_last<'p>(
     at: Span,
     last: &'p Option<LastCase>,
     value: Value,
-    scope: Scope<'p>,
+    scope: Locals<'p>,
 ) -> Result<Act<'p>, NoMemory>
-    ensures { IfOk result (λ a. IsAct at a (in_last at last.now value (names_of scope.entry))) }
+    ensures { IfOk result (λ a. IsAct at a (in_last at last.now value scope.entry)) }
 {
     match last {
         Some(last) => {
-            let inner = with(alloc, scope, last.name.text.as_str(), value)?;
+            let inner = scope.bind(alloc, last.name.text.as_str(), value)?;
             Ok(Act::Tail(&last.body, inner))
         }
         None => Ok(Act::Lacks),

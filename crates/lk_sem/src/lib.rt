@@ -9,7 +9,6 @@ mod act;
 mod calls;
 mod cases;
 mod machine;
-mod names;
 mod run;
 mod source;
 mod syntax;

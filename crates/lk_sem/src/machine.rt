@@ -6,11 +6,11 @@ ghost use Rattle.lk_sem.specs.Evaluation as spec;
 ghost use Rattle.lk_operators.specs.Values.{list_in, unit as unit_value};
 
 use crate::act::{Act, act_of};
-use crate::names::{Scope, with};
 use crate::run::Halt;
 use crate::syntax::part;
 use lk_ast::{Event, Expr, List, Loc, NoMemory, Span, Text, Value};
 use lk_index::Index;
+use lk_locals::Locals;
 use std::alloc::Global;
 
 /// A node whose first parts have these values, at the next of them.
@@ -18,7 +18,7 @@ use std::alloc::Global;
 pub struct Waiting<'p> {
     pub expr: &'p Expr,
     pub done: List<Value>,
-    pub scope: Scope<'p>,
+    pub scope: Locals<'p>,
     pub place: Loc,
 }
 
@@ -29,7 +29,7 @@ pub struct Turns<'p> {
     pub name: &'p str,
     pub left: List<Value>,
     pub body: &'p Expr,
-    pub scope: Scope<'p>,
+    pub scope: Locals<'p>,
     pub place: Loc,
     pub made: List<Value>,
 }
@@ -45,7 +45,7 @@ pub enum Frame<'p> {
 /// What comes next: a node is entered, a value goes to the last frame, or the evaluation ends without one.
 #[derive(Drop)]
 pub enum Next<'p> {
-    Enter(&'p Expr, Scope<'p>, Loc),
+    Enter(&'p Expr, Locals<'p>, Loc),
     Give(Value),
     Stop(Halt),
 }
@@ -63,7 +63,6 @@ impl<'p> Machine<'p> {
     ghost use Rattle.lk_sem.specs.Evaluation.{eval, perform, each};
     ghost use Rattle.lk_sem.specs.Frames.{resumed, returned};
     ghost use Rattle.lk_sem.specs.Machine.{Falls, Leads, bodies, frame_rest, weight};
-    ghost use Rattle.lk_sem.specs.Scope.{names_of};
     ghost use Rattle.lk_sem.specs.Source.{Point, source, under};
 
     /// Enters a node.
@@ -72,11 +71,11 @@ impl<'p> Machine<'p> {
         alloc: Global,
         index: &Index<'p>,
         e: &'p Expr,
-        scope: Scope<'p>,
+        scope: Locals<'p>,
         place: Loc,
     ) -> Result<Next<'p>, NoMemory>
         ensures leads { IfOk result (λ next. Leads index.now self.old
-            (eval (source index.now) (under (names_of scope.entry) e.now) place)
+            (eval (source index.now) (under scope.entry e.now) place)
             self.new next) }
         ensures falls { IfOk result (λ next. weight self.new next < 4 * self.old.fuel + 2 * length self.old.stack + 1) }
     {
@@ -95,11 +94,11 @@ impl<'p> Machine<'p> {
         index: &Index<'p>,
         e: &'p Expr,
         done: List<Value>,
-        scope: Scope<'p>,
+        scope: Locals<'p>,
         place: Loc,
     ) -> Result<Next<'p>, NoMemory>
         ensures leads { IfOk result (λ next. Leads index.now self.old
-            (resumed (source index.now) (under (names_of scope.entry) e.now) done place)
+            (resumed (source index.now) (under scope.entry e.now) done place)
             self.new next) }
         ensures falls { IfOk result (Falls self.old self.new) }
     {
@@ -167,9 +166,9 @@ impl<'p> Machine<'p> {
         place: Loc,
         mark: Loc,
         body: &'p Expr,
-        scope: Scope<'p>,
+        scope: Locals<'p>,
     ) -> Result<Next<'p>, NoMemory>
-        ensures leads { IfOk result (λ next. (f : _) (args : _) → Leads index.now self.old (perform (source index.now) (eval (source index.now)) place (spec.Goto mark f args (under (names_of scope.entry) body.now)))
+        ensures leads { IfOk result (λ next. (f : _) (args : _) → Leads index.now self.old (perform (source index.now) (eval (source index.now)) place (spec.Goto mark f args (under scope.entry body.now)))
             self.new next) }
         ensures falls { IfOk result (Falls self.old self.new) }
     {
@@ -246,7 +245,7 @@ impl<'p> Machine<'p> {
         let mut turns = turns;
         match turns.left.pop() {
             Some(value) => {
-                let inner = with(alloc, turns.scope.share()?, turns.name, value)?;
+                let inner = turns.scope.share()?.bind(alloc, turns.name, value)?;
                 let next = Next::Enter(turns.body, inner, turns.place);
                 self.stack.push(Frame::Turn(turns))?;
                 Ok(next)

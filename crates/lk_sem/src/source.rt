@@ -7,10 +7,10 @@ ghost use Rattle.lk_sem.specs.SourceRuns.{IsRunOf};
 ghost use Rattle.lk_sem.specs.Source.{session};
 
 use crate::machine::{Machine, Next};
-use crate::names::bind_params;
 use crate::run::{SourceEnd, SourceRun};
-use lk_ast::{Base, FunDef, List, Loc, NoMemory, Program, Shared, Text, Value, main_of};
+use lk_ast::{Base, FunDef, List, Loc, NoMemory, Program, Text, Value, main_of};
 use lk_index::Index;
+use lk_locals::Locals;
 use std::alloc::Global;
 
 /// Evaluates the `main` of a program, which has one, with this argument and at most this fuel.
@@ -45,12 +45,11 @@ fn run_main<'p>(
 {
     let mut args = List::new(alloc);
     args.push(Value::Base(Base::Text(arg.copy(alloc)?)))?;
-    let none = List::new(alloc);
-    let bindings = match bind_params(alloc, none, main.params.as_slice(), args)? {
-        Some(bindings) => bindings,
+    let none = Locals::new(alloc)?;
+    let scope = match none.bind_all(alloc, main.params.as_slice(), args)? {
+        Some(scope) => scope,
         None => unreachable!(),
     };
-    let scope = Shared::new(alloc, bindings)?;
     let mut machine = Machine {
         stack: List::new(alloc),
         log: List::new(alloc),

@@ -4,12 +4,11 @@ ghost use Rattle.std.specs.Prelude.{◌≡◌};
 ghost use Rattle.lk_operators.specs.Values.{is_unit, truth as truth_value};
 ghost use Rattle.lk_sem.specs.Acts.{IsAct, only_of, first_of};
 ghost use Rattle.lk_sem.specs.Evaluation.{Tail};
-ghost use Rattle.lk_sem.specs.Scope.{names_of};
 ghost use Rattle.lk_sem.specs.Source.{done, under, after_unit as after_value};
 
 use crate::act::Act;
-use crate::names::Scope;
 use lk_ast::{Base, Expr, List, Span, Value};
+use lk_locals::Locals;
 use lk_operators::Outcome;
 
 /// The one value of a list.
@@ -53,8 +52,8 @@ pub fn done<'p>(at: Span, outcome: Outcome) -> Act<'p>
 }
 
 /// Goes on with what follows where this is the unit value; `at` is the node's span.
-pub fn after_unit<'p>(at: Span, value: &Value, rest: &'p Expr, scope: Scope<'p>) -> Act<'p>
-    ensures { IsAct at result (after_value at (is_unit value.now) (Tail (under (names_of scope.entry) rest.now))) }
+pub fn after_unit<'p>(at: Span, value: &Value, rest: &'p Expr, scope: Locals<'p>) -> Act<'p>
+    ensures { IsAct at result (after_value at (is_unit value.now) (Tail (under scope.entry rest.now))) }
 {
     match value {
         Value::Fields(fields) if fields.is_empty() => Act::Tail(rest, scope),

@@ -1,4 +1,4 @@
-use Rattle.lk_sem.proofs.Lookup.{main_params}
+use Rattle.lk_sem.proofs.MainParams.{main_params}
 use Rattle.lk_sem.proofs.source.source_run.Goals as goal
 
 pub run_main-requires : goal.run_main-requires
