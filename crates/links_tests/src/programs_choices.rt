@@ -188,16 +188,8 @@ const CASES: Bodies = &[
         "done 4 7\n",
         0,
     ),
-    (
-        "switch (a) { case x -> x ^^ \"!\" }",
-        "stuck 21 54\n",
-        8,
-    ),
-    (
-        "switch (1) { case T -> 2 case x -> x }",
-        "stuck 21 59\n",
-        8,
-    ),
+    ("switch (a) { case x -> x ^^ \"!\" }", "stuck 21 54\n", 8),
+    ("switch (1) { case T -> 2 case x -> x }", "stuck 21 59\n", 8),
     (
         "switch (A(B(3))) { case A(x) -> switch (x) { case B(y) -> y case z -> 0 } }",
         "done 7 3\n",
