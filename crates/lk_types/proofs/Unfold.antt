@@ -1,7 +1,9 @@
 -- The definitions by folds, on each form of type.
-use Rattle.std.proofs.Common.{◌≡◌, ℕ, ◌+◌, List, [], ◌∷◌, ◌++◌, map, length, refl, sym, ◌∙◌, ap, Option, Some, None}
+use Rattle.std.proofs.Common.{◌≡◌, ◌⊎◌, inl, inr, ℕ, ◌+◌, List, [], ◌∷◌, ◌++◌, map, length, refl, sym, ◌∙◌, ap, Option, Some, None}
+use Rattle.std.specs.List.{cons_option, join_by}
 use Rattle.std.specs.Option.{option_map}
-use Rattle.std.specs.Prelude.{codes, sum}
+use Rattle.std.specs.Prelude.{codes, flat_map, sum}
+use Rattle.lk_types.proofs.Lists.{joined_map, separated_map}
 use Rattle.lk_types.specs.Grounding.{Grounding, under, row_under, field_under, before_row, function_of, all_of, effects_under, row_tail}
 use Rattle.lk_types.specs.Rows.{Row, fields_of}
 use Rattle.lk_types.specs.Sizes.{nodes_with, row_nodes_with, field_nodes_with, effects_nodes, tail_nodes}
@@ -78,6 +80,11 @@ pub variables_text : variables_of ty.Text ≡ []
 unfolding variables_of
 variables_text = search the_lemmas
 
+pub variables_base : (t : Ty) → (t ≡ ty.Int) ⊎ ((t ≡ ty.Bool) ⊎ (t ≡ ty.Text)) → variables_of t ≡ []
+variables_base t (inl is) = ap variables_of is ∙ variables_int
+variables_base t (inr (inl is)) = ap variables_of is ∙ variables_bool
+variables_base t (inr (inr is)) = ap variables_of is ∙ variables_text
+
 pub variables_list : (t : Ty) → variables_of (ty.List t) ≡ variables_of t
 unfolding variables_of
 variables_list t = search the_lemmas
@@ -90,17 +97,23 @@ pub variables_tags : (r : TyRow) → variables_of (ty.Tags r) ≡ variables_of_r
 unfolding variables_of variables_of_row
 variables_tags r = search the_lemmas
 
-pub variables_function : (params : List Ty) (es : Effects) (answer : Ty) → variables_of (ty.Fun params es answer) ≡ before_tail (joined (map variables_of params)) variable.Effects es.tail ++ variables_of answer
+of_function : (params : List Ty) (es : Effects) (answer : Ty) → variables_of (ty.Fun params es answer) ≡ before_tail (joined (map variables_of params)) variable.Effects es.tail ++ variables_of answer
 unfolding variables_of
-variables_function params es answer = search the_lemmas
+of_function params es answer = search the_lemmas
+
+pub variables_function : (params : List Ty) (es : Effects) (answer : Ty) → variables_of (ty.Fun params es answer) ≡ before_tail (flat_map variables_of params) variable.Effects es.tail ++ variables_of answer
+variables_function params es answer = of_function params es answer ∙ ap (λ z. before_tail z variable.Effects es.tail ++ variables_of answer) (joined_map variables_of params)
 
 pub variables_variable : (n : ℕ) → variables_of (ty.Var n) ≡ variable.Plain n ∷ []
 unfolding variables_of
 variables_variable n = search the_lemmas
 
-pub variables_row : (r : TyRow) → variables_of_row r ≡ before_tail (joined (map variables_of_field (out-TyRow r).fields)) variable.Row (out-TyRow r).tail
+of_row : (r : TyRow) → variables_of_row r ≡ before_tail (joined (map variables_of_field (out-TyRow r).fields)) variable.Row (out-TyRow r).tail
 unfolding variables_of_row variables_of_field
-variables_row r = search the_lemmas
+of_row r = search the_lemmas
+
+pub variables_row : (r : TyRow) → variables_of_row r ≡ before_tail (flat_map variables_of_field (out-TyRow r).fields) variable.Row (out-TyRow r).tail
+variables_row r = of_row r ∙ ap (λ z. before_tail z variable.Row (out-TyRow r).tail) (joined_map variables_of_field (out-TyRow r).fields)
 
 pub variables_field : (f : TyField) → variables_of_field f ≡ variables_of f.ty
 unfolding variables_of variables_of_field
@@ -176,18 +189,26 @@ module _ (name : Variable → List ℕ) where
   unfolding written written_row
   written_variant r = search the_lemmas
 
-  pub written_function : (params : List Ty) (es : Effects) (answer : Ty)
-      → written name (ty.Fun params es answer) ≡ function_text (map (written name) params) (effects_text es.labels (option_map name (tail_variable variable.Effects es.tail))) (written name answer)
+  by_function : (params : List Ty) (es : Effects) (answer : Ty)
+      → written name (ty.Fun params es answer) ≡ function_text (separated (map (written name) params)) (effects_text es.labels (option_map name (tail_variable variable.Effects es.tail))) (written name answer)
   unfolding written
-  written_function params es answer = search the_lemmas
+  by_function params es answer = search the_lemmas
+
+  pub written_function : (params : List Ty) (es : Effects) (answer : Ty)
+      → written name (ty.Fun params es answer) ≡ function_text (join_by (written name) (codes ",") params) (effects_text es.labels (option_map name (tail_variable variable.Effects es.tail))) (written name answer)
+  written_function params es answer =
+      by_function params es answer ∙ ap (λ z. function_text z (effects_text es.labels (option_map name (tail_variable variable.Effects es.tail))) (written name answer)) (separated_map (written name) params)
 
   pub written_variable : (n : ℕ) → written name (ty.Var n) ≡ name (variable.Plain n)
   unfolding written
   written_variable n = search the_lemmas
 
-  pub written_of_row : (r : TyRow) → written_row name r ≡ row_text (map (written_field name) (out-TyRow r).fields) (option_map name (tail_variable variable.Row (out-TyRow r).tail))
+  by_row : (r : TyRow) → written_row name r ≡ row_text (separated (map (written_field name) (out-TyRow r).fields)) (option_map name (tail_variable variable.Row (out-TyRow r).tail))
   unfolding written_row written_field
-  written_of_row r = search the_lemmas
+  by_row r = search the_lemmas
+
+  pub written_of_row : (r : TyRow) → written_row name r ≡ row_text (join_by (written_field name) (codes ",") (out-TyRow r).fields) (option_map name (tail_variable variable.Row (out-TyRow r).tail))
+  written_of_row r = by_row r ∙ ap (λ z. row_text z (option_map name (tail_variable variable.Row (out-TyRow r).tail))) (separated_map (written_field name) (out-TyRow r).fields)
 
   pub written_of_field : (f : TyField) → written_field name f ≡ field_text f.label (written name f.ty)
   unfolding written written_field
@@ -211,17 +232,26 @@ pub ground_list : (t : Ground) → ground_text (known.List t) ≡ list_text (gro
 unfolding ground_text
 ground_list t = search ground_folds.the_lemmas
 
-pub ground_record : (fs : List GroundField) → ground_text (known.Fields fs) ≡ record_text (separated (map ground_field_text fs))
+by_fields : (fs : List GroundField) → ground_text (known.Fields fs) ≡ record_text (separated (map ground_field_text fs))
 unfolding ground_text ground_field_text
-ground_record fs = search ground_folds.the_lemmas
+by_fields fs = search ground_folds.the_lemmas
 
-pub ground_variant : (fs : List GroundField) → ground_text (known.Tags fs) ≡ variant_text (separated (map ground_field_text fs))
+pub ground_record : (fs : List GroundField) → ground_text (known.Fields fs) ≡ record_text (join_by ground_field_text (codes ",") fs)
+ground_record fs = by_fields fs ∙ ap record_text (separated_map ground_field_text fs)
+
+by_tags : (fs : List GroundField) → ground_text (known.Tags fs) ≡ variant_text (separated (map ground_field_text fs))
 unfolding ground_text ground_field_text
-ground_variant fs = search ground_folds.the_lemmas
+by_tags fs = search ground_folds.the_lemmas
 
-pub ground_function : (params : List Ground) (labels : List Effect) (answer : Ground) → ground_text (known.Fun params labels answer) ≡ function_text (map ground_text params) (effects_text labels None) (ground_text answer)
+pub ground_variant : (fs : List GroundField) → ground_text (known.Tags fs) ≡ variant_text (join_by ground_field_text (codes ",") fs)
+ground_variant fs = by_tags fs ∙ ap variant_text (separated_map ground_field_text fs)
+
+by_params : (params : List Ground) (labels : List Effect) (answer : Ground) → ground_text (known.Fun params labels answer) ≡ function_text (separated (map ground_text params)) (effects_text labels None) (ground_text answer)
 unfolding ground_text
-ground_function params labels answer = search ground_folds.the_lemmas
+by_params params labels answer = search ground_folds.the_lemmas
+
+pub ground_function : (params : List Ground) (labels : List Effect) (answer : Ground) → ground_text (known.Fun params labels answer) ≡ function_text (join_by ground_text (codes ",") params) (effects_text labels None) (ground_text answer)
+ground_function params labels answer = by_params params labels answer ∙ ap (λ z. function_text z (effects_text labels None) (ground_text answer)) (separated_map ground_text params)
 
 pub ground_field : (f : GroundField) → ground_field_text f ≡ field_text f.label (ground_text f.ty)
 unfolding ground_text ground_field_text

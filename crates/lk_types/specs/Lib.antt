@@ -1,5 +1,6 @@
 pub mod Each
 pub mod Grounding
+pub mod Names
 pub mod Rows
 pub mod Schemes
 pub mod Sizes

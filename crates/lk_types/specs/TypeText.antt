@@ -1,5 +1,5 @@
 -- Types as text.
-use Rattle.std.specs.Prelude.{ℕ, ◌+◌, List, [], ◌∷◌, ◌++◌, Option, Some, None, map, codes}
+use Rattle.std.specs.Prelude.{ℕ, ◌+◌, List, [], ◌∷◌, ◌++◌, Option, Some, None, codes}
 use Rattle.std.specs.Fmt.{decimal}
 use Rattle.std.specs.List.{join_by, position_or_len}
 use Rattle.std.specs.Option.{option_map}
@@ -27,8 +27,9 @@ abbrev pub tail_text : Option (List ℕ) → List ℕ
 tail_text None = []
 tail_text (Some name) = codes "|" ++ name
 
-abbrev pub row_text : List (List ℕ) → Option (List ℕ) → List ℕ
-row_text parts tail = separated parts ++ tail_text tail
+-- fields or effects, and the tail
+abbrev pub row_text : List ℕ → Option (List ℕ) → List ℕ
+row_text parts tail = parts ++ tail_text tail
 
 -- l:T
 abbrev pub field_text : List ℕ → List ℕ → List ℕ
@@ -55,11 +56,11 @@ effect_word effect.Write = codes "write"
 -- in braces; nothing where the row is closed and empty
 abbrev pub effects_text : List Effect → Option (List ℕ) → List ℕ
 effects_text [] None = []
-effects_text labels tail = codes "{" ++ (row_text (map effect_word labels) tail ++ codes "}")
+effects_text labels tail = codes "{" ++ (row_text (join_by effect_word (codes ",") labels) tail ++ codes "}")
 
 -- (T,T) {e,e|t1}-> T
-abbrev pub function_text : List (List ℕ) → List ℕ → List ℕ → List ℕ
-function_text params effects answer = codes "(" ++ (separated params ++ (codes ") " ++ (effects ++ (codes "-> " ++ answer))))
+abbrev pub function_text : List ℕ → List ℕ → List ℕ → List ℕ
+function_text params effects answer = codes "(" ++ (params ++ (codes ") " ++ (effects ++ (codes "-> " ++ answer))))
 
 -- ---- types whose variables have these names
 
@@ -71,11 +72,11 @@ module _ (name : Variable → List ℕ) where
   ty_text (Ty-F.List t) = list_text t
   ty_text (Ty-F.Fields row) = record_text row
   ty_text (Ty-F.Tags row) = variant_text row
-  ty_text (Ty-F.Fun params es answer) = function_text params (effects_text es.labels (option_map name (tail_variable variable.Effects es.tail))) answer
+  ty_text (Ty-F.Fun params es answer) = function_text (separated params) (effects_text es.labels (option_map name (tail_variable variable.Effects es.tail))) answer
   ty_text (Ty-F.Var n) = name (variable.Plain n)
 
   abbrev pub ty_row_text : TyRow-F (List ℕ) (List ℕ) (List ℕ) → List ℕ
-  ty_row_text row = row_text row.fields (option_map name (tail_variable variable.Row row.tail))
+  ty_row_text row = row_text (separated row.fields) (option_map name (tail_variable variable.Row row.tail))
 
   abbrev pub ty_field_text : TyField-F (List ℕ) (List ℕ) (List ℕ) → List ℕ
   ty_field_text f = field_text f.label f.ty
@@ -111,7 +112,7 @@ known_text Ground-F.Text = codes "String"
 known_text (Ground-F.List t) = list_text t
 known_text (Ground-F.Fields fields) = record_text (separated fields)
 known_text (Ground-F.Tags tags) = variant_text (separated tags)
-known_text (Ground-F.Fun params labels answer) = function_text params (effects_text labels None) answer
+known_text (Ground-F.Fun params labels answer) = function_text (separated params) (effects_text labels None) answer
 
 abbrev pub known_field_text : GroundField-F (List ℕ) (List ℕ) → List ℕ
 known_field_text f = field_text f.label f.ty

@@ -7,10 +7,16 @@
 
 mod equation;
 mod ground;
+mod ground_text;
+mod names;
 mod scheme;
 mod ty;
+mod type_text;
+mod variables;
 
 pub use equation::{Binding, Equation, Image, Subst};
 pub use ground::{Ground, GroundField};
+pub use ground_text::print_ground;
 pub use scheme::{Lack, Scheme};
 pub use ty::{Effect, Effects, RowTail, Ty, TyField, TyRow, Variable};
+pub use type_text::print_type;
