@@ -10,6 +10,8 @@ mod ground;
 mod ground_text;
 mod names;
 mod scheme;
+#[cfg(test)]
+mod tests;
 mod ty;
 mod type_text;
 mod variables;
