@@ -1,0 +1,24 @@
+//! Types, as plain data and as text, and what they mean.
+//!
+//! `specs/Grounding` says which ground type a type becomes once its variables stand for something, `specs/Solutions` what
+//! solves equations of types and which solution is most general, `specs/Schemes` what a scheme stands for, `specs/Sizes`
+//! how large types are, and `specs/TypeText` how they are written.
+#![tactic(auto)]
+
+mod equation;
+mod ground;
+mod ground_text;
+mod names;
+mod scheme;
+#[cfg(test)]
+mod tests;
+mod ty;
+mod type_text;
+mod variables;
+
+pub use equation::{Binding, Equation, Image, Subst};
+pub use ground::{Ground, GroundField};
+pub use ground_text::print_ground;
+pub use scheme::{Lack, Scheme};
+pub use ty::{Effect, Effects, RowTail, Ty, TyField, TyRow, Variable};
+pub use type_text::print_type;

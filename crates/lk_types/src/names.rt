@@ -1,0 +1,44 @@
+//! The names of variables in a text.
+
+use crate::ty::Variable;
+use lk_ast::NoMemory;
+use std::alloc::Global;
+use std::collections::BTreeMap;
+
+/// The numbers of some variables, from 1 on.
+#[derive(Drop)]
+pub struct Names {
+    numbers: BTreeMap<Variable, usize>,
+}
+
+impl Names {
+    ghost use Rattle.lk_types.specs.Names.{number};
+    ghost use Rattle.lk_types.specs.TypeText.{number_in};
+    ghost use Rattle.lk_types.specs.Variables.{firsts};
+    ghost use Rattle.lk_types.specs.declared.ty.Variable.{Variable as TheVariable};
+    ghost use Rattle.std.specs.Prelude.{◌≡◌, IfOk};
+
+    /// The numbers of these variables, in the order in which they come first.
+    pub fn of(alloc: Global, variables: &[Variable]) -> Result<Names, NoMemory>
+        ensures { IfOk result (λ names. (x : TheVariable) → number names x ≡ number_in (firsts variables.now) x) }
+    {
+        let mut names = Names {
+            numbers: BTreeMap::new(alloc),
+        };
+        for variable in variables {
+            let number = names.number(*variable);
+            names.numbers.insert(*variable, number)?;
+        }
+        Ok(names)
+    }
+
+    /// The number of a variable, or the next one where it has none.
+    pub fn number(&self, variable: Variable) -> usize
+        ensures { result ≡ number self.now variable }
+    {
+        match self.numbers.get(&variable) {
+            Some(number) => *number,
+            None => self.numbers.len() + 1,
+        }
+    }
+}

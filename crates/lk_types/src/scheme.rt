@@ -1,0 +1,17 @@
+use crate::ty::Ty;
+use lk_ast::{List, Text};
+
+/// The row variable of that number stands for no row with this label.
+#[derive(Debug, Drop)]
+pub struct Lack {
+    pub var: u32,
+    pub label: Text,
+}
+
+/// A type for each choice of what its variables stand for. The `lacks` stand in the order of their variables, then in
+/// byte order of their labels; those that the body shows anyhow, since a row has no label twice, aren't among them.
+#[derive(Debug, Drop)]
+pub struct Scheme {
+    pub body: Ty,
+    pub lacks: List<Lack>,
+}

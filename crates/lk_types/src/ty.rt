@@ -1,0 +1,69 @@
+use lk_ast::{Boxed, List, Text};
+
+/// Where a row ends: nowhere else, or in what its variable stands for.
+#[derive(Clone, Copy, Debug, PartialEq, Eq)]
+pub enum RowTail {
+    Closed,
+    Var(u32),
+}
+
+/// What a call may do. In byte order of the words `local`, `move`, `print`, `rec`, `scan`, `trap` and `write`.
+#[derive(Clone, Copy, Debug, PartialEq, Eq)]
+pub enum Effect {
+    Local,
+    Move,
+    Print,
+    Rec,
+    Scan,
+    Trap,
+    Write,
+}
+
+/// The effects of a function, in byte order, each once, and then those of the tail.
+#[derive(Debug, Drop)]
+pub struct Effects {
+    pub labels: List<Effect>,
+    pub tail: RowTail,
+}
+
+/// A field of a record, or a tag of a variant with the type of what stands behind it.
+#[cycle(ty)]
+#[derive(Debug, Drop)]
+pub struct TyField {
+    pub label: Text,
+    pub ty: Ty,
+}
+
+/// Fields, in byte order of their labels, each label once, and then those of the tail.
+#[cycle(ty)]
+#[derive(Debug, Drop)]
+pub struct TyRow {
+    pub fields: List<TyField>,
+    pub tail: RowTail,
+}
+
+/// A type. Variables of types, of rows and of effects are three kinds: the variable of a type and that of a row may
+/// have one number, and have nothing to do with each other.
+///
+/// The order of fields and effects is kept by whoever makes a type, and no definition of what a type means rests on it.
+#[cycle(ty)]
+#[derive(Debug, Drop)]
+pub enum Ty {
+    Int,
+    Bool,
+    Text,
+    List(Boxed<Ty>),
+    Fields(TyRow),
+    Tags(TyRow),
+    /// Parameters, effects and result.
+    Fun(List<Ty>, Effects, Boxed<Ty>),
+    Var(u32),
+}
+
+/// A variable of one of the three kinds.
+#[derive(Clone, Copy, Debug, PartialEq, Eq, PartialOrd, Ord)]
+pub enum Variable {
+    Plain(u32),
+    Row(u32),
+    Effects(u32),
+}
