@@ -1,10 +1,9 @@
 -- Rows with fields before them: no label twice, and the order of fields says nothing.
-use Rattle.std.proofs.Common.{◌≡◌, ℕ, Bool, true, false, cond, ◌||◌, List, [], ◌∷◌, refl, sym, ap, ◌∙◌, Option, Some, None, is_some, if◌then◌else◌}
+use Rattle.std.proofs.Common.{◌≡◌, Bool, true, false, cond, ◌||◌, refl, sym, ap, ◌∙◌, Option, Some, None, is_some, if◌then◌else◌}
 use Rattle.std.proofs.lemmas.Cmp.{nat_list_cmp_total}
 use Rattle.std.specs.Cmp.{eq_by_cmp_equiv}
 use Rattle.std.specs.FinMap as fin
 use Rattle.std.specs.Ordering.{eq_by_cmp}
-use Rattle.lk_types.specs.Grounding.{Known, before_row}
 use Rattle.lk_types.specs.Rows.{Label, Row, label_order, has_label, with_field}
 use Rattle.lk_types.specs.declared.ground.Ground.{Ground}
 

@@ -1,17 +1,17 @@
 -- The definitions on small types.
-use Rattle.std.proofs.Common.{◌≡◌, false, List, [], ◌∷◌, map, length, refl, sym, ap, ap₂, ◌∙◌, Option, Some, None, is_some, if◌then◌else◌}
+use Rattle.std.proofs.Common.{◌≡◌, false, List, [], ◌∷◌, map, length, refl, sym, ap, ap₂, ◌∙◌, Some, None, is_some, if◌then◌else◌}
 use Rattle.std.proofs.lemmas.Cmp.{nat_list_cmp_total}
 use Rattle.std.specs.FinMap as fin
 use Rattle.std.specs.Option.{option_map}
 use Rattle.std.specs.Prelude.{codes}
-use Rattle.lk_types.specs.Grounding.{Grounding, Known, before_row, under, row_under, field_under, row_tail}
+use Rattle.lk_types.specs.Grounding.{Grounding, before_row, under, row_under, field_under, row_tail}
 use Rattle.lk_types.specs.Rows.{Label, Row, label_order, has_label, no_fields, with_field, fields_of}
-use Rattle.lk_types.specs.Solutions.{IsMet, Solves}
+use Rattle.lk_types.specs.Solutions.{Solves}
 use Rattle.lk_types.specs.declared.equation.Equation.{Equation}
 use Rattle.lk_types.specs.declared.ground.Ground.{Ground}
 use Rattle.lk_types.specs.declared.ground.Ground.TheVariants as known
 use Rattle.lk_types.specs.declared.ty.RowTail.{RowTail}
-use Rattle.lk_types.specs.declared.ty.RowTail.TheVariants.{Closed, Var}
+use Rattle.lk_types.specs.declared.ty.RowTail.TheVariants.{Closed}
 use Rattle.lk_types.specs.declared.ty.Ty.{Ty}
 use Rattle.lk_types.specs.declared.ty.Ty.TheFolds.{the_lemmas}
 use Rattle.lk_types.specs.declared.ty.Ty.TheVariants as ty

@@ -1,11 +1,11 @@
 -- The definitions by folds, on each form of type.
-use Rattle.std.proofs.Common.{◌≡◌, ◌⊎◌, inl, inr, ℕ, ◌+◌, List, [], ◌∷◌, ◌++◌, map, length, refl, sym, ◌∙◌, ap, Option, Some, None}
-use Rattle.std.specs.List.{cons_option, join_by}
+use Rattle.std.proofs.Common.{◌≡◌, ◌⊎◌, inl, inr, ℕ, ◌+◌, List, [], ◌∷◌, ◌++◌, map, ◌∙◌, ap, Some, None}
+use Rattle.std.specs.List.{join_by}
 use Rattle.std.specs.Option.{option_map}
 use Rattle.std.specs.Prelude.{codes, flat_map, sum}
 use Rattle.lk_types.proofs.Lists.{joined_map, separated_map}
 use Rattle.lk_types.specs.Grounding.{Grounding, under, row_under, field_under, before_row, function_of, all_of, effects_under, row_tail}
-use Rattle.lk_types.specs.Rows.{Row, fields_of}
+use Rattle.lk_types.specs.Rows.{fields_of}
 use Rattle.lk_types.specs.Sizes.{nodes_with, row_nodes_with, field_nodes_with, effects_nodes, tail_nodes}
 use Rattle.lk_types.specs.TypeText.{separated, row_text, field_text, list_text, record_text, variant_text, effects_text, function_text, written, written_row, written_field, ground_text, ground_field_text}
 use Rattle.lk_types.specs.Variables.{joined, before_tail, tail_variable, variables_of, variables_of_row, variables_of_field}

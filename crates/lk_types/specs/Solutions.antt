@@ -5,7 +5,6 @@ use Rattle.std.specs.Prelude.{◌≡◌, ℕ, ◌==◌, List, [], ◌∷◌, Opt
 use Rattle.std.specs.Option.{option_or}
 use Rattle.lk_types.specs.Each.{Each}
 use Rattle.lk_types.specs.Grounding.{Grounding, under, row_under, effects_under}
-use Rattle.lk_types.specs.Rows.{Row, EffectSet}
 use Rattle.lk_types.specs.Variables.{equation_variables, image_variables}
 use Rattle.lk_types.specs.declared.equation.Binding.{Binding}
 use Rattle.lk_types.specs.declared.equation.Equation.{Equation}
