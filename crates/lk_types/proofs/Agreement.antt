@@ -3,16 +3,15 @@ use Rattle.std.proofs.Common.{◌≡◌, List, [], ◌∷◌, ◌++◌, map, ref
 use Rattle.std.specs.List.{cons_option}
 use Rattle.std.specs.Option.{option_map}
 use Rattle.lk_types.specs.Each.{Each}
-use Rattle.lk_types.specs.Grounding.{Grounding, Known, under, row_under, field_under, ty_level, row_level, field_level, before_row, row_tail, effect_tail, before_effects, effects_under, all_of, function_of}
-use Rattle.lk_types.specs.Rows.{Row, EffectSet, fields_of}
+use Rattle.lk_types.specs.Grounding.{Grounding, Known, under, row_under, field_under, ty_level, row_level, field_level, before_row, row_tail, effect_tail, before_effects, all_of, function_of}
+use Rattle.lk_types.specs.Rows.{Row, fields_of}
 use Rattle.lk_types.specs.Variables.{joined, before_tail, tail_variable, variables_of, variables_of_row, variables_of_field, ty_variables, row_variables, field_variables}
 use Rattle.lk_types.specs.declared.ground.Ground.{Ground}
 use Rattle.lk_types.specs.declared.ground.Ground.TheVariants as known
-use Rattle.lk_types.specs.declared.ty.Effects.{Effects}
 use Rattle.lk_types.specs.declared.ty.RowTail.{RowTail}
 use Rattle.lk_types.specs.declared.ty.RowTail.TheVariants.{Closed, Var}
 use Rattle.lk_types.specs.declared.ty.Ty.{Ty, roll-Ty}
-use Rattle.lk_types.specs.declared.ty.Ty.TheFolds.{ind-Ty, map-Ty, map-TyRow, map-TyField, fold-roll-Ty, fold-roll-TyRow, fold-roll-TyField}
+use Rattle.lk_types.specs.declared.ty.Ty.TheFolds.{ind-Ty, map-Ty, fold-roll-Ty, fold-roll-TyRow, fold-roll-TyField}
 use Rattle.lk_types.specs.declared.ty.Ty.TheOpen.{Ty-F, TyField-F, TyRow-F}
 use Rattle.lk_types.specs.declared.ty.TyField.{TyField, roll-TyField}
 use Rattle.lk_types.specs.declared.ty.TyRow.{TyRow, roll-TyRow}
@@ -103,7 +102,7 @@ module _ (σ τ : Grounding) where
   abbrev LevelAgrees : Ty-F Ty TyField TyRow → Type 0
   LevelAgrees x = Agree (ty_variables (map-Ty Ty TyField TyRow (List Variable) (List Variable) (List Variable) variables_of variables_of_field variables_of_row x))
       → ty_level σ (map-Ty Ty TyField TyRow (Option Ground) Known (Option Row) (under σ) (field_under σ) (row_under σ) x)
-        ≡ ty_level τ (map-Ty Ty TyField TyRow (Option Ground) Known (Option Row) (under τ) (field_under τ) (row_under τ) x)
+      ≡ ty_level τ (map-Ty Ty TyField TyRow (Option Ground) Known (Option Row) (under τ) (field_under τ) (row_under τ) x)
 
   level_agrees : (y : Ty-F Such SuchField SuchRow) → LevelAgrees (plain_level y)
   level_agrees Ty-F.Int all = refl

@@ -1,5 +1,5 @@
 -- The definitions on small types.
-use Rattle.std.proofs.Common.{◌≡◌, ℕ, false, List, [], ◌∷◌, ◌++◌, map, length, refl, sym, subst, ap, ap₂, ◌∙◌, Option, Some, None, is_some, if◌then◌else◌}
+use Rattle.std.proofs.Common.{◌≡◌, false, List, [], ◌∷◌, ◌++◌, map, length, refl, sym, subst, ap, ap₂, ◌∙◌, Some, None, is_some, if◌then◌else◌}
 use Rattle.std.proofs.lemmas.Cmp.{nat_list_cmp_total}
 use Rattle.std.specs.FinMap as fin
 use Rattle.std.specs.Option.{option_map, unwrap_or}

@@ -82,10 +82,10 @@ abbrev pub HasSides : Grounding → Equation → Type 0
 HasSides σ e = IsSome (under σ e.left) × IsSome (under σ e.right)
 
 -- on the variables of the equations σ is the substitution and then τ
-abbrev pub IsInstance : List Equation → Grounding → Subst → Grounding → Type 0
-IsInstance equations σ s τ = Each (IsInstanceAt σ s τ) (equation_variables equations)
+abbrev pub IsInstanceOn : List Equation → Grounding → Subst → Grounding → Type 0
+IsInstanceOn equations σ s τ = Each (IsInstanceAt σ s τ) (equation_variables equations)
 
 -- each instance under which no row of the equations gets a label twice is a solution, and each solution is an instance
 pub record IsMostGeneral (s : Subst) (equations : List Equation) : Type 0 where
-  pub sound : (σ τ : Grounding) → IsInstance equations σ s τ → Each (HasSides σ) equations → Solves σ equations
-  pub general : (σ : Grounding) → Solves σ equations → (τ : Grounding) × IsInstance equations σ s τ
+  pub sound : (σ τ : Grounding) → IsInstanceOn equations σ s τ → Each (HasSides σ) equations → Solves σ equations
+  pub general : (σ : Grounding) → Solves σ equations → (τ : Grounding) × IsInstanceOn equations σ s τ
