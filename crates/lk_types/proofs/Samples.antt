@@ -1,13 +1,18 @@
 -- The definitions on small types.
-use Rattle.std.proofs.Common.{◌≡◌, false, List, [], ◌∷◌, map, length, refl, sym, ap, ap₂, ◌∙◌, Some, None, is_some, if◌then◌else◌}
+use Rattle.std.proofs.Common.{◌≡◌, false, List, [], ◌∷◌, ◌++◌, map, length, refl, sym, subst, ap, ap₂, ◌∙◌, Some, None, is_some, if◌then◌else◌}
 use Rattle.std.proofs.lemmas.Cmp.{nat_list_cmp_total}
 use Rattle.std.specs.FinMap as fin
-use Rattle.std.specs.Option.{option_map}
+use Rattle.std.specs.Option.{option_map, unwrap_or}
 use Rattle.std.specs.Prelude.{codes}
+use Rattle.lk_types.specs.Each.{Each}
 use Rattle.lk_types.specs.Grounding.{Grounding, before_row, under, row_under, field_under, row_tail}
-use Rattle.lk_types.specs.Rows.{Label, Row, label_order, has_label, no_fields, with_field, fields_of}
-use Rattle.lk_types.specs.Solutions.{Solves}
+use Rattle.lk_types.specs.Rows.{Label, Row, label_order, has_label, no_fields, no_effects, with_field, fields_of}
+use Rattle.lk_types.specs.Sizes.{nodes, nodes_with}
+use Rattle.lk_types.specs.Solutions.{IsInstanceAt, IsMostGeneral, Solves}
+use Rattle.lk_types.specs.Variables.{equation_variables}
 use Rattle.lk_types.specs.declared.equation.Equation.{Equation}
+use Rattle.lk_types.specs.declared.equation.Image.TheVariants as image
+use Rattle.lk_types.specs.declared.equation.Subst.{Subst}
 use Rattle.lk_types.specs.declared.ground.Ground.{Ground}
 use Rattle.lk_types.specs.declared.ground.Ground.TheVariants as known
 use Rattle.lk_types.specs.declared.ty.RowTail.{RowTail}
@@ -17,8 +22,9 @@ use Rattle.lk_types.specs.declared.ty.Ty.TheFolds.{the_lemmas}
 use Rattle.lk_types.specs.declared.ty.Ty.TheVariants as ty
 use Rattle.lk_types.specs.declared.ty.TyField.{TyField}
 use Rattle.lk_types.specs.declared.ty.TyRow.{TyRow, roll-TyRow}
+use Rattle.lk_types.specs.declared.ty.Variable.TheVariants as variable
 use Rattle.lk_types.proofs.Rows.{found, field_twice, fields_swap}
-use Rattle.lk_types.proofs.Unfold.{under_int, under_text, under_fields, under_field}
+use Rattle.lk_types.proofs.Unfold.{under_int, under_text, under_fields, under_variable, under_field, variables_int, variables_variable}
 
 abbrev row : List TyField → RowTail → TyRow
 row fields tail = roll-TyRow (record { fields = fields; tail = tail })
@@ -99,3 +105,49 @@ person_twice = record { left = person; right = turned }
 
 pub solved : (σ : Grounding) → Solves σ (person_twice ∷ [])
 solved σ = ((known_person, person_is σ, turned_is σ), tt)
+
+-- record, two labels, two bases
+pub person_nodes : nodes person ≡ 5
+unfolding nodes_with
+person_nodes = search the_lemmas
+
+-- ---- t1 = Int
+
+abbrev is_int : Equation
+is_int = record { left = ty.Var 1; right = ty.Int }
+
+abbrev int_for_it : Subst
+int_for_it = record { binds = record { var = 1; is = image.Plain ty.Int } ∷ [] }
+
+abbrev nothing_for_it : Subst
+nothing_for_it = record { binds = [] }
+
+its_variables : equation_variables (is_int ∷ []) ≡ variable.Plain 1 ∷ []
+its_variables = ap₂ (λ xs ys. xs ++ (ys ++ [])) (variables_variable 1) variables_int
+
+same_value : {A : Type 0} (a b : A) → Some a ≡ Some b → a ≡ b
+same_value a b is = ap (λ o. unwrap_or o a) is
+
+met : (σ : Grounding) → under σ ty.Int ≡ Some (σ.plain 1) → Solves σ (is_int ∷ [])
+met σ is = ((σ.plain 1, under_variable σ 1, is), tt)
+
+unmet : (σ : Grounding) → Solves σ (is_int ∷ []) → σ.plain 1 ≡ known.Int
+unmet σ solves = let t : Ground = solves.0.0 in
+    same_value (σ.plain 1) known.Int (sym (under_variable σ 1) ∙ solves.0.1 ∙ sym solves.0.2 ∙ under_int σ)
+
+-- Int for t1 is most general
+pub most_general : IsMostGeneral int_for_it (is_int ∷ [])
+most_general = record {
+  sound = λ σ τ instance sides. met σ (under_int σ ∙ sym (under_int τ) ∙ (subst (Each (IsInstanceAt σ int_for_it τ)) its_variables instance).0);
+  general = λ σ solves. (σ, subst (Each (IsInstanceAt σ int_for_it σ)) (sym its_variables) (under_int σ ∙ ap Some (sym (unmet σ solves)), tt));
+}
+
+abbrev all_bool : Grounding
+all_bool = record { plain = λ n. known.Bool; rows = λ n. no_fields; effects = λ n. no_effects }
+
+not_int : known.Bool ≡ known.Int → ⊥
+not_int is = cc
+
+-- no substitution at all isn't
+pub not_most_general : IsMostGeneral nothing_for_it (is_int ∷ []) → ⊥
+not_most_general general = not_int (unmet all_bool (general.sound all_bool all_bool (subst (Each (IsInstanceAt all_bool nothing_for_it all_bool)) (sym its_variables) (refl, tt)) ((ap is_some (under_variable all_bool 1), ap is_some (under_int all_bool)), tt)))

@@ -81,8 +81,11 @@ IsInstanceAt σ s τ (variable.Effects n) = Becomes (effects_under τ) (effects_
 abbrev pub HasSides : Grounding → Equation → Type 0
 HasSides σ e = IsSome (under σ e.left) × IsSome (under σ e.right)
 
--- each instance under which no row of the equations gets a label twice is a solution, and on the variables of the equations
--- each solution is an instance
+-- on the variables of the equations σ is the substitution and then τ
+abbrev pub IsInstanceOn : List Equation → Grounding → Subst → Grounding → Type 0
+IsInstanceOn equations σ s τ = Each (IsInstanceAt σ s τ) (equation_variables equations)
+
+-- each instance under which no row of the equations gets a label twice is a solution, and each solution is an instance
 pub record IsMostGeneral (s : Subst) (equations : List Equation) : Type 0 where
-  pub sound : (σ τ : Grounding) → ((x : Variable) → IsInstanceAt σ s τ x) → Each (HasSides σ) equations → Solves σ equations
-  pub general : (σ : Grounding) → Solves σ equations → (τ : Grounding) × Each (IsInstanceAt σ s τ) (equation_variables equations)
+  pub sound : (σ τ : Grounding) → IsInstanceOn equations σ s τ → Each (HasSides σ) equations → Solves σ equations
+  pub general : (σ : Grounding) → Solves σ equations → (τ : Grounding) × IsInstanceOn equations σ s τ
