@@ -80,7 +80,8 @@ IsWithin s e = (size_under s e.left ≤ most_nodes) × (size_under s e.right ≤
 abbrev pub IsBeyond : Subst → Equation → Type 0
 IsBeyond s e = (most_nodes < size_under s e.left) ⊎ (most_nodes < size_under s e.right)
 
--- a most general solution in solved form, of which there is one but for the names of variables
+-- A most general solution in solved form. There is one but for the names of variables, and but for tails of rows with all
+-- seven effects, which only the empty row can stand for: such a tail may be left open or be closed.
 abbrev pub IsSolution : Subst → List Equation → Type 0
 IsSolution s equations = HasSolution equations × IsMostGeneral s equations × IsSolvedForm s
 
