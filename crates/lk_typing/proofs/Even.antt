@@ -1,0 +1,12 @@
+pub mod Expressions
+pub mod Forms
+pub mod Found
+pub mod Groups
+pub mod Instances
+pub mod Lists
+pub mod Loose
+pub mod Nodes
+pub mod Operators
+pub mod Queries
+pub mod Signatures
+pub mod Types

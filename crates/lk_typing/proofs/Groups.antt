@@ -1,0 +1,4 @@
+pub mod Declarations
+pub mod Functions
+pub mod Signatures
+pub mod Whole

@@ -1,0 +1,17 @@
+pub mod Complete
+pub mod EffectRows
+pub mod Even
+pub mod Groups
+pub mod Instances
+pub mod Inverses
+pub mod Letters
+pub mod Levels
+pub mod Lists
+pub mod Meaning
+pub mod Nodes
+pub mod Operators
+pub mod Samples
+pub mod Scopes
+pub mod Sound
+pub mod Trees
+pub mod Values

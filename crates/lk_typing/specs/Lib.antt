@@ -1,0 +1,16 @@
+pub mod EffectRows
+pub mod Equations
+pub mod Groups
+pub mod Heads
+pub mod Law
+pub mod Names
+pub mod Programs
+pub mod Renamed
+pub mod Rules
+pub mod Signatures
+pub mod Steps
+pub mod Types
+pub mod Typing
+pub mod Unknowns
+pub mod Uses
+pub mod Walk
