@@ -1,0 +1,7 @@
+use Rattle.lk_unify.proofs.Adding.{adds}
+use Rattle.lk_unify.proofs.arena.Arena.add_node.Goals as goal
+
+pub returns : goal.returns
+returns c =
+    adds c.args.self.now.shapes c.args.self.now.classes c.args.shape _ _ _ c.requires.arena c.requires.parts c.requires.distinct c.requires.filled
+    c.in_ok-number.ensures.shapes c.in_ok-number.ensures.classes c.in_ok-number.ensures.number

@@ -1,0 +1,13 @@
+use Rattle.lk_unify.proofs.flat.flat_row.Given as goal
+use Rattle.lk_unify.specs.Kinds.{IsFlatKinded}
+use Rattle.lk_unify.specs.Measures.{unmet}
+use Rattle.lk_unify.specs.Shapes.{IsFlatBut}
+
+abbrev pub invariant-loop-tail : goal.invariant-loop-tail
+invariant-loop-tail l = record {
+  flat : IsFlatBut l.hole l.arena.shapes l.arena.classes l.row l.fields l.tail;
+  kinds : IsFlatKinded l.arena.shapes l.arena.classes l.row l.fields l.tail;
+}
+
+abbrev pub decreases-loop-tail : goal.decreases-loop-tail
+decreases-loop-tail l = unmet l.fields l.arena.shapes

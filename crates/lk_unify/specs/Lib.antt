@@ -1,0 +1,9 @@
+pub mod Choices
+pub mod Kinds
+pub mod Measures
+pub mod Order
+pub mod Readings
+pub mod Shapes
+pub mod Steps
+pub mod Terms
+pub mod Values

@@ -1,0 +1,45 @@
+-- Ranks of classes: each is above those of its parts. Where there are ranks no type is a part of itself, which is the test that
+-- unification owes (Robinson, A machine-oriented logic based on the resolution principle, 1965).
+use Rattle.std.specs.Prelude.{◌≡◌, ℕ, suc, ◌<◌, List, [], ◌∷◌, length, slice_index_or as get_or, Option, Some, None, IsSome}
+use Rattle.lk_types.specs.Each.{Each, OneOf}
+use Rattle.lk_classes.specs.Classes.{class_at}
+use Rattle.lk_unify.specs.Shapes.{shape_at, parts_of}
+use Rattle.lk_unify.specs.declared.node.Shape.{Shape}
+
+-- each class has a rank above those of the classes of its parts
+abbrev pub IsRanked : List Shape → List ℕ → (ℕ → ℕ) → Type 0
+IsRanked shapes classes rank =
+    (i : ℕ) → i < length shapes → class_at classes i ≡ i → Each (λ p. rank (class_at classes p) < rank i) (parts_of (shape_at shapes i))
+
+-- ---- while ranks are given, from the lowest up
+
+abbrev pub rank_at : List (Option ℕ) → ℕ → Option ℕ
+rank_at ranks i = get_or ranks i None
+
+-- the class of a node has a rank
+abbrev pub IsKnown : List (Option ℕ) → List ℕ → ℕ → Type 0
+IsKnown ranks classes p = IsSome (rank_at ranks (class_at classes p))
+
+abbrev pub IsUnknown : List (Option ℕ) → List ℕ → ℕ → Type 0
+IsUnknown ranks classes p = rank_at ranks (class_at classes p) ≡ None
+
+-- it has a rank, which is below this one
+abbrev pub HasRankBelow : List (Option ℕ) → ℕ → ℕ → Type 0
+HasRankBelow ranks below i = (r : ℕ) × (rank_at ranks i ≡ Some r) × (r < below)
+
+-- the ranks given so far are below the next one, and parts have smaller ones
+abbrev pub IsPartlyRanked : List Shape → List ℕ → List (Option ℕ) → ℕ → Type 0
+IsPartlyRanked shapes classes ranks next =
+    (i r : ℕ) → i < length shapes → rank_at ranks i ≡ Some r →
+    (r < next) × Each (λ p. HasRankBelow ranks r (class_at classes p)) (parts_of (shape_at shapes i))
+
+-- each class without a rank has a part without one
+abbrev pub IsStuck : List Shape → List ℕ → List (Option ℕ) → Type 0
+IsStuck shapes classes ranks =
+    (i : ℕ) → i < length shapes → class_at classes i ≡ i → rank_at ranks i ≡ None → OneOf (IsUnknown ranks classes) (parts_of (shape_at shapes i))
+
+-- how many have no rank
+abbrev pub unknown : List (Option ℕ) → ℕ
+unknown [] = 0
+unknown (None ∷ ranks) = suc (unknown ranks)
+unknown (Some r ∷ ranks) = unknown ranks

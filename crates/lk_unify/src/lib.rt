@@ -1,0 +1,22 @@
+//! Unification of types with rows, over numbered nodes that are merged into classes.
+//!
+//! `specs/Shapes` says which values nodes can have, a value being a ground type or a row of them (`specs/Values`), and
+//! `specs/Steps` what a new node, a binding of a row or a union of two classes says of them. `specs/Measures` is why merging
+//! ends, `specs/Order` says when no type is a part of itself, and `specs/Kinds` that there are values then.
+#![tactic(auto)]
+
+mod arena;
+mod equations;
+mod flat;
+mod joining;
+mod kind;
+mod labels;
+mod merge;
+mod node;
+mod order;
+#[cfg(test)]
+mod tests;
+
+pub use arena::Arena;
+pub use equations::equate;
+pub use node::{Field, Head, Shape};
