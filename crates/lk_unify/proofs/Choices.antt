@@ -408,14 +408,14 @@ model_by_choice shapes classes kind rank arena kinded ranked clean w choice =
 
 -- ---- each type taken as Int and each row as the one without fields
 
-abbrev least : Shape → Value
+abbrev pub least : Shape → Value
 least Open = OfRow fin.empty
 least _ = Plain ground.Int
 
 no_effects_row : effect_row no_effects ≡ fin.empty
 no_effects_row = refl
 
-least_choice : (shapes : List Shape) (classes : List ℕ) (kind : ℕ → Kind) → IsChoice shapes classes kind (λ i. least (shape_at shapes i))
+pub least_choice : (shapes : List Shape) (classes : List ℕ) (kind : ℕ → Kind) → IsChoice shapes classes kind (λ i. least (shape_at shapes i))
 least_choice shapes classes kind = record {
   picked = record {
     types = λ i b named s. (ground.Int, ap least s);

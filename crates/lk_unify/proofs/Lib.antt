@@ -4,6 +4,7 @@ pub mod ChainFlats
 pub mod Chains
 pub mod Choices
 pub mod Determined
+pub mod Distinct
 pub mod EachLemmas
 pub mod EffectRows
 pub mod EffectSets
@@ -13,6 +14,15 @@ pub mod Heads
 pub mod Joined
 pub mod Joins
 pub mod Kinded
+pub mod LoadEffects
+pub mod LoadEquations
+pub mod LoadKinds
+pub mod LoadLists
+pub mod LoadReadings
+pub mod LoadRows
+pub mod LoadSteps
+pub mod LoadTypes
+pub mod LoadVariables
 pub mod Loose
 pub mod Mades
 pub mod Merged
@@ -23,7 +33,10 @@ pub mod Ranks
 pub mod Readings
 pub mod Relabel
 pub mod RowAlgebra
+pub mod RowsBefore
 pub mod Sizes
+pub mod Solved
+pub mod Solving
 pub mod Steps
 pub mod Tails
 pub mod TermSizes

@@ -44,11 +44,11 @@ impl Arena {
         Ok(number)
     }
 
-    fn push(&mut self, shape: Shape) -> Result<usize, NoMemory>
-        requires { length self.old.classes ≡ length self.old.shapes }
+    /// Adds a node that need not fit the others. The answer is its number.
+    pub fn push(&mut self, shape: Shape) -> Result<usize, NoMemory>
         ensures number { IfOk result (λ n. n ≡ length self.old.shapes) }
         ensures shapes { OnOk result (self.new.shapes ≡ self.old.shapes ++ shape ∷ []) }
-        ensures classes { OnOk result (self.new.classes ≡ self.old.classes ++ length self.old.shapes ∷ []) }
+        ensures classes { OnOk result (self.new.classes ≡ self.old.classes ++ length self.old.classes ∷ []) }
     {
         let number = self.shapes.len();
         self.classes.add()?;

@@ -11,12 +11,20 @@ mod flat;
 mod joining;
 mod kind;
 mod labels;
+mod load;
+mod loader;
 mod merge;
 mod node;
 mod order;
+mod solve;
+#[cfg(test)]
+mod solve_tests;
 #[cfg(test)]
 mod tests;
 
 pub use arena::Arena;
 pub use equations::equate;
-pub use node::{Field, Head, Shape};
+pub use load::load_equation;
+pub use loader::Loader;
+pub use node::{Field, Head, Pair, Shape};
+pub use solve::first_unsolvable;

@@ -1,0 +1,198 @@
+-- The node of a variable.
+use Rattle.std.proofs.Common.{◌≡◌, ℕ, ◌+◌, ◌<◌, Bool, true, false, ◌⊎◌, inl, inr, ⊎_elim, length, refl, sym, ◌∙◌, ap, subst, arith, Some, None, cond}
+use Rattle.std.proofs.lemmas.Bool.{eqb-true, eq-eqb}
+use Rattle.std.proofs.lemmas.Bool.Decides.{nat_tests}
+use Rattle.std.specs.BTreeMap.{get, is_at}
+use Rattle.std.specs.Map.{lookup}
+use Rattle.std.specs.Ordering.{is_eq}
+use Rattle.lk_types.specs.Each.{Each}
+use Rattle.lk_types.specs.Grounding.{Grounding}
+use Rattle.lk_types.specs.Variables.{same_variable}
+use Rattle.lk_types.specs.contracts.ty.VariableOrd.TheImpl.{cmp-value}
+use Rattle.lk_types.specs.declared.ty.Variable.{Variable}
+use Rattle.lk_types.specs.declared.ty.Variable.TheVariants as variable
+use Rattle.lk_unify.proofs.LoadKinds.{put, old_kind, new_kind, kinded_nodes}
+use Rattle.lk_unify.proofs.LoadSteps.{some_once, one_longer, same_names, added_below, added_back, added_node, added_arena}
+use Rattle.lk_unify.specs.Kinds.{Kind, HasKind, AreKinded}
+use Rattle.lk_unify.specs.Loading.{KindsTo, kind_of, node_for, value_of, shape_for, IsLoader, Loads, Adds}
+use Rattle.lk_unify.specs.Shapes.{parts_of, fields_in, IsArena, IsBuilt, IsDistinct, HasFields, FitsNodes, WeakNodes}
+use Rattle.lk_unify.specs.Values.{Value}
+use Rattle.lk_unify.specs.declared.loader.Loader.{Loader}
+
+-- ---- the same variable
+
+agrees : (x y : Variable) → is_eq (cmp-value.it x y) ≡ same_variable x y
+agrees (variable.Plain m) (variable.Plain n) = grind (arith, nat_tests)
+agrees (variable.Plain m) (variable.Row n) = refl
+agrees (variable.Plain m) (variable.Effects n) = refl
+agrees (variable.Row m) (variable.Plain n) = refl
+agrees (variable.Row m) (variable.Row n) = grind (arith, nat_tests)
+agrees (variable.Row m) (variable.Effects n) = refl
+agrees (variable.Effects m) (variable.Plain n) = refl
+agrees (variable.Effects m) (variable.Row n) = refl
+agrees (variable.Effects m) (variable.Effects n) = grind (arith, nat_tests)
+
+-- the test by which the map looks for a variable
+test_is : (x : Variable) → is_at (cmp-value.it x) ≡ same_variable x
+test_is x i y = agrees x y i
+
+same_is : (x y : Variable) → same_variable x y ≡ true → x ≡ y
+same_is (variable.Plain m) (variable.Plain n) same = ap variable.Plain (eqb-true m n same)
+same_is (variable.Row m) (variable.Row n) same = ap variable.Row (eqb-true m n same)
+same_is (variable.Effects m) (variable.Effects n) same = ap variable.Effects (eqb-true m n same)
+same_is (variable.Plain m) (variable.Row n) same = cc
+same_is (variable.Plain m) (variable.Effects n) same = cc
+same_is (variable.Row m) (variable.Plain n) same = cc
+same_is (variable.Row m) (variable.Effects n) same = cc
+same_is (variable.Effects m) (variable.Plain n) same = cc
+same_is (variable.Effects m) (variable.Row n) same = cc
+
+same_self : (x : Variable) → same_variable x x ≡ true
+same_self (variable.Plain m) = eq-eqb m m refl
+same_self (variable.Row m) = eq-eqb m m refl
+same_self (variable.Effects m) = eq-eqb m m refl
+
+-- what the map finds
+pub found_is : (l : Loader) (x : Variable) → get cmp-value.it l.names x ≡ node_for l x
+found_is l x = ap (λ test. lookup test l.names.entries) (test_is x)
+
+-- ---- shapes of variables
+
+shape_parts : (x : Variable) (P : ℕ → Type 0) → Each P (parts_of (shape_for x))
+shape_parts (variable.Plain n) P = tt
+shape_parts (variable.Row n) P = tt
+shape_parts (variable.Effects n) P = tt
+
+shape_distinct : (x : Variable) → IsDistinct (fields_in (shape_for x))
+shape_distinct (variable.Plain n) = tt
+shape_distinct (variable.Row n) = tt
+shape_distinct (variable.Effects n) = tt
+
+shape_filled : (x : Variable) → HasFields (shape_for x)
+shape_filled (variable.Plain n) = tt
+shape_filled (variable.Row n) = tt
+shape_filled (variable.Effects n) = tt
+
+-- whatever stands for a variable fits its node
+shape_fits : (x : Variable) (σ : Grounding) (v : ℕ → Value) → IsBuilt (shape_for x) v (value_of σ x)
+shape_fits (variable.Plain n) σ v = (σ.plain n, refl)
+shape_fits (variable.Row n) σ v = (σ.rows n, refl)
+shape_fits (variable.Effects n) σ v = (_, refl)
+
+shape_kind : (x : Variable) (j : ℕ → Kind) → HasKind j (kind_of x) (shape_for x)
+shape_kind (variable.Plain n) j = tt
+shape_kind (variable.Row n) j = tt
+shape_kind (variable.Effects n) j = tt
+
+-- ---- a variable that has a node
+
+pub loads_known : (l : Loader) (x : Variable) (n : ℕ) → IsLoader l → node_for l x ≡ Some n → Loads l l (kind_of x) (λ σ. Some (value_of σ x)) n
+loads_known l x n whole is = record {
+  below = whole.named x n is;
+  kinds = record { local = λ k j same p. same n (whole.named x n is) ∙ p; kinds = λ k kinded. (k, (λ i h. refl), kinded, kinded.named x n is) };
+  to = record {
+    whole = whole;
+    longer = omega arith;
+    kept = λ y k e. e;
+    local = λ v w same. same n (whole.named x n is);
+    back = λ v h. h;
+    is = λ v σ h agrees. ap Some (sym (agrees.at x n is));
+    forth = λ v σ y fits agrees e. (v, (λ i h. refl), fits, agrees, agrees.at x n is ∙ some_once (value_of σ x) y e);
+  };
+}
+
+-- ---- a variable that gets one
+
+either : (b : Bool) → (b ≡ true) ⊎ (b ≡ false)
+either true = inl refl
+either false = inr refl
+
+module _ (b c d : Loader) (x : Variable) (k : ℕ) (whole : IsLoader b) (none : node_for b x ≡ None) (add : Adds b c (shape_for x) k) (arena : d.arena ≡ c.arena)
+    (names : (q : Variable) → get cmp-value.it d.names q ≡ cond (is_at (cmp-value.it x) q) (Some k) (get cmp-value.it c.names q)) where
+  parts : Each (λ p. p < length b.arena.shapes) (parts_of (shape_for x))
+  parts = shape_parts x (λ p. p < length b.arena.shapes)
+
+  now_named : (q : Variable) → node_for d q ≡ cond (same_variable x q) (Some k) (node_for b q)
+  now_named q =
+      sym (found_is d q) ∙ names q ∙ ap (λ t. cond t (Some k) (get cmp-value.it c.names q)) (agrees x q)
+      ∙ ap (cond (same_variable x q) (Some k)) (found_is c q ∙ same_names b c (shape_for x) k whole add parts q)
+
+  new_name : node_for d x ≡ Some k
+  new_name = now_named x ∙ ap (λ t. cond t (Some k) (node_for b x)) (same_self x)
+
+  -- a name is the new one or an old one
+  name_cases : (q : Variable) (n : ℕ) → node_for d q ≡ Some n → ((x ≡ q) × (n ≡ k)) ⊎ (node_for b q ≡ Some n)
+  name_cases q n e =
+      ⊎_elim
+      (λ (t : same_variable x q ≡ true). inl (same_is x q t, some_once n k (sym e ∙ now_named q ∙ ap (λ t. cond t (Some k) (node_for b q)) t)))
+      (λ (f : same_variable x q ≡ false). inr (sym (ap (λ t. cond t (Some k) (node_for b q)) f) ∙ sym (now_named q) ∙ e))
+      (either (same_variable x q))
+
+  kept_names : (q : Variable) (n : ℕ) → node_for b q ≡ Some n → node_for d q ≡ Some n
+  kept_names q n e =
+      ⊎_elim
+      (λ (t : same_variable x q ≡ true). (let h : None ≡ Some n = sym none ∙ ap (node_for b) (same_is x q t) ∙ e in cc))
+      (λ (f : same_variable x q ≡ false). now_named q ∙ ap (λ t. cond t (Some k) (node_for b q)) f ∙ e)
+      (either (same_variable x q))
+
+  longer : length d.arena.shapes ≡ length b.arena.shapes + 1
+  longer = ap (λ a. length a.shapes) arena ∙ one_longer b c (shape_for x) k whole add parts
+
+  below : k < length d.arena.shapes
+  below = subst (λ a. k < length a.shapes) (sym arena) (added_below b c (shape_for x) k whole add parts)
+
+  arena_kinded : (k : ℕ → Kind) → AreKinded c.arena.shapes c.arena.classes k → AreKinded d.arena.shapes d.arena.classes k
+  arena_kinded k nodes = subst (λ a. AreKinded a.shapes a.classes k) (sym arena) nodes
+
+  named_kinds : KindsTo b d (λ j. j k ≡ kind_of x)
+  named_kinds = record {
+    local = λ h j same p. same k below ∙ p;
+    kinds = λ h kinded.
+        let s = shape_for x in
+        let fits = shape_kind x h in (
+          put h k (kind_of x),
+          (λ i l. old_kind b c s k (kind_of x) whole add parts h kinded.nodes fits i l),
+          record {
+            nodes = arena_kinded (put h k (kind_of x)) (kinded_nodes b c s k (kind_of x) whole add parts h kinded.nodes fits);
+            named = λ q n e. ⊎_elim
+                (λ (t : (x ≡ q) × (n ≡ k)). ap (put h k (kind_of x)) t.1 ∙ new_kind b c s k (kind_of x) whole add parts h kinded.nodes fits ∙ ap kind_of t.0)
+                (λ (o : node_for b q ≡ Some n). old_kind b c s k (kind_of x) whole add parts h kinded.nodes fits n (whole.named q n o) ∙ kinded.named q n o)
+                (name_cases q n e);
+          },
+          new_kind b c s k (kind_of x) whole add parts h kinded.nodes fits,
+        );
+  }
+
+  pub loads_named : Loads b d (kind_of x) (λ σ. Some (value_of σ x)) k
+  loads_named = record {
+    below = below;
+    kinds = named_kinds;
+    to = record {
+      whole = record {
+        arena = subst (λ a. IsArena a.shapes a.classes) (sym arena) (added_arena b c (shape_for x) k whole add parts (shape_distinct x) (shape_filled x));
+        named = λ q n e. ⊎_elim
+            (λ (h : (x ≡ q) × (n ≡ k)). subst (λ j. j < length d.arena.shapes) (sym h.1) below)
+            (λ (h : node_for b q ≡ Some n). let l = whole.named q n h in omega (arith, longer))
+            (name_cases q n e);
+      };
+      longer = omega (arith, longer);
+      kept = kept_names;
+      local = λ v w same. same k below;
+      back = λ v h. added_back b c (shape_for x) k whole add parts v (subst (λ a. WeakNodes a.shapes a.classes v) arena h);
+      is = λ v σ h agrees. ap Some (sym (agrees.at x k new_name));
+      forth = λ v σ y fits agrees e.
+          let s : value_of σ x ≡ y = some_once (value_of σ x) y e in
+          let h = added_node b c (shape_for x) k whole add parts v (value_of σ x) fits (shape_fits x σ v) in (
+            h.0,
+            h.1,
+            subst (λ a. FitsNodes a.shapes a.classes h.0) (sym arena) h.2,
+            record {
+              at = λ q n e. ⊎_elim
+                  (λ (t : (x ≡ q) × (n ≡ k)). ap h.0 t.1 ∙ h.3 ∙ ap (value_of σ) t.0)
+                  (λ (o : node_for b q ≡ Some n). h.1 n (whole.named q n o) ∙ agrees.at q n o)
+                  (name_cases q n e);
+            },
+            h.3 ∙ s,
+          );
+    };
+  }

@@ -1,0 +1,220 @@
+-- Types as nodes: a node for each variable, the same one wherever it stands again, one for each constructor, for each row with
+-- fields and for each end of a row without a variable. What nodes and values have to do with what types become (`Grounding`).
+use Rattle.std.specs.Map.{lookup}
+use Rattle.std.specs.Option.{option_map}
+use Rattle.std.specs.Prelude.{◌≡◌, ℕ, ◌<◌, ◌≤◌, List, ◌∷◌, [], ◌++◌, length, map, Option, Some, None}
+use Rattle.lk_types.specs.Each.{Each}
+use Rattle.lk_types.specs.Grounding.{Grounding, under, row_under, effects_under, all_of}
+use Rattle.lk_types.specs.Rows.{Row, EffectSet, no_fields}
+use Rattle.lk_types.specs.Solutions.{IsMet}
+use Rattle.lk_types.specs.TypeText.{effect_word}
+use Rattle.lk_types.specs.Variables.{same_variable}
+use Rattle.lk_types.specs.declared.equation.Equation.{Equation}
+use Rattle.lk_types.specs.declared.ground.Ground.{Ground}
+use Rattle.lk_types.specs.declared.ground.Ground.TheVariants as ground
+use Rattle.lk_types.specs.declared.ty.Effect.{Effect}
+use Rattle.lk_types.specs.declared.ty.Effects.{Effects}
+use Rattle.lk_types.specs.declared.ty.Ty.{Ty}
+use Rattle.lk_types.specs.declared.ty.TyField.{TyField}
+use Rattle.lk_types.specs.declared.ty.TyRow.{TyRow}
+use Rattle.lk_types.specs.declared.ty.Variable.{Variable}
+use Rattle.lk_types.specs.declared.ty.Variable.TheVariants as variable
+use Rattle.lk_unify.specs.Kinds.{Kind, OfTypes, OfFields, OfEffects, OfUnit, OfNothing, AreKinded}
+use Rattle.lk_unify.specs.Shapes.{IsArena, IsDistinct, SameBelow, FitsNodes, WeakNodes}
+use Rattle.lk_unify.specs.Values.{Value, Plain, OfRow, effect_row}
+use Rattle.lk_unify.specs.declared.loader.Loader.{Loader}
+use Rattle.lk_unify.specs.declared.node.Field.{Field}
+use Rattle.lk_unify.specs.declared.node.Head.TheVariants as head
+use Rattle.lk_unify.specs.declared.node.Pair.{Pair}
+use Rattle.lk_unify.specs.declared.node.Shape.{Shape}
+use Rattle.lk_unify.specs.declared.node.Shape.TheVariants.{Free, Open, Made}
+use Rattle.lk_unify.specs.declared.node.Shape.TheVariants as shape
+
+-- ---- what variables, types and rows become, as values
+
+abbrev pub value_of : Grounding → Variable → Value
+value_of σ (variable.Plain n) = Plain (σ.plain n)
+value_of σ (variable.Row n) = OfRow (σ.rows n)
+value_of σ (variable.Effects n) = OfRow (effect_row (σ.effects n))
+
+abbrev pub type_meaning : Ty → Grounding → Option Value
+type_meaning t σ = option_map Plain (under σ t)
+
+abbrev pub types_meaning : List Ty → Grounding → Option (List Value)
+types_meaning ts σ = all_of (map (λ t. type_meaning t σ) ts)
+
+-- the types of the fields
+abbrev pub fields_meaning : List TyField → Grounding → Option (List Value)
+fields_meaning fs σ = all_of (map (λ f. type_meaning f.ty σ) fs)
+
+abbrev pub row_meaning : TyRow → Grounding → Option Value
+row_meaning row σ = option_map OfRow (row_under σ row)
+
+abbrev pub effects_meaning : Effects → Grounding → Option Value
+effects_meaning es σ = option_map (λ s. OfRow (effect_row s)) (effects_under σ es)
+
+-- the end of a row, which is nothing more or a variable
+abbrev pub end_value : Option Variable → Grounding → Value
+end_value None σ = OfRow no_fields
+end_value (Some x) σ = value_of σ x
+
+-- ---- nodes for variables
+
+abbrev pub node_for : Loader → Variable → Option ℕ
+node_for l x = lookup (same_variable x) l.names.entries
+
+-- what is known of a variable before anything is merged
+abbrev pub shape_for : Variable → Shape
+shape_for (variable.Plain n) = Free
+shape_for (variable.Row n) = Open
+shape_for (variable.Effects n) = Open
+
+-- the nodes of the variables have the values that stand for them
+pub record Agrees (l : Loader) (σ : Grounding) (v : ℕ → Value) : Type 0 where
+  pub at : (x : Variable) (n : ℕ) → node_for l x ≡ Some n → v n ≡ value_of σ x
+
+pub record IsLoader (l : Loader) : Type 0 where
+  pub arena : IsArena l.arena.shapes l.arena.classes
+  pub named : (x : Variable) (n : ℕ) → node_for l x ≡ Some n → n < length l.arena.shapes
+
+-- ---- kinds of nodes
+
+abbrev pub kind_of : Variable → Kind
+kind_of (variable.Plain n) = OfTypes
+kind_of (variable.Row n) = OfFields
+kind_of (variable.Effects n) = OfEffects
+
+-- the end of a row of this kind
+abbrev pub IsEndOf : Option Variable → Kind → Type 0
+IsEndOf (Some x) k = k ≡ kind_of x
+IsEndOf None OfFields = Unit {0}
+IsEndOf None OfEffects = Unit {0}
+IsEndOf None k = ⊥
+
+-- the nodes have these kinds, those of the variables the kinds of the variables
+pub record IsKinded (l : Loader) (kind : ℕ → Kind) : Type 0 where
+  pub nodes : AreKinded l.arena.shapes l.arena.classes kind
+  pub named : (x : Variable) (n : ℕ) → node_for l x ≡ Some n → kind n ≡ kind_of x
+
+-- the value of a node of this kind
+abbrev pub IsOfKind : Kind → Value → Type 0
+IsOfKind OfTypes x = (t : Ground) × (x ≡ Plain t)
+IsOfKind OfFields x = (row : Row) × (x ≡ OfRow row)
+IsOfKind OfEffects x = (s : EffectSet) × (x ≡ OfRow (effect_row s))
+IsOfKind OfUnit x = x ≡ Plain (ground.Fields [])
+IsOfKind OfNothing x = x ≡ OfRow no_fields
+
+-- the first n nodes have the same kinds
+abbrev pub SameKinds : ℕ → (ℕ → Kind) → (ℕ → Kind) → Type 0
+SameKinds n k j = (i : ℕ) → i < n → j i ≡ k i
+
+-- kinds that are as before at the old nodes, and of which P holds besides
+abbrev pub BringsKinds : Loader → Loader → (ℕ → Kind) → ((ℕ → Kind) → Type 0) → Type 0
+BringsKinds old new k P = (j : ℕ → Kind) × SameKinds (length old.arena.shapes) k j × IsKinded new j × P j
+
+pub record KindsTo (old new : Loader) (P : (ℕ → Kind) → Type 0) : Type 0 where
+  pub local : (k j : ℕ → Kind) → SameKinds (length new.arena.shapes) k j → P k → P j
+  pub kinds : (k : ℕ → Kind) → IsKinded old k → BringsKinds old new k P
+
+-- ---- loading
+
+-- values that are as before at the old nodes, agree with what stands for the variables, and are read as `x`
+abbrev pub Brings : {A : Type 0} → Loader → Loader → Grounding → (ℕ → Value) → ((ℕ → Value) → A) → A → Type 0
+Brings old new σ v read x = (w : ℕ → Value) × SameBelow (length old.arena.shapes) v w × FitsNodes new.arena.shapes new.arena.classes w × Agrees new σ w × (read w ≡ x)
+
+-- From nodes to more nodes, among them some of which is read what something becomes. Values that fit the new nodes are read as
+-- what it becomes, and where it becomes something there are values for the new nodes.
+pub record LoadsTo {A : Type 0} (old new : Loader) (meaning : Grounding → Option A) (read : (ℕ → Value) → A) : Type 0 where
+  pub whole : IsLoader new
+  pub longer : length old.arena.shapes ≤ length new.arena.shapes
+  pub kept : (x : Variable) (n : ℕ) → node_for old x ≡ Some n → node_for new x ≡ Some n
+  pub local : (v w : ℕ → Value) → SameBelow (length new.arena.shapes) v w → read w ≡ read v
+  pub back : (v : ℕ → Value) → WeakNodes new.arena.shapes new.arena.classes v → WeakNodes old.arena.shapes old.arena.classes v
+  pub is : (v : ℕ → Value) (σ : Grounding) → WeakNodes new.arena.shapes new.arena.classes v → Agrees new σ v → meaning σ ≡ Some (read v)
+  pub forth : (v : ℕ → Value) (σ : Grounding) (x : A) → FitsNodes old.arena.shapes old.arena.classes v → Agrees old σ v → meaning σ ≡ Some x → Brings old new σ v read x
+
+-- a node of this kind that stands for it
+pub record Loads (old new : Loader) (kind : Kind) (meaning : Grounding → Option Value) (node : ℕ) : Type 0 where
+  pub below : node < length new.arena.shapes
+  pub kinds : KindsTo old new (λ j. j node ≡ kind)
+  pub to : LoadsTo old new meaning (λ v. v node)
+
+-- nodes that stand for several types
+pub record LoadsAll (old new : Loader) (meaning : Grounding → Option (List Value)) (nodes : List ℕ) : Type 0 where
+  pub below : Each (λ n. n < length new.arena.shapes) nodes
+  pub kinds : KindsTo old new (λ j. Each (λ n. j n ≡ OfTypes) nodes)
+  pub to : LoadsTo old new meaning (λ v. map v nodes)
+
+-- nodes that stand for the types of fields
+pub record LoadsFields (old new : Loader) (fs : List TyField) (fields : List Field) : Type 0 where
+  pub below : Each (λ f. f.node < length new.arena.shapes) fields
+  pub kinds : KindsTo old new (λ j. Each (λ f. j f.node ≡ OfTypes) fields)
+  pub labels : map (λ f. f.label) fields ≡ map (λ f. f.label) fs
+  pub to : LoadsTo old new (fields_meaning fs) (λ v. map (λ f. v f.node) fields)
+
+-- Answers: nodes, or none where it becomes nothing whatever stands for the variables, since a row in it has a label twice.
+
+abbrev pub NeverMeans : {A : Type 0} → (Grounding → Option A) → Type 0
+NeverMeans meaning = (σ : Grounding) → meaning σ ≡ None
+
+abbrev pub Loaded : Loader → Loader → Kind → (Grounding → Option Value) → Option ℕ → Type 0
+Loaded old new kind meaning None = NeverMeans meaning
+Loaded old new kind meaning (Some n) = Loads old new kind meaning n
+
+-- a node for the end of a row, which may be an end of each kind where it isn't a variable
+abbrev pub LoadsEnd : Loader → Loader → Option Variable → ℕ → Type 0
+LoadsEnd old new tail n = (k : Kind) → IsEndOf tail k → Loads old new k (λ σ. Some (end_value tail σ)) n
+
+abbrev pub LoadedAll : Loader → Loader → (Grounding → Option (List Value)) → Option (List ℕ) → Type 0
+LoadedAll old new meaning None = NeverMeans meaning
+LoadedAll old new meaning (Some ns) = LoadsAll old new meaning ns
+
+abbrev pub LoadedFields : Loader → Loader → List TyField → Option (List Field) → Type 0
+LoadedFields old new fs None = NeverMeans (fields_meaning fs)
+LoadedFields old new fs (Some fields) = LoadsFields old new fs fields
+
+-- ---- one node more
+
+pub record Adds (old new : Loader) (s : Shape) (n : ℕ) : Type 0 where
+  pub number : n ≡ length old.arena.shapes
+  pub shapes : new.arena.shapes ≡ old.arena.shapes ++ s ∷ []
+  pub classes : new.arena.classes ≡ old.arena.classes ++ length old.arena.classes ∷ []
+  pub names : new.names ≡ old.names
+
+-- fields before a row, if no label stands twice among them
+abbrev pub AddsRow : Loader → Loader → List Field → ℕ → Option ℕ → Type 0
+AddsRow old new fields tail None = IsDistinct fields → ⊥
+AddsRow old new fields tail (Some n) = IsDistinct fields × Adds old new (shape.Row fields tail) n
+
+-- a function with these nodes for its result and its parameters, if no effect stands twice
+abbrev pub AddsFunction : Loader → Loader → Effects → ℕ → List ℕ → Option ℕ → Type 0
+AddsFunction old new es answer params None = NeverMeans (effects_meaning es)
+AddsFunction old new es answer params (Some n) = (between : Loader) × (effects : ℕ) × Loads old between OfEffects (effects_meaning es) effects × Adds between new (Made head.Fun (effects ∷ (answer ∷ params))) n
+
+-- the effects as fields
+abbrev pub effect_fields : ℕ → List Effect → List Field
+effect_fields unit es = map (λ e. record { label = effect_word e; node = unit }) es
+
+-- ---- equations
+
+-- values as before at the old nodes, which agree with what stands for the variables, and are the same at both nodes
+abbrev pub BringsSame : Loader → Loader → Grounding → (ℕ → Value) → Pair → Type 0
+BringsSame old new σ v p = (w : ℕ → Value) × SameBelow (length old.arena.shapes) v w × FitsNodes new.arena.shapes new.arena.classes w × Agrees new σ w × (w p.left ≡ w p.right)
+
+-- Nodes that stand for the two sides. What is put for the variables meets the equation where the nodes have one value, and where
+-- it meets it there are values for the new nodes.
+pub record LoadsEquation (old new : Loader) (e : Equation) (p : Pair) : Type 0 where
+  pub whole : IsLoader new
+  pub longer : length old.arena.shapes ≤ length new.arena.shapes
+  pub kept : (x : Variable) (n : ℕ) → node_for old x ≡ Some n → node_for new x ≡ Some n
+  pub left_below : p.left < length new.arena.shapes
+  pub right_below : p.right < length new.arena.shapes
+  pub kinds : KindsTo old new (λ j. (j p.left ≡ OfTypes) × (j p.right ≡ OfTypes))
+  pub back : (v : ℕ → Value) → WeakNodes new.arena.shapes new.arena.classes v → WeakNodes old.arena.shapes old.arena.classes v
+  pub sides : (v : ℕ → Value) (σ : Grounding) → WeakNodes new.arena.shapes new.arena.classes v → Agrees new σ v → (type_meaning e.left σ ≡ Some (v p.left)) × (type_meaning e.right σ ≡ Some (v p.right))
+  pub is : (v : ℕ → Value) (σ : Grounding) → WeakNodes new.arena.shapes new.arena.classes v → Agrees new σ v → v p.left ≡ v p.right → IsMet σ e
+  pub forth : (v : ℕ → Value) (σ : Grounding) → FitsNodes old.arena.shapes old.arena.classes v → Agrees old σ v → IsMet σ e → BringsSame old new σ v p
+
+abbrev pub LoadedEquation : Loader → Loader → Equation → Option Pair → Type 0
+LoadedEquation old new e None = (σ : Grounding) → IsMet σ e → ⊥
+LoadedEquation old new e (Some p) = LoadsEquation old new e p

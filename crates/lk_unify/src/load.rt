@@ -1,0 +1,322 @@
+//! Types as nodes.
+
+ghost use Rattle.std.specs.Prelude.{◌≡◌, ◌∷◌, [], IfOk, IsTrue, false, Some};
+ghost use Rattle.lk_types.specs.TypeText.{effect_word};
+ghost use Rattle.lk_unify.specs.Kinds.{OfTypes, OfFields, OfEffects};
+ghost use Rattle.lk_unify.specs.Shapes.{IsDistinct};
+ghost use Rattle.lk_unify.specs.Loading.{type_meaning, types_meaning, row_meaning, effects_meaning, end_value, shape_for, kind_of, IsLoader, Adds, AddsRow, AddsFunction, Loads, LoadsEnd, Loaded, LoadedAll, LoadedFields, LoadedEquation, effect_fields};
+
+use crate::labels::node_of;
+use crate::loader::Loader;
+use crate::node::{Field, Head, Pair, Shape};
+use lk_ast::{List, NoMemory, Text};
+use lk_types::{Effect, Effects, Equation, Ty, TyField, TyRow, Variable};
+use std::alloc::Global;
+
+/// What is known of a variable before anything is merged.
+fn shape_for(variable: Variable) -> Shape
+    ensures { result ≡ shape_for variable }
+{
+    match variable {
+        Variable::Plain(_) => Shape::Free,
+        Variable::Row(_) => Shape::Open,
+        Variable::Effects(_) => Shape::Open,
+    }
+}
+
+/// Whether no label stands twice.
+fn are_distinct(fields: &[Field]) -> bool
+    ensures distinct { IsTrue result → IsDistinct fields.now }
+    ensures twice { (result ≡ false) → IsDistinct fields.now → ⊥ }
+{
+    for i in 0..fields.len() {
+        if node_of(&fields[i + 1..], &fields[i].label).is_some() {
+            return false;
+        }
+    }
+    true
+}
+
+/// Adds a node.
+fn add_node(loader: &mut Loader, shape: Shape) -> Result<usize, NoMemory>
+    ensures { IfOk result (λ n. Adds loader.old loader.new shape n) }
+{
+    Ok(loader.arena.push(shape)?)
+}
+
+/// Adds fields before a row, if no label stands twice among them.
+fn add_row(loader: &mut Loader, fields: List<Field>, tail: usize) -> Result<Option<usize>, NoMemory>
+    ensures { IfOk result (λ answer. AddsRow loader.old loader.new fields tail answer) }
+{
+    if are_distinct(fields.as_slice()) {
+        return Ok(Some(add_node(loader, Shape::Row(fields, tail))?));
+    }
+    Ok(None)
+}
+
+/// The node of a variable.
+fn load_variable(loader: &mut Loader, variable: Variable) -> Result<usize, NoMemory>
+    requires { IsLoader loader.old }
+    ensures { IfOk result (λ n. Loads loader.old loader.new (kind_of variable) (λ σ. Some (end_value (Some variable) σ)) n) }
+{
+    match loader.node_for(variable) {
+        Some(node) => Ok(node),
+        None => {
+            let node = add_node(loader, shape_for(variable))?;
+            drop(loader.names.insert(variable, node)?);
+            Ok(node)
+        }
+    }
+}
+
+/// A node for the end of a row.
+fn load_end(loader: &mut Loader, tail: Option<Variable>) -> Result<usize, NoMemory>
+    requires { IsLoader loader.old }
+    ensures { IfOk result (λ n. LoadsEnd loader.old loader.new tail n) }
+{
+    match tail {
+        None => Ok(add_node(loader, Shape::Empty)?),
+        Some(variable) => Ok(load_variable(loader, variable)?),
+    }
+}
+
+/// The name of an effect as a label.
+fn label_of(alloc: Global, effect: Effect) -> Result<Text, NoMemory>
+    ensures { IfOk result (λ label. label ≡ effect_word effect) }
+{
+    match effect {
+        Effect::Local => Text::from_str(alloc, "local"),
+        Effect::Move => Text::from_str(alloc, "move"),
+        Effect::Print => Text::from_str(alloc, "print"),
+        Effect::Rec => Text::from_str(alloc, "rec"),
+        Effect::Scan => Text::from_str(alloc, "scan"),
+        Effect::Trap => Text::from_str(alloc, "trap"),
+        Effect::Write => Text::from_str(alloc, "write"),
+    }
+}
+
+/// The effects as fields.
+fn effect_fields(alloc: Global, effects: &[Effect], unit: usize) -> Result<List<Field>, NoMemory>
+    ensures { IfOk result (λ fields. fields ≡ effect_fields unit effects.now) }
+{
+    let mut fields = List::new(alloc);
+    for effect in effects {
+        fields.push(Field {
+            label: label_of(alloc, *effect)?,
+            node: unit,
+        })?;
+    }
+    Ok(fields)
+}
+
+/// One part.
+fn one(alloc: Global, node: usize) -> Result<List<usize>, NoMemory>
+    ensures { IfOk result (λ parts. parts ≡ node ∷ []) }
+{
+    let mut parts = List::new(alloc);
+    parts.push(node)?;
+    Ok(parts)
+}
+
+/// The parts of a function.
+fn function_parts(
+    alloc: Global,
+    effects: usize,
+    answer: usize,
+    params: &[usize],
+) -> Result<List<usize>, NoMemory>
+    ensures { IfOk result (λ parts. parts ≡ effects ∷ (answer ∷ params.now)) }
+{
+    let mut parts = List::new(alloc);
+    parts.push(effects)?;
+    parts.push(answer)?;
+    for node in params {
+        parts.push(*node)?;
+    }
+    Ok(parts)
+}
+
+/// A node for what a function may do.
+fn load_effects(
+    alloc: Global,
+    loader: &mut Loader,
+    effects: &Effects,
+) -> Result<Option<usize>, NoMemory>
+    requires { IsLoader loader.old }
+    ensures { IfOk result (λ answer. Loaded loader.old loader.new OfEffects (effects_meaning effects.now) answer) }
+{
+    let tail = load_end(loader, effects.tail.of_effects())?;
+    if effects.labels.is_empty() {
+        return Ok(Some(tail));
+    }
+    let nothing = add_node(loader, Shape::Empty)?;
+    let unit = add_node(loader, Shape::Made(Head::Fields, one(alloc, nothing)?))?;
+    let fields = effect_fields(alloc, effects.labels.as_slice(), unit)?;
+    Ok(add_row(loader, fields, tail)?)
+}
+
+/// A node for a constructor without parts.
+fn load_base(alloc: Global, loader: &mut Loader, head: Head) -> Result<usize, NoMemory>
+    ensures { IfOk result (λ n. Adds loader.old loader.new (Shape.Made head []) n) }
+{
+    Ok(add_node(loader, Shape::Made(head, List::new(alloc)))?)
+}
+
+/// A node for a constructor with one part.
+fn load_one(alloc: Global, loader: &mut Loader, head: Head, part: usize) -> Result<usize, NoMemory>
+    ensures { IfOk result (λ n. Adds loader.old loader.new (Shape.Made head (part ∷ [])) n) }
+{
+    Ok(add_node(loader, Shape::Made(head, one(alloc, part)?))?)
+}
+
+/// A node for a function with this result and these parameters.
+fn load_function(
+    alloc: Global,
+    loader: &mut Loader,
+    effects: &Effects,
+    answer: usize,
+    params: &[usize],
+) -> Result<Option<usize>, NoMemory>
+    requires { IsLoader loader.old }
+    ensures { IfOk result (λ found. AddsFunction loader.old loader.new effects.now answer params.now found) }
+{
+    let Some(first) = load_effects(alloc, loader, effects)? else {
+        return Ok(None);
+    };
+    let parts = function_parts(alloc, first, answer, params)?;
+    Ok(Some(add_node(loader, Shape::Made(Head::Fun, parts))?))
+}
+
+/// Makes nodes for a type. The answer is its node, or none where a row in it has a label twice.
+#[cycle(loading)]
+pub fn load_type(alloc: Global, loader: &mut Loader, ty: &Ty) -> Result<Option<usize>, NoMemory>
+    requires { IsLoader loader.old }
+    ensures { IfOk result (λ answer. Loaded loader.old loader.new OfTypes (type_meaning ty.now) answer) }
+{
+    match ty {
+        Ty::Int => Ok(Some(load_base(alloc, loader, Head::Int)?)),
+        Ty::Bool => Ok(Some(load_base(alloc, loader, Head::Bool)?)),
+        Ty::Text => Ok(Some(load_base(alloc, loader, Head::Text)?)),
+        Ty::List(item) => Ok(load_list(alloc, loader, item.get())?),
+        Ty::Fields(row) => Ok(load_record(alloc, loader, row)?),
+        Ty::Tags(row) => Ok(load_variant(alloc, loader, row)?),
+        Ty::Fun(params, effects, answer) => {
+            let Some(second) = load_type(alloc, loader, answer.get())? else {
+                return Ok(None);
+            };
+            let Some(others) = load_types(alloc, loader, params.as_slice())? else {
+                return Ok(None);
+            };
+            Ok(load_function(alloc, loader, effects, second, others.as_slice())?)
+        }
+        Ty::Var(number) => Ok(Some(load_variable(loader, Variable::Plain(*number))?)),
+    }
+}
+
+#[cycle(loading)]
+fn load_list(alloc: Global, loader: &mut Loader, item: &Ty) -> Result<Option<usize>, NoMemory>
+    requires { IsLoader loader.old }
+    ensures { IfOk result (λ answer. Loaded loader.old loader.new OfTypes (type_meaning (Ty.List item.now)) answer) }
+{
+    let Some(part) = load_type(alloc, loader, item)? else {
+        return Ok(None);
+    };
+    Ok(Some(load_one(alloc, loader, Head::List, part)?))
+}
+
+#[cycle(loading)]
+fn load_record(alloc: Global, loader: &mut Loader, row: &TyRow) -> Result<Option<usize>, NoMemory>
+    requires { IsLoader loader.old }
+    ensures { IfOk result (λ answer. Loaded loader.old loader.new OfTypes (type_meaning (Ty.Fields row.now)) answer) }
+{
+    let Some(part) = load_row(alloc, loader, row)? else {
+        return Ok(None);
+    };
+    Ok(Some(load_one(alloc, loader, Head::Fields, part)?))
+}
+
+#[cycle(loading)]
+fn load_variant(alloc: Global, loader: &mut Loader, row: &TyRow) -> Result<Option<usize>, NoMemory>
+    requires { IsLoader loader.old }
+    ensures { IfOk result (λ answer. Loaded loader.old loader.new OfTypes (type_meaning (Ty.Tags row.now)) answer) }
+{
+    let Some(part) = load_row(alloc, loader, row)? else {
+        return Ok(None);
+    };
+    Ok(Some(load_one(alloc, loader, Head::Tags, part)?))
+}
+
+#[cycle(loading)]
+fn load_types(
+    alloc: Global,
+    loader: &mut Loader,
+    types: &[Ty],
+) -> Result<Option<List<usize>>, NoMemory>
+    requires { IsLoader loader.old }
+    ensures { IfOk result (λ answer. LoadedAll loader.old loader.new (types_meaning types.now) answer) }
+{
+    let mut nodes = List::new(alloc);
+    for ty in types {
+        let Some(node) = load_type(alloc, loader, ty)? else {
+            return Ok(None);
+        };
+        nodes.push(node)?;
+    }
+    Ok(Some(nodes))
+}
+
+/// Makes nodes for a row.
+#[cycle(loading)]
+fn load_row(alloc: Global, loader: &mut Loader, row: &TyRow) -> Result<Option<usize>, NoMemory>
+    requires { IsLoader loader.old }
+    ensures { IfOk result (λ answer. Loaded loader.old loader.new OfFields (row_meaning row.now) answer) }
+{
+    let Some(fields) = load_fields(alloc, loader, row.fields.as_slice())? else {
+        return Ok(None);
+    };
+    let tail = load_end(loader, row.tail.of_row())?;
+    if fields.is_empty() {
+        return Ok(Some(tail));
+    }
+    Ok(add_row(loader, fields, tail)?)
+}
+
+#[cycle(loading)]
+fn load_fields(
+    alloc: Global,
+    loader: &mut Loader,
+    fields: &[TyField],
+) -> Result<Option<List<Field>>, NoMemory>
+    requires { IsLoader loader.old }
+    ensures { IfOk result (λ answer. LoadedFields loader.old loader.new fields.now answer) }
+{
+    let mut found = List::new(alloc);
+    for field in fields {
+        let Some(node) = load_type(alloc, loader, &field.ty)? else {
+            return Ok(None);
+        };
+        found.push(Field {
+            label: field.label.copy(alloc)?,
+            node,
+        })?;
+    }
+    Ok(Some(found))
+}
+
+/// Makes nodes for the sides of an equation. The answer is the two nodes, or none where a row in a side has a label twice.
+pub fn load_equation(
+    alloc: Global,
+    loader: &mut Loader,
+    equation: &Equation,
+) -> Result<Option<Pair>, NoMemory>
+    requires { IsLoader loader.old }
+    ensures { IfOk result (λ answer. LoadedEquation loader.old loader.new equation.now answer) }
+{
+    let Some(left) = load_type(alloc, loader, &equation.left)? else {
+        return Ok(None);
+    };
+    let Some(right) = load_type(alloc, loader, &equation.right)? else {
+        return Ok(None);
+    };
+    Ok(Some(Pair { left, right }))
+}
