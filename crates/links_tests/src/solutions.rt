@@ -1,9 +1,10 @@
-//! The program that looks for solutions by trying, on equations whose answers are worked by hand: the first equation
-//! that has no solution with those before it, if there is one.
+//! The program that looks for solutions by trying, and unification, on equations whose answers are worked by hand: the
+//! first equation that has no solution with those before it, if there is one. Both on some hundreds of small systems.
 
 use crate::small_groundings::{Grounding, SMALL, first_without, under};
 use crate::type_reader::{read_equations, read_type};
 use lk_types::Variable;
+use lk_unify::first_unsolvable;
 use std::alloc::Global;
 use std::process::Abort;
 use std::test::Fail;
@@ -79,8 +80,10 @@ const FUNCTIONS: Rows = &[
 fn check(rt: &impl Abort, alloc: Global, rows: Rows) -> Result<(), Fail> {
     for (texts, want) in rows {
         let equations = read_equations(alloc, texts)?;
-        let found = first_without(alloc, equations.as_slice(), &SMALL)?;
-        assert_eq!(rt; found, *want, "{texts:?}");
+        let tried = first_without(alloc, equations.as_slice(), &SMALL)?;
+        assert_eq!(rt; tried, *want, "{texts:?}");
+        let unified = first_unsolvable(alloc, equations.as_slice())?;
+        assert_eq!(rt; unified, *want, "{texts:?}");
     }
     Ok(())
 }
@@ -134,6 +137,44 @@ fn the_universe_is_written_as_types_are(rt: HostRuntime) -> Result<(), Fail> {
         };
         let text = under(alloc, grounding, &record)?;
         check_ground(&rt, alloc, text.as_str())?;
+    }
+    Ok(())
+}
+
+/// Sides of equations.
+const SIDES: &[&str] = &[
+    "t1",
+    "Int",
+    "[t1]",
+    "[Int]",
+    "(a:Int)",
+    "(a:t1)",
+    "(|t1)",
+    "(a:Int|t1)",
+    "(b:Int|t2)",
+    "(a:t1|t2)",
+    "(a:Int,b:Int)",
+    "[|A:Int|t1|]",
+    "() {print|t1}-> ()",
+    "() {|t1}-> ()",
+];
+
+// Unification finds no fault where some small types solve the equations.
+#[test]
+fn unification_agrees_with_trying(rt: HostRuntime) -> Result<(), Fail> {
+    let alloc = rt.alloc();
+    let count = SIDES.len();
+    for number in 0..count * count * 3 {
+        let left = SIDES[number % count];
+        let middle = SIDES[number / count % count];
+        let right = SIDES[(number * 5 + number / count * 3) % count];
+        let first = format!(in alloc; "{left} = {middle}")?;
+        let second = format!(in alloc; "{middle} = {right}")?;
+        let texts = [first.as_str(), second.as_str()];
+        let equations = read_equations(alloc, &texts)?;
+        let tried = first_without(alloc, equations.as_slice(), &SMALL)?;
+        let unified = first_unsolvable(alloc, equations.as_slice())?;
+        assert!(rt; tried.unwrap_or(2) <= unified.unwrap_or(2), "{texts:?}");
     }
     Ok(())
 }
