@@ -1,9 +1,6 @@
 pub mod Adding
 pub mod Binding
-pub mod ChainFlats
 pub mod Chains
-pub mod Choices
-pub mod Determined
 pub mod Distinct
 pub mod EachLemmas
 pub mod EffectRows
@@ -26,11 +23,10 @@ pub mod LoadVariables
 pub mod Loose
 pub mod Mades
 pub mod Merged
-pub mod NamedEffects
+pub mod Models
 pub mod Ordered
 pub mod Pairs
 pub mod Ranks
-pub mod Readings
 pub mod Relabel
 pub mod RowAlgebra
 pub mod RowsBefore
@@ -39,9 +35,6 @@ pub mod Solved
 pub mod Solving
 pub mod Steps
 pub mod Tails
-pub mod TermSizes
-pub mod Terms
-pub mod TermsSame
 pub mod Uniting
 pub mod Unmet
 pub mod Weak

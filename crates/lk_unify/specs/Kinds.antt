@@ -4,10 +4,8 @@ use Rattle.lk_types.specs.Each.{Each}
 use Rattle.lk_types.specs.Rows.{Label}
 use Rattle.lk_types.specs.TypeText.{effect_word}
 use Rattle.lk_types.specs.declared.ty.Effect.{Effect}
-use Rattle.lk_unify.specs.Order.{IsRanked}
 use Rattle.lk_classes.specs.Classes.{class_at}
-use Rattle.lk_unify.specs.Shapes.{shape_at, IsArena, IsClean, WeakNodes}
-use Rattle.lk_unify.specs.Values.{Value}
+use Rattle.lk_unify.specs.Shapes.{shape_at}
 use Rattle.lk_unify.specs.declared.node.Field.{Field}
 use Rattle.lk_unify.specs.declared.node.Head.{Head}
 use Rattle.lk_unify.specs.declared.node.Head.TheVariants as head
@@ -74,10 +72,3 @@ HasKinds old shapes classes pairs kind = (more : ℕ → Kind) × ((i : ℕ) →
 abbrev pub IsFlatKinded : List Shape → List ℕ → ℕ → List Field → ℕ → Type 0
 IsFlatKinded shapes classes row fields tail =
     (kind : ℕ → Kind) → AreKinded shapes classes kind → AreFieldsOf kind (kind row) fields × (kind tail ≡ kind row)
-
--- where the kinds fit, the classes have ranks and no row has a label twice there are values that fit
-abbrev pub ModelExists : Type 0
-ModelExists =
-    (shapes : List Shape) (classes : List ℕ) (kind : ℕ → Kind) (rank : ℕ → ℕ) →
-    IsArena shapes classes → AreKinded shapes classes kind → IsRanked shapes classes rank → IsClean shapes classes →
-    (v : ℕ → Value) × WeakNodes shapes classes v

@@ -1,11 +1,11 @@
-pub mod Choices
+pub mod Counting
 pub mod Kinds
 pub mod Loading
 pub mod Measures
+pub mod Models
+pub mod Openings
 pub mod Order
-pub mod Readings
 pub mod Shapes
 pub mod Solving
 pub mod Steps
-pub mod Terms
 pub mod Values

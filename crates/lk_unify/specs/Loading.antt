@@ -1,25 +1,23 @@
 -- Types as nodes: a node for each variable, the same one wherever it stands again, one for each constructor, for each row with
--- fields and for each end of a row without a variable. What nodes and values have to do with what types become (`Grounding`).
+-- fields and for each end of a row without a variable. What nodes and values have to do with what types become (`Opening`).
 use Rattle.std.specs.Map.{lookup}
 use Rattle.std.specs.Option.{option_map}
 use Rattle.std.specs.Prelude.{◌≡◌, ℕ, ◌<◌, ◌≤◌, List, ◌∷◌, [], ◌++◌, length, map, Option, Some, None}
 use Rattle.lk_types.specs.Each.{Each}
-use Rattle.lk_types.specs.Grounding.{Grounding, under, row_under, effects_under, all_of}
-use Rattle.lk_types.specs.Rows.{Row, EffectSet, no_fields}
-use Rattle.lk_types.specs.Solutions.{IsMet}
+use Rattle.lk_types.specs.Opening.{all_of}
 use Rattle.lk_types.specs.TypeText.{effect_word}
 use Rattle.lk_types.specs.Variables.{same_variable}
 use Rattle.lk_types.specs.declared.equation.Equation.{Equation}
-use Rattle.lk_types.specs.declared.ground.Ground.{Ground}
-use Rattle.lk_types.specs.declared.ground.Ground.TheVariants as ground
 use Rattle.lk_types.specs.declared.ty.Effect.{Effect}
 use Rattle.lk_types.specs.declared.ty.Effects.{Effects}
+use Rattle.lk_types.specs.declared.ty.RowTail.TheVariants.{Closed}
 use Rattle.lk_types.specs.declared.ty.Ty.{Ty}
 use Rattle.lk_types.specs.declared.ty.TyField.{TyField}
 use Rattle.lk_types.specs.declared.ty.TyRow.{TyRow}
 use Rattle.lk_types.specs.declared.ty.Variable.{Variable}
 use Rattle.lk_types.specs.declared.ty.Variable.TheVariants as variable
 use Rattle.lk_unify.specs.Kinds.{Kind, OfTypes, OfFields, OfEffects, OfUnit, OfNothing, AreKinded}
+use Rattle.lk_unify.specs.Openings.{OpenRow, OpenEffects, Opening, IsOpenMet, opened, row_opened, effects_opened, only_tail, unit_type}
 use Rattle.lk_unify.specs.Shapes.{IsArena, IsDistinct, SameBelow, FitsNodes, WeakNodes}
 use Rattle.lk_unify.specs.Values.{Value, Plain, OfRow, effect_row}
 use Rattle.lk_unify.specs.declared.loader.Loader.{Loader}
@@ -32,31 +30,31 @@ use Rattle.lk_unify.specs.declared.node.Shape.TheVariants as shape
 
 -- ---- what variables, types and rows become, as values
 
-abbrev pub value_of : Grounding → Variable → Value
-value_of σ (variable.Plain n) = Plain (σ.plain n)
-value_of σ (variable.Row n) = OfRow (σ.rows n)
-value_of σ (variable.Effects n) = OfRow (effect_row (σ.effects n))
+abbrev pub value_of : Opening → Variable → Value
+value_of ρ (variable.Plain n) = Plain (ρ.plain n)
+value_of ρ (variable.Row n) = OfRow (ρ.rows n)
+value_of ρ (variable.Effects n) = OfRow (effect_row (ρ.effects n))
 
-abbrev pub type_meaning : Ty → Grounding → Option Value
-type_meaning t σ = option_map Plain (under σ t)
+abbrev pub type_meaning : Ty → Opening → Option Value
+type_meaning t ρ = option_map Plain (opened ρ t)
 
-abbrev pub types_meaning : List Ty → Grounding → Option (List Value)
-types_meaning ts σ = all_of (map (λ t. type_meaning t σ) ts)
+abbrev pub types_meaning : List Ty → Opening → Option (List Value)
+types_meaning ts ρ = all_of (map (λ t. type_meaning t ρ) ts)
 
 -- the types of the fields
-abbrev pub fields_meaning : List TyField → Grounding → Option (List Value)
-fields_meaning fs σ = all_of (map (λ f. type_meaning f.ty σ) fs)
+abbrev pub fields_meaning : List TyField → Opening → Option (List Value)
+fields_meaning fs ρ = all_of (map (λ f. type_meaning f.ty ρ) fs)
 
-abbrev pub row_meaning : TyRow → Grounding → Option Value
-row_meaning row σ = option_map OfRow (row_under σ row)
+abbrev pub row_meaning : TyRow → Opening → Option Value
+row_meaning row ρ = option_map OfRow (row_opened ρ row)
 
-abbrev pub effects_meaning : Effects → Grounding → Option Value
-effects_meaning es σ = option_map (λ s. OfRow (effect_row s)) (effects_under σ es)
+abbrev pub effects_meaning : Effects → Opening → Option Value
+effects_meaning es ρ = option_map (λ s. OfRow (effect_row s)) (effects_opened ρ es)
 
 -- the end of a row, which is nothing more or a variable
-abbrev pub end_value : Option Variable → Grounding → Value
-end_value None σ = OfRow no_fields
-end_value (Some x) σ = value_of σ x
+abbrev pub end_value : Option Variable → Opening → Value
+end_value None ρ = OfRow (only_tail Closed)
+end_value (Some x) ρ = value_of ρ x
 
 -- ---- nodes for variables
 
@@ -70,8 +68,8 @@ shape_for (variable.Row n) = Open
 shape_for (variable.Effects n) = Open
 
 -- the nodes of the variables have the values that stand for them
-pub record Agrees (l : Loader) (σ : Grounding) (v : ℕ → Value) : Type 0 where
-  pub at : (x : Variable) (n : ℕ) → node_for l x ≡ Some n → v n ≡ value_of σ x
+pub record Agrees (l : Loader) (ρ : Opening) (v : ℕ → Value) : Type 0 where
+  pub at : (x : Variable) (n : ℕ) → node_for l x ≡ Some n → v n ≡ value_of ρ x
 
 pub record IsLoader (l : Loader) : Type 0 where
   pub arena : IsArena l.arena.shapes l.arena.classes
@@ -98,11 +96,11 @@ pub record IsKinded (l : Loader) (kind : ℕ → Kind) : Type 0 where
 
 -- the value of a node of this kind
 abbrev pub IsOfKind : Kind → Value → Type 0
-IsOfKind OfTypes x = (t : Ground) × (x ≡ Plain t)
-IsOfKind OfFields x = (row : Row) × (x ≡ OfRow row)
-IsOfKind OfEffects x = (s : EffectSet) × (x ≡ OfRow (effect_row s))
-IsOfKind OfUnit x = x ≡ Plain (ground.Fields [])
-IsOfKind OfNothing x = x ≡ OfRow no_fields
+IsOfKind OfTypes x = (t : Ty) × (x ≡ Plain t)
+IsOfKind OfFields x = (row : OpenRow) × (x ≡ OfRow row)
+IsOfKind OfEffects x = (s : OpenEffects) × (x ≡ OfRow (effect_row s))
+IsOfKind OfUnit x = x ≡ Plain unit_type
+IsOfKind OfNothing x = x ≡ OfRow (only_tail Closed)
 
 -- the first n nodes have the same kinds
 abbrev pub SameKinds : ℕ → (ℕ → Kind) → (ℕ → Kind) → Type 0
@@ -119,28 +117,28 @@ pub record KindsTo (old new : Loader) (P : (ℕ → Kind) → Type 0) : Type 0 w
 -- ---- loading
 
 -- values that are as before at the old nodes, agree with what stands for the variables, and are read as `x`
-abbrev pub Brings : {A : Type 0} → Loader → Loader → Grounding → (ℕ → Value) → ((ℕ → Value) → A) → A → Type 0
-Brings old new σ v read x = (w : ℕ → Value) × SameBelow (length old.arena.shapes) v w × FitsNodes new.arena.shapes new.arena.classes w × Agrees new σ w × (read w ≡ x)
+abbrev pub Brings : {A : Type 0} → Loader → Loader → Opening → (ℕ → Value) → ((ℕ → Value) → A) → A → Type 0
+Brings old new ρ v read x = (w : ℕ → Value) × SameBelow (length old.arena.shapes) v w × FitsNodes new.arena.shapes new.arena.classes w × Agrees new ρ w × (read w ≡ x)
 
 -- From nodes to more nodes, among them some of which is read what something becomes. Values that fit the new nodes are read as
 -- what it becomes, and where it becomes something there are values for the new nodes.
-pub record LoadsTo {A : Type 0} (old new : Loader) (meaning : Grounding → Option A) (read : (ℕ → Value) → A) : Type 0 where
+pub record LoadsTo {A : Type 0} (old new : Loader) (meaning : Opening → Option A) (read : (ℕ → Value) → A) : Type 0 where
   pub whole : IsLoader new
   pub longer : length old.arena.shapes ≤ length new.arena.shapes
   pub kept : (x : Variable) (n : ℕ) → node_for old x ≡ Some n → node_for new x ≡ Some n
   pub local : (v w : ℕ → Value) → SameBelow (length new.arena.shapes) v w → read w ≡ read v
   pub back : (v : ℕ → Value) → WeakNodes new.arena.shapes new.arena.classes v → WeakNodes old.arena.shapes old.arena.classes v
-  pub is : (v : ℕ → Value) (σ : Grounding) → WeakNodes new.arena.shapes new.arena.classes v → Agrees new σ v → meaning σ ≡ Some (read v)
-  pub forth : (v : ℕ → Value) (σ : Grounding) (x : A) → FitsNodes old.arena.shapes old.arena.classes v → Agrees old σ v → meaning σ ≡ Some x → Brings old new σ v read x
+  pub is : (v : ℕ → Value) (ρ : Opening) → WeakNodes new.arena.shapes new.arena.classes v → Agrees new ρ v → meaning ρ ≡ Some (read v)
+  pub forth : (v : ℕ → Value) (ρ : Opening) (x : A) → FitsNodes old.arena.shapes old.arena.classes v → Agrees old ρ v → meaning ρ ≡ Some x → Brings old new ρ v read x
 
 -- a node of this kind that stands for it
-pub record Loads (old new : Loader) (kind : Kind) (meaning : Grounding → Option Value) (node : ℕ) : Type 0 where
+pub record Loads (old new : Loader) (kind : Kind) (meaning : Opening → Option Value) (node : ℕ) : Type 0 where
   pub below : node < length new.arena.shapes
   pub kinds : KindsTo old new (λ j. j node ≡ kind)
   pub to : LoadsTo old new meaning (λ v. v node)
 
 -- nodes that stand for several types
-pub record LoadsAll (old new : Loader) (meaning : Grounding → Option (List Value)) (nodes : List ℕ) : Type 0 where
+pub record LoadsAll (old new : Loader) (meaning : Opening → Option (List Value)) (nodes : List ℕ) : Type 0 where
   pub below : Each (λ n. n < length new.arena.shapes) nodes
   pub kinds : KindsTo old new (λ j. Each (λ n. j n ≡ OfTypes) nodes)
   pub to : LoadsTo old new meaning (λ v. map v nodes)
@@ -154,18 +152,18 @@ pub record LoadsFields (old new : Loader) (fs : List TyField) (fields : List Fie
 
 -- Answers: nodes, or none where it becomes nothing whatever stands for the variables, since a row in it has a label twice.
 
-abbrev pub NeverMeans : {A : Type 0} → (Grounding → Option A) → Type 0
-NeverMeans meaning = (σ : Grounding) → meaning σ ≡ None
+abbrev pub NeverMeans : {A : Type 0} → (Opening → Option A) → Type 0
+NeverMeans meaning = (ρ : Opening) → meaning ρ ≡ None
 
-abbrev pub Loaded : Loader → Loader → Kind → (Grounding → Option Value) → Option ℕ → Type 0
+abbrev pub Loaded : Loader → Loader → Kind → (Opening → Option Value) → Option ℕ → Type 0
 Loaded old new kind meaning None = NeverMeans meaning
 Loaded old new kind meaning (Some n) = Loads old new kind meaning n
 
 -- a node for the end of a row, which may be an end of each kind where it isn't a variable
 abbrev pub LoadsEnd : Loader → Loader → Option Variable → ℕ → Type 0
-LoadsEnd old new tail n = (k : Kind) → IsEndOf tail k → Loads old new k (λ σ. Some (end_value tail σ)) n
+LoadsEnd old new tail n = (k : Kind) → IsEndOf tail k → Loads old new k (λ ρ. Some (end_value tail ρ)) n
 
-abbrev pub LoadedAll : Loader → Loader → (Grounding → Option (List Value)) → Option (List ℕ) → Type 0
+abbrev pub LoadedAll : Loader → Loader → (Opening → Option (List Value)) → Option (List ℕ) → Type 0
 LoadedAll old new meaning None = NeverMeans meaning
 LoadedAll old new meaning (Some ns) = LoadsAll old new meaning ns
 
@@ -198,8 +196,8 @@ effect_fields unit es = map (λ e. record { label = effect_word e; node = unit }
 -- ---- equations
 
 -- values as before at the old nodes, which agree with what stands for the variables, and are the same at both nodes
-abbrev pub BringsSame : Loader → Loader → Grounding → (ℕ → Value) → Pair → Type 0
-BringsSame old new σ v p = (w : ℕ → Value) × SameBelow (length old.arena.shapes) v w × FitsNodes new.arena.shapes new.arena.classes w × Agrees new σ w × (w p.left ≡ w p.right)
+abbrev pub BringsSame : Loader → Loader → Opening → (ℕ → Value) → Pair → Type 0
+BringsSame old new ρ v p = (w : ℕ → Value) × SameBelow (length old.arena.shapes) v w × FitsNodes new.arena.shapes new.arena.classes w × Agrees new ρ w × (w p.left ≡ w p.right)
 
 -- Nodes that stand for the two sides. What is put for the variables meets the equation where the nodes have one value, and where
 -- it meets it there are values for the new nodes.
@@ -211,10 +209,10 @@ pub record LoadsEquation (old new : Loader) (e : Equation) (p : Pair) : Type 0 w
   pub right_below : p.right < length new.arena.shapes
   pub kinds : KindsTo old new (λ j. (j p.left ≡ OfTypes) × (j p.right ≡ OfTypes))
   pub back : (v : ℕ → Value) → WeakNodes new.arena.shapes new.arena.classes v → WeakNodes old.arena.shapes old.arena.classes v
-  pub sides : (v : ℕ → Value) (σ : Grounding) → WeakNodes new.arena.shapes new.arena.classes v → Agrees new σ v → (type_meaning e.left σ ≡ Some (v p.left)) × (type_meaning e.right σ ≡ Some (v p.right))
-  pub is : (v : ℕ → Value) (σ : Grounding) → WeakNodes new.arena.shapes new.arena.classes v → Agrees new σ v → v p.left ≡ v p.right → IsMet σ e
-  pub forth : (v : ℕ → Value) (σ : Grounding) → FitsNodes old.arena.shapes old.arena.classes v → Agrees old σ v → IsMet σ e → BringsSame old new σ v p
+  pub sides : (v : ℕ → Value) (ρ : Opening) → WeakNodes new.arena.shapes new.arena.classes v → Agrees new ρ v → (type_meaning e.left ρ ≡ Some (v p.left)) × (type_meaning e.right ρ ≡ Some (v p.right))
+  pub is : (v : ℕ → Value) (ρ : Opening) → WeakNodes new.arena.shapes new.arena.classes v → Agrees new ρ v → v p.left ≡ v p.right → IsOpenMet ρ e
+  pub forth : (v : ℕ → Value) (ρ : Opening) → FitsNodes old.arena.shapes old.arena.classes v → Agrees old ρ v → IsOpenMet ρ e → BringsSame old new ρ v p
 
 abbrev pub LoadedEquation : Loader → Loader → Equation → Option Pair → Type 0
-LoadedEquation old new e None = (σ : Grounding) → IsMet σ e → ⊥
+LoadedEquation old new e None = (ρ : Opening) → IsOpenMet ρ e → ⊥
 LoadedEquation old new e (Some p) = LoadsEquation old new e p

@@ -6,8 +6,10 @@ use Rattle.std.specs.Prelude.{◌≡◌, ◌≢◌, ℕ, ◌<◌, Bool, true, fa
 use Rattle.std.specs.Str.{bytes_eq}
 use Rattle.lk_classes.specs.Classes.{class_at, AreClasses}
 use Rattle.lk_types.specs.Each.{Each}
-use Rattle.lk_types.specs.Rows.{Label, Row, no_fields}
-use Rattle.lk_types.specs.declared.ground.Ground.{Ground}
+use Rattle.lk_types.specs.Rows.{Label}
+use Rattle.lk_types.specs.declared.ty.RowTail.TheVariants.{Closed}
+use Rattle.lk_types.specs.declared.ty.Ty.{Ty}
+use Rattle.lk_unify.specs.Openings.{OpenRow, only_tail}
 use Rattle.lk_unify.specs.Values.{Value, Plain, OfRow, IsMadeOf}
 use Rattle.lk_unify.specs.declared.node.Field.{Field}
 use Rattle.lk_unify.specs.declared.node.Pair.{Pair}
@@ -48,32 +50,33 @@ AreFound fs = Each (λ f. found_at fs f.label ≡ Some f.node) fs
 
 -- ---- what a shape says of the value of its node, where `w` are the values of the nodes
 
-abbrev pub plain_of : Value → Option Ground
+abbrev pub plain_of : Value → Option Ty
 plain_of (Plain t) = Some t
 plain_of (OfRow row) = None
 
 -- the type that stands at a label: the field's, or else what the row behind the fields has there
-abbrev pub value_at : (ℕ → Value) → Option ℕ → Option Ground → Option Ground
+abbrev pub value_at : (ℕ → Value) → Option ℕ → Option Ty → Option Ty
 value_at w None below = below
 value_at w (Some n) below = plain_of (w n)
 
 abbrev pub IsPlain : Value → Type 0
-IsPlain x = (t : Ground) × (x ≡ Plain t)
+IsPlain x = (t : Ty) × (x ≡ Plain t)
 
--- the fields before the row y give the row x, and y has none of their labels
+-- the fields before the row y give the row x, which ends as y does, and y has none of their labels
 pub record IsRowOf (fs : List Field) (w : ℕ → Value) (y x : Value) : Type 0 where
-  pub tail : Row
-  pub row : Row
+  pub tail : OpenRow
+  pub row : OpenRow
   pub tail_is : y ≡ OfRow tail
   pub row_is : x ≡ OfRow row
   pub plain : Each (λ f. IsPlain (w f.node)) fs
-  pub fresh : Each (λ f. fin.get tail f.label ≡ None) fs
-  pub at : (l : Label) → fin.get row l ≡ value_at w (found_at fs l) (fin.get tail l)
+  pub fresh : Each (λ f. fin.get tail.fields f.label ≡ None) fs
+  pub at : (l : Label) → fin.get row.fields l ≡ value_at w (found_at fs l) (fin.get tail.fields l)
+  pub same_end : row.tail ≡ tail.tail
 
 abbrev pub IsBuilt : Shape → (ℕ → Value) → Value → Type 0
 IsBuilt Free w x = IsPlain x
-IsBuilt Open w x = (row : Row) × (x ≡ OfRow row)
-IsBuilt Empty w x = x ≡ OfRow no_fields
+IsBuilt Open w x = (row : OpenRow) × (x ≡ OfRow row)
+IsBuilt Empty w x = x ≡ OfRow (only_tail Closed)
 IsBuilt (Made h ps) w x = IsMadeOf h (map w ps) x
 IsBuilt (shape.Row fs t) w x = IsRowOf fs w (w t) x
 
@@ -236,11 +239,11 @@ pub record IsFlatBut (hole : ℕ) (shapes : List Shape) (classes : List ℕ) (ro
   pub first_below : first < length shapes
   pub row_below : row < length shapes
   pub named : class_at classes tail ≡ tail
-  pub rows : (v : ℕ → Value) → BuildsBut hole shapes classes v → Respects classes v → (m : Row) → v tail ≡ OfRow m → IsRowOf rest v (v tail) (v first)
-  pub tail_row : (v : ℕ → Value) → FitsNodes shapes classes v → (m : Row) × (v tail ≡ OfRow m)
+  pub rows : (v : ℕ → Value) → BuildsBut hole shapes classes v → Respects classes v → (m : OpenRow) → v tail ≡ OfRow m → IsRowOf rest v (v tail) (v first)
+  pub tail_row : (v : ℕ → Value) → FitsNodes shapes classes v → (m : OpenRow) × (v tail ≡ OfRow m)
   pub lower : (rank : ℕ → ℕ) → GoesDown shapes classes rank → rank (class_at classes first) < rank row → rank tail < rank row
   pub under : (rank : ℕ → ℕ) → GoesDown shapes classes rank → rank (class_at classes first) < rank row
-      → (v : ℕ → Value) → BuildsBelow rank row shapes classes v → Respects classes v → (m : Row) → v tail ≡ OfRow m → IsRowOf rest v (v tail) (v first)
+      → (v : ℕ → Value) → BuildsBelow rank row shapes classes v → Respects classes v → (m : OpenRow) → v tail ≡ OfRow m → IsRowOf rest v (v tail) (v first)
 
 -- a row without fields of its own, and not the hole
 abbrev pub IsEnd : ℕ → List Shape → ℕ → Type 0

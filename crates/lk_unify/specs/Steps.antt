@@ -3,7 +3,7 @@
 -- values that fit at all nodes, which get values for the new ones. Kinds that fit at first fit afterwards too.
 use Rattle.std.specs.Prelude.{◌≡◌, ◌≢◌, ℕ, ◌+◌, ◌<◌, ◌≤◌, true, false, List, [], ◌∷◌, length}
 use Rattle.lk_types.specs.Each.{Each}
-use Rattle.lk_types.specs.Rows.{Row}
+use Rattle.lk_unify.specs.Openings.{OpenRow}
 use Rattle.lk_unify.specs.Kinds.{Kind, AreFieldsOf, AreKinded, EqualKinds, HasKind, HasKinds}
 use Rattle.lk_unify.specs.Measures.{weight, worth}
 use Rattle.lk_classes.specs.Classes.{class_at}
@@ -106,8 +106,8 @@ pub record JoinsTails (left right : ℕ) (lefts rights : List Field) (shapes : L
   pub longer : length shapes ≤ length shapes'
   pub pairs : AreNodePairs (length shapes') queue'
   pub back : (v : ℕ → Value) → WeakFits shapes' classes' queue' v → WeakFits shapes classes queue v
-  pub tails : (v : ℕ → Value) (row : Row) → WeakFits shapes' classes' queue' v → v right ≡ OfRow row → HasTail lefts rights v (v left) (v right)
-  pub forth : (v : ℕ → Value) (row : Row) → Fits shapes classes queue v → IsRowOf lefts v (OfRow row) (v left) → IsRowOf rights v (OfRow row) (v right)
+  pub tails : (v : ℕ → Value) (row : OpenRow) → WeakFits shapes' classes' queue' v → v right ≡ OfRow row → HasTail lefts rights v (v left) (v right)
+  pub forth : (v : ℕ → Value) (row : OpenRow) → Fits shapes classes queue v → IsRowOf lefts v (OfRow row) (v left) → IsRowOf rights v (OfRow row) (v right)
       → HasFit shapes shapes' classes' queue' v
   pub kinds : (kind : ℕ → Kind) (k : Kind) → AreKinded shapes classes kind → EqualKinds queue kind → kind left ≡ k → kind right ≡ k → AreFieldsOf kind k lefts
       → AreFieldsOf kind k rights → HasKinds shapes shapes' classes' queue' kind
@@ -120,7 +120,7 @@ pub record JoinsRows (left_row right_row : ℕ) (lefts rights : List Field) (lef
   pub longer : length shapes ≤ length shapes'
   pub pairs : AreNodePairs (length shapes') queue'
   pub back : (v : ℕ → Value) → WeakFits shapes' classes' queue' v → WeakFits shapes classes queue v
-  pub rebuilt : (v : ℕ → Value) (row : Row) (x : Value) → WeakFits shapes' classes' queue' v → v right ≡ OfRow row → IsRowOf rights v (v right) x
+  pub rebuilt : (v : ℕ → Value) (row : OpenRow) (x : Value) → WeakFits shapes' classes' queue' v → v right ≡ OfRow row → IsRowOf rights v (v right) x
       → IsRowOf lefts v (v left) x
   pub forth : (v : ℕ → Value) → Fits shapes classes queue v → v left_row ≡ v right_row → HasFit shapes shapes' classes' queue' v
   pub kinds : (kind : ℕ → Kind) (k : Kind) → AreKinded shapes classes kind → EqualKinds queue kind → kind left ≡ k → kind right ≡ k → AreFieldsOf kind k lefts
