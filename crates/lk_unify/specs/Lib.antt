@@ -3,6 +3,7 @@ pub mod Kinds
 pub mod Loading
 pub mod Measures
 pub mod Models
+pub mod Nodes
 pub mod Openings
 pub mod Order
 pub mod Shapes
