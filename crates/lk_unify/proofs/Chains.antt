@@ -3,11 +3,13 @@ use Rattle.std.proofs.Common.{◌≡◌, ℕ, true, false, List, [], ◌∷◌, 
 use Rattle.std.specs.FinMap as fin
 use Rattle.std.specs.Prelude.{IsSome}
 use Rattle.lk_types.specs.Each.{Each, OneOf}
-use Rattle.lk_types.specs.Rows.{Label, Row}
-use Rattle.lk_types.specs.declared.ground.Ground.{Ground}
+use Rattle.lk_types.specs.Rows.{Label}
+use Rattle.lk_types.specs.declared.ty.RowTail.TheVariants.{Closed}
+use Rattle.lk_types.specs.declared.ty.Ty.{Ty}
 use Rattle.lk_unify.proofs.EachLemmas.{Each-map, Each-zip, Each-append, Each-append_left}
 use Rattle.lk_unify.proofs.Heads.{made_plain}
 use Rattle.lk_unify.proofs.RowAlgebra.{bool_cases, label_cases, found_here, found_below, found_prop, found_label, plain_some, row_same, same_rows, AreFound-from_distinct, lacks_first, lacks_less}
+use Rattle.lk_unify.specs.Openings.{OpenRow, only_tail}
 use Rattle.lk_unify.specs.Shapes.{found_at, value_at, IsPlain, IsRowOf, IsBuilt, IsDistinct, is_row_shape}
 use Rattle.lk_unify.specs.Values.{Value, Plain, OfRow}
 use Rattle.lk_unify.specs.declared.node.Field.{Field}
@@ -46,17 +48,17 @@ module _ (xs ys : List Field) (w : ℕ → Value) (x y z : Value) (upper : IsRow
   middle : upper.tail ≡ lower.row
   middle = row_same upper.tail lower.row (sym upper.tail_is ∙ lower.row_is)
 
-  at_middle : (l : Label) → fin.get upper.tail l ≡ value_at w (found_at ys l) (fin.get lower.tail l)
-  at_middle l = ap (λ m. fin.get m l) middle ∙ lower.at l
+  at_middle : (l : Label) → fin.get upper.tail.fields l ≡ value_at w (found_at ys l) (fin.get lower.tail.fields l)
+  at_middle l = ap (λ (m : OpenRow). fin.get m.fields l) middle ∙ lower.at l
 
   -- a label of the upper fields is not in the lower row
-  lower_lacks : (l : Label) → fin.get upper.tail l ≡ None → fin.get lower.tail l ≡ None
+  lower_lacks : (l : Label) → fin.get upper.tail.fields l ≡ None → fin.get lower.tail.fields l ≡ None
   lower_lacks l e = go (found_at ys l) refl
     where
-      go : (o : Option ℕ) → found_at ys l ≡ o → fin.get lower.tail l ≡ None
-      go None is = sym (at_middle l ∙ ap (λ o. value_at w o (fin.get lower.tail l)) is) ∙ e
+      go : (o : Option ℕ) → found_at ys l ≡ o → fin.get lower.tail.fields l ≡ None
+      go None is = sym (at_middle l ∙ ap (λ o. value_at w o (fin.get lower.tail.fields l)) is) ∙ e
       go (Some n) is = absurd (plain_some (w n) (found_prop (λ n. IsPlain (w n)) ys l n lower.plain is)
-          (sym (at_middle l ∙ ap (λ o. value_at w o (fin.get lower.tail l)) is) ∙ e))
+          (sym (at_middle l ∙ ap (λ o. value_at w o (fin.get lower.tail.fields l)) is) ∙ e))
 
   pub IsRowOf-append : IsRowOf (xs ++ ys) w z x
   unfolding or_found
@@ -66,17 +68,18 @@ module _ (xs ys : List Field) (w : ℕ → Value) (x y z : Value) (upper : IsRow
     tail_is = lower.tail_is;
     row_is = upper.row_is;
     plain = Each-append (λ f. IsPlain (w f.node)) xs ys upper.plain lower.plain;
-    fresh = Each-append (λ f. fin.get lower.tail f.label ≡ None) xs ys
-        (Each-map (λ f. fin.get upper.tail f.label ≡ None) (λ f. fin.get lower.tail f.label ≡ None) (λ f. lower_lacks f.label) xs upper.fresh) lower.fresh;
+    fresh = Each-append (λ f. fin.get lower.tail.fields f.label ≡ None) xs ys
+        (Each-map (λ f. fin.get upper.tail.fields f.label ≡ None) (λ f. fin.get lower.tail.fields f.label ≡ None) (λ f. lower_lacks f.label) xs upper.fresh) lower.fresh;
     at = λ l. go l (found_at xs l) refl;
+    same_end = upper.same_end ∙ ap (λ (m : OpenRow). m.tail) middle ∙ lower.same_end;
   }
     where
-      go : (l : Label) (o : Option ℕ) → found_at xs l ≡ o → fin.get upper.row l ≡ value_at w (found_at (xs ++ ys) l) (fin.get lower.tail l)
+      go : (l : Label) (o : Option ℕ) → found_at xs l ≡ o → fin.get upper.row.fields l ≡ value_at w (found_at (xs ++ ys) l) (fin.get lower.tail.fields l)
       go l None is =
-          upper.at l ∙ ap (λ o. value_at w o (fin.get upper.tail l)) is ∙ at_middle l
-          ∙ sym (ap (λ o. value_at w o (fin.get lower.tail l)) (found_second xs ys l is))
+          upper.at l ∙ ap (λ o. value_at w o (fin.get upper.tail.fields l)) is ∙ at_middle l
+          ∙ sym (ap (λ o. value_at w o (fin.get lower.tail.fields l)) (found_second xs ys l is))
       go l (Some n) is =
-          upper.at l ∙ ap (λ o. value_at w o (fin.get upper.tail l)) is ∙ sym (ap (λ o. value_at w o (fin.get lower.tail l)) (found_first xs ys l n is))
+          upper.at l ∙ ap (λ o. value_at w o (fin.get upper.tail.fields l)) is ∙ sym (ap (λ o. value_at w o (fin.get lower.tail.fields l)) (found_first xs ys l n is))
 
   -- a label that stands in both has no value
   pub labels_apart : IsDistinct ys → OneOf (λ f. IsSome (found_at xs f.label)) ys → ⊥
@@ -86,30 +89,30 @@ module _ (xs ys : List Field) (w : ℕ → Value) (x y z : Value) (upper : IsRow
       clash f None is s d = let e : false ≡ true = s in cc
       clash f (Some n) is s d =
           plain_some (w f.node) (found_prop (λ n. IsPlain (w n)) ys f.label f.node lower.plain d)
-          (sym (at_middle f.label ∙ ap (λ o. value_at w o (fin.get lower.tail f.label)) d) ∙ found_label (λ l. fin.get upper.tail l ≡ None) xs f.label n upper.fresh is)
+          (sym (at_middle f.label ∙ ap (λ o. value_at w o (fin.get lower.tail.fields f.label)) d) ∙ found_label (λ l. fin.get upper.tail.fields l ≡ None) xs f.label n upper.fresh is)
 
       some_of : (fs : List Field) → Each (λ f. found_at ys f.label ≡ Some f.node) fs → OneOf (λ f. IsSome (found_at xs f.label)) fs → ⊥
       some_of [] d o = o
       some_of (f ∷ fs) d (inl s) = clash f (found_at xs f.label) refl s d.0
       some_of (f ∷ fs) d (inr o) = some_of fs d.1 o
 
-pub IsRowOf-nil : (w : ℕ → Value) (m : Row) (x : Value) → x ≡ OfRow m → IsRowOf [] w x x
-IsRowOf-nil w m x e = record { tail = m; row = m; tail_is = e; row_is = e; plain = tt; fresh = tt; at = λ l. refl }
+pub IsRowOf-nil : (w : ℕ → Value) (m : OpenRow) (x : Value) → x ≡ OfRow m → IsRowOf [] w x x
+IsRowOf-nil w m x e = record { tail = m; row = m; tail_is = e; row_is = e; plain = tt; fresh = tt; at = λ l. refl; same_end = refl }
 
 pub IsRowOf-nil_same : (w : ℕ → Value) (y x : Value) → IsRowOf [] w y x → x ≡ y
-IsRowOf-nil_same w y x r = r.row_is ∙ ap OfRow (same_rows r.row r.tail r.at) ∙ sym r.tail_is
+IsRowOf-nil_same w y x r = r.row_is ∙ ap OfRow (same_rows r.row r.tail r.at r.same_end) ∙ sym r.tail_is
 
 -- the value of a row is a row
-pub row_value : (s : Shape) (w : ℕ → Value) (x : Value) → is_row_shape s ≡ true → IsBuilt s w x → (m : Row) × (x ≡ OfRow m)
+pub row_value : (s : Shape) (w : ℕ → Value) (x : Value) → is_row_shape s ≡ true → IsBuilt s w x → (m : OpenRow) × (x ≡ OfRow m)
 row_value Free w x e b = let f : false ≡ true = e in cc
 row_value Open w x e b = b
-row_value Empty w x e b = (fin.empty, b)
+row_value Empty w x e b = (only_tail Closed, b)
 row_value (Made h ps) w x e b = let f : false ≡ true = e in cc
 row_value (shape.Row fs t) w x e b = (b.row, b.row_is)
 
 -- ---- types and rows apart
 
-pub not_row_value : (s : Shape) (w : ℕ → Value) (x : Value) → is_row_shape s ≡ false → IsBuilt s w x → (t : Ground) × (x ≡ Plain t)
+pub not_row_value : (s : Shape) (w : ℕ → Value) (x : Value) → is_row_shape s ≡ false → IsBuilt s w x → (t : Ty) × (x ≡ Plain t)
 not_row_value Free w x e b = b
 not_row_value Open w x e b = let f : true ≡ false = e in cc
 not_row_value Empty w x e b = let f : true ≡ false = e in cc
@@ -129,8 +132,8 @@ kinds_apart s t w x ne a b =
 -- ---- fields before a row, of fields before a row
 
 module _ (xs ys : List Field) (w : ℕ → Value) (x y z : Value) (whole : IsRowOf (xs ++ ys) w z x) (lower : IsRowOf ys w z y) (apart : Each (λ f. found_at ys f.label ≡ None) xs) where
-  same_end : whole.tail ≡ lower.tail
-  same_end = row_same whole.tail lower.tail (sym whole.tail_is ∙ lower.tail_is)
+  same_tails : whole.tail ≡ lower.tail
+  same_tails = row_same whole.tail lower.tail (sym whole.tail_is ∙ lower.tail_is)
 
   pub IsRowOf-front : IsRowOf xs w y x
   IsRowOf-front = record {
@@ -139,15 +142,16 @@ module _ (xs ys : List Field) (w : ℕ → Value) (x y z : Value) (whole : IsRow
     tail_is = lower.row_is;
     row_is = whole.row_is;
     plain = Each-append_left (λ f. IsPlain (w f.node)) xs ys whole.plain;
-    fresh = Each-zip (λ f. fin.get whole.tail f.label ≡ None) (λ f. found_at ys f.label ≡ None) (λ f. fin.get lower.row f.label ≡ None)
-        (λ f a b. lower.at f.label ∙ ap (λ o. value_at w o (fin.get lower.tail f.label)) b ∙ ap (λ m. fin.get m f.label) (sym same_end) ∙ a)
-        xs (Each-append_left (λ f. fin.get whole.tail f.label ≡ None) xs ys whole.fresh) apart;
+    fresh = Each-zip (λ f. fin.get whole.tail.fields f.label ≡ None) (λ f. found_at ys f.label ≡ None) (λ f. fin.get lower.row.fields f.label ≡ None)
+        (λ f a b. lower.at f.label ∙ ap (λ o. value_at w o (fin.get lower.tail.fields f.label)) b ∙ ap (λ (m : OpenRow). fin.get m.fields f.label) (sym same_tails) ∙ a)
+        xs (Each-append_left (λ f. fin.get whole.tail.fields f.label ≡ None) xs ys whole.fresh) apart;
     at = λ l. go l (found_at xs l) refl;
+    same_end = whole.same_end ∙ ap (λ (m : OpenRow). m.tail) same_tails ∙ sym lower.same_end;
   }
     where
-      go : (l : Label) (o : Option ℕ) → found_at xs l ≡ o → fin.get whole.row l ≡ value_at w (found_at xs l) (fin.get lower.row l)
+      go : (l : Label) (o : Option ℕ) → found_at xs l ≡ o → fin.get whole.row.fields l ≡ value_at w (found_at xs l) (fin.get lower.row.fields l)
       go l None is =
-          whole.at l ∙ ap (λ o. value_at w o (fin.get whole.tail l)) (found_second xs ys l is) ∙ ap (λ m. value_at w (found_at ys l) (fin.get m l)) same_end
-          ∙ sym (ap (λ o. value_at w o (fin.get lower.row l)) is ∙ lower.at l)
+          whole.at l ∙ ap (λ o. value_at w o (fin.get whole.tail.fields l)) (found_second xs ys l is) ∙ ap (λ (m : OpenRow). value_at w (found_at ys l) (fin.get m.fields l)) same_tails
+          ∙ sym (ap (λ o. value_at w o (fin.get lower.row.fields l)) is ∙ lower.at l)
       go l (Some n) is =
-          whole.at l ∙ ap (λ o. value_at w o (fin.get whole.tail l)) (found_first xs ys l n is) ∙ sym (ap (λ o. value_at w o (fin.get lower.row l)) is)
+          whole.at l ∙ ap (λ o. value_at w o (fin.get whole.tail.fields l)) (found_first xs ys l n is) ∙ sym (ap (λ o. value_at w o (fin.get lower.row.fields l)) is)

@@ -2,10 +2,10 @@
 -- row has besides, before one new row.
 use Rattle.std.proofs.Common.{◌≡◌, ◌≢◌, ℕ, ◌<◌, List, [], ◌∷◌, ◌++◌, length, refl, sym, ap, subst, Option, Some, None}
 use Rattle.lk_types.specs.Each.{Each}
-use Rattle.lk_types.specs.Rows.{Row}
 use Rattle.lk_unify.proofs.EachLemmas.{Each-append, Each-append_left, Each-append_right}
 use Rattle.lk_unify.proofs.Joins.{Equates-same}
 use Rattle.lk_unify.proofs.RowAlgebra.{Each-missing, rows_common, rest, rows_left, rows_right, same_tail_left, empty_left, found_prop, AreFound-from_distinct}
+use Rattle.lk_unify.specs.Openings.{OpenRow}
 use Rattle.lk_unify.specs.Shapes.{shape_at, found_at, IsRowOf, IsBuilt, Equates, AreNodePairs, FitsNodes, Fits, WeakNodes, WeakFits, HasFit, IsFlatOf, missing, common, pair_common}
 use Rattle.lk_unify.specs.Values.{Value, OfRow}
 use Rattle.lk_unify.specs.declared.node.Field.{Field}
@@ -42,7 +42,7 @@ module _ (shapes : List Shape) (classes : List ℕ) (a b : ℕ) (fs gs : List Fi
   pub flats_common : Equates (common fs gs) v
   flats_common = rows_common v fs gs (v ta) (v tb) (v a) L R (AreFound-from_distinct fs left.distinct)
 
-  pub flats_rest : Row
+  pub flats_rest : OpenRow
   flats_rest = rest v fs gs (v ta) (v tb) (v a) L R
 
   pub flats_left : IsRowOf (missing gs fs) v (OfRow flats_rest) (v ta)

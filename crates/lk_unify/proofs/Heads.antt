@@ -1,60 +1,75 @@
--- A ground type shows its constructor, and the types and rows that it is made of.
+-- A type shows its constructor, and the types and rows that it is made of.
 use Rattle.std.proofs.Common.{◌≡◌, List, [], ◌∷◌, map, refl, sym, ◌∙◌, ap}
 use Rattle.std.specs.FinMap as fin
-use Rattle.lk_types.specs.Rows.{Label, Row, label_order, fields_of, effects_of}
+use Rattle.lk_types.specs.Rows.{Label, label_order}
 use Rattle.lk_types.specs.TypeText.{effect_word}
-use Rattle.lk_types.specs.declared.ground.Ground.{Ground, out-Ground}
-use Rattle.lk_types.specs.declared.ground.Ground.TheOpen.{Ground-F}
-use Rattle.lk_types.specs.declared.ground.Ground.TheVariants as ground
-use Rattle.lk_types.specs.declared.ground.GroundField.{GroundField}
-use Rattle.lk_types.specs.declared.ty.Effect.{Effect}
+use Rattle.lk_types.specs.declared.ty.Effects.{Effects}
+use Rattle.lk_types.specs.declared.ty.Ty.{Ty, out-Ty}
+use Rattle.lk_types.specs.declared.ty.Ty.TheOpen.{Ty-F, TyRow-F}
+use Rattle.lk_types.specs.declared.ty.Ty.TheVariants as ty
+use Rattle.lk_types.specs.declared.ty.TyField.{TyField}
+use Rattle.lk_types.specs.declared.ty.TyRow.{TyRow, out-TyRow, out-roll-TyRow}
+use Rattle.lk_unify.proofs.RowAlgebra.{RowFields}
+use Rattle.lk_unify.specs.Openings.{OpenRow, effects_type, field_type, row_type, unit_type}
 use Rattle.lk_unify.specs.Values.{Value, Plain, OfRow, IsMadeOf}
 use Rattle.lk_unify.specs.declared.node.Head.{Head}
 use Rattle.lk_unify.specs.declared.node.Head.TheVariants as head
 
-row_from : List GroundField → Row
-row_from fs = fin.from_sorted (map (λ f. (f.label, f.ty)) fs)
+fields_from : List TyField → RowFields
+fields_from fs = fin.from_sorted (map (λ f. (f.label, f.ty)) fs)
 
-map-back : (es : List (Label × Ground)) → map (λ (f : GroundField). (f.label, f.ty)) (map (λ (e : Label × Ground). record { label = e.0; ty = e.1 }) es) ≡ es
+map-back : (es : List (Label × Ty)) → map (λ (f : TyField). (f.label, f.ty)) (map field_type es) ≡ es
 map-back [] = refl
 map-back (e ∷ es) = ap (λ r. e ∷ r) (map-back es)
 
-row_from-fields_of : (m : Row) → row_from (fields_of m) ≡ m
-unfolding row_from
-row_from-fields_of m =
+fields_from-entries : (m : RowFields) → fields_from (map field_type (fin.entries m)) ≡ m
+unfolding fields_from
+fields_from-entries m =
     ap fin.from_sorted (map-back (fin.entries m))
     ∙ fin.same_entries_map (fin.from_sorted (fin.entries m)) m (fin.entries-from_sorted label_order (fin.entries m) (fin.entries_sorted m))
 
-effects_row : List Effect → Row
-effects_row es = fin.from_entries (map (λ e. (effect_word e, ground.Fields [])) es)
+abbrev row_at : TyRow-F Ty TyField TyRow → OpenRow
+row_at r = record { fields = fields_from r.fields; tail = r.tail }
 
-abbrev view_at : Ground-F Ground GroundField → Head × List Value
-view_at Ground-F.Int = (head.Int, [])
-view_at Ground-F.Bool = (head.Bool, [])
-view_at Ground-F.Text = (head.Text, [])
-view_at (Ground-F.List t) = (head.List, Plain t ∷ [])
-view_at (Ground-F.Fields fs) = (head.Fields, OfRow (row_from fs) ∷ [])
-view_at (Ground-F.Tags fs) = (head.Tags, OfRow (row_from fs) ∷ [])
-view_at (Ground-F.Fun ps es r) = (head.Fun, OfRow (effects_row es) ∷ Plain r ∷ map Plain ps)
+row_from : TyRow → OpenRow
+row_from r = row_at (out-TyRow r)
 
-view : Ground → Head × List Value
-view t = view_at (out-Ground t)
+row_from-row_type : (m : OpenRow) → row_from (row_type m) ≡ m
+unfolding row_from
+row_from-row_type m =
+    ap row_at (out-roll-TyRow (record { fields = map field_type (fin.entries m.fields); tail = m.tail }))
+    ∙ ap (λ (fields : RowFields). record { fields = fields; tail = m.tail }) (fields_from-entries m.fields)
 
-made_view : (h : Head) (vs : List Value) (x : Value) → IsMadeOf h vs x → (t : Ground) × (x ≡ Plain t) × (view t ≡ (h, vs))
+effects_row : Effects → OpenRow
+effects_row es = record { fields = fin.from_entries (map (λ e. (effect_word e, unit_type)) es.labels); tail = es.tail }
+
+abbrev view_at : Ty-F Ty TyField TyRow → Head × List Value
+view_at Ty-F.Bool = (head.Bool, [])
+view_at Ty-F.Text = (head.Text, [])
+view_at (Ty-F.List t) = (head.List, Plain t ∷ [])
+view_at (Ty-F.Fields r) = (head.Fields, OfRow (row_from r) ∷ [])
+view_at (Ty-F.Tags r) = (head.Tags, OfRow (row_from r) ∷ [])
+view_at (Ty-F.Fun ps es r) = (head.Fun, OfRow (effects_row es) ∷ Plain r ∷ map Plain ps)
+view_at _ = (head.Int, [])
+
+view : Ty → Head × List Value
+view t = view_at (out-Ty t)
+
+made_view : (h : Head) (vs : List Value) (x : Value) → IsMadeOf h vs x → (t : Ty) × (x ≡ Plain t) × (view t ≡ (h, vs))
 unfolding view effects_row
-made_view head.Int [] x e = (ground.Int, e, ap view_at ground.outs-Int)
-made_view head.Bool [] x e = (ground.Bool, e, ap view_at ground.outs-Bool)
-made_view head.Text [] x e = (ground.Text, e, ap view_at ground.outs-Text)
-made_view head.List (Plain t ∷ []) x e = (ground.List t, e, ap view_at (ground.outs-List t))
+made_view head.Int [] x e = (ty.Int, e, ap view_at ty.outs-Int)
+made_view head.Bool [] x e = (ty.Bool, e, ap view_at ty.outs-Bool)
+made_view head.Text [] x e = (ty.Text, e, ap view_at ty.outs-Text)
+made_view head.List (Plain t ∷ []) x e = (ty.List t, e, ap view_at (ty.outs-List t))
 made_view head.Fields (OfRow m ∷ []) x e =
-    (ground.Fields (fields_of m), e, ap view_at (ground.outs-Fields (fields_of m)) ∙ ap (λ r. (head.Fields, OfRow r ∷ [])) (row_from-fields_of m))
+    (ty.Fields (row_type m), e, ap view_at (ty.outs-Fields (row_type m)) ∙ ap (λ r. (head.Fields, OfRow r ∷ [])) (row_from-row_type m))
 made_view head.Tags (OfRow m ∷ []) x e =
-    (ground.Tags (fields_of m), e, ap view_at (ground.outs-Tags (fields_of m)) ∙ ap (λ r. (head.Tags, OfRow r ∷ [])) (row_from-fields_of m))
+    (ty.Tags (row_type m), e, ap view_at (ty.outs-Tags (row_type m)) ∙ ap (λ r. (head.Tags, OfRow r ∷ [])) (row_from-row_type m))
 made_view head.Fun (OfRow m ∷ Plain r ∷ vs) x e =
-    (ground.Fun e.1 (effects_of e.0) r, e.4, ap view_at (ground.outs-Fun e.1 (effects_of e.0) r) ∙ (λ i. (head.Fun, OfRow (sym e.2 i) ∷ Plain r ∷ sym e.3 i)))
+    (ty.Fun e.1 (effects_type e.0) r, e.4, ap view_at (ty.outs-Fun e.1 (effects_type e.0) r) ∙ (λ i. (head.Fun, OfRow (sym e.2 i) ∷ Plain r ∷ sym e.3 i)))
 made_view _ _ x e = absurd e
 
-plain_injective : (s t : Ground) → Plain s ≡ Plain t → s ≡ t
+plain_injective : (s t : Ty) → Plain s ≡ Plain t → s ≡ t
 plain_injective s t e = cc
 
 -- a value is made in one way
@@ -67,5 +82,5 @@ made_once h k vs ws x a b =
     (ap (λ p. p.0) e, ap (λ p. p.1) e)
 
 -- a made value is no row
-pub made_plain : (h : Head) (vs : List Value) (x : Value) → IsMadeOf h vs x → (t : Ground) × (x ≡ Plain t)
+pub made_plain : (h : Head) (vs : List Value) (x : Value) → IsMadeOf h vs x → (t : Ty) × (x ≡ Plain t)
 made_plain h vs x a = let m = made_view h vs x a in (m.0, m.1)

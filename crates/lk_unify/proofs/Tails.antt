@@ -2,7 +2,6 @@
 use Rattle.std.proofs.Common.{◌≡◌, ◌≢◌, ℕ, ◌<◌, List, [], ◌∷◌, ◌++◌, length, refl, sym, ◌∙◌, subst, arith}
 use Rattle.std.proofs.lemmas.List.{nil_from_length}
 use Rattle.lk_types.specs.Each.{Each}
-use Rattle.lk_types.specs.Rows.{Row}
 use Rattle.lk_unify.proofs.Chains.{IsRowOf-nil, IsRowOf-nil_same}
 use Rattle.lk_unify.proofs.EachLemmas.{Each-append, Each-append_left, Each-append_right, Each-map}
 use Rattle.lk_unify.proofs.Growth.{IsRowOf-same}
@@ -10,6 +9,7 @@ use Rattle.lk_unify.proofs.Joins.{Equates-same, EqualKinds-same, AreNodePairs-mo
 use Rattle.lk_unify.proofs.Kinded.{open_kind, fields_same}
 use Rattle.lk_unify.specs.Kinds.{AreFieldsOf}
 use Rattle.lk_classes.specs.Classes.{class_at}
+use Rattle.lk_unify.specs.Openings.{OpenRow}
 use Rattle.lk_unify.specs.Shapes.{IsArena, IsRowOf, AreNodePairs}
 use Rattle.lk_unify.specs.Steps.{Adds, AreTails, CanBind, Binds, JoinsTails}
 use Rattle.lk_unify.specs.Values.{Value, OfRow}
@@ -24,7 +24,7 @@ module _ (left right : ℕ) (lefts rights : List Field) (shapes : List Shape) (c
   same_row : (fs : List Field) (v : ℕ → Value) (x y : Value) → length fs ≡ 0 → IsRowOf fs v y x → x ≡ y
   same_row fs v x y none row = IsRowOf-nil_same v y x (subst (λ fs. IsRowOf fs v y x) (nil_from_length fs none) row)
 
-  no_fields_before : (fs : List Field) (v : ℕ → Value) (m : Row) (x : Value) → length fs ≡ 0 → x ≡ OfRow m → IsRowOf fs v x x
+  no_fields_before : (fs : List Field) (v : ℕ → Value) (m : OpenRow) (x : Value) → length fs ≡ 0 → x ≡ OfRow m → IsRowOf fs v x x
   no_fields_before fs v m x none is = subst (λ fs. IsRowOf fs v x x) (sym (nil_from_length fs none)) (IsRowOf-nil v m x is)
 
   -- ---- one tail

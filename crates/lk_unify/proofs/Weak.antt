@@ -2,11 +2,11 @@
 use Rattle.std.proofs.Common.{◌≡◌, ◌≢◌, ℕ, ◌+◌, ◌<◌, true, false, List, [], ◌∷◌, ◌++◌, length, map, refl, sym, ◌∙◌, ap, subst, arith, Option, Some, None, append_assoc, append-nil}
 use Rattle.std.specs.Prelude.{IsSome}
 use Rattle.lk_types.specs.Each.{Each, OneOf}
-use Rattle.lk_types.specs.Rows.{Row}
 use Rattle.lk_unify.proofs.Chains.{IsDistinct-append, IsRowOf-append, IsRowOf-nil, labels_apart, not_row_value, row_value, IsRowOf-front, or_found, found_at-append}
 use Rattle.lk_unify.proofs.EachLemmas.{Each-append, Each-from_map}
 use Rattle.lk_unify.proofs.Sizes.{value_size, fields_size, row_is_larger}
 use Rattle.lk_classes.specs.Classes.{class_at}
+use Rattle.lk_unify.specs.Openings.{OpenRow}
 use Rattle.lk_unify.specs.Shapes.{shape_at, parts_of, found_at, IsRowOf, IsBuilt, IsDistinct, FitsNodes, IsArena, IsFlatOf, IsFlatBut, BuildsBut, Respects, NeverSame, fields_in, is_row_shape, HasFields}
 use Rattle.lk_unify.specs.Values.{Value, Plain, OfRow}
 use Rattle.lk_unify.specs.declared.node.Field.{Field}
@@ -137,7 +137,7 @@ distinct_apart (x ∷ xs) ys d = ((none_none (found_at xs x.label) (found_at ys 
 
 module _ (hole : ℕ) (shapes : List Shape) (classes : List ℕ) (row : ℕ) (fields : List Field) (tail : ℕ) (flat : IsFlatBut hole shapes classes row fields tail)
     (kind : is_row_shape (shape_at shapes tail) ≡ true) (apart : tail ≢ hole) (v : ℕ → Value) (but : BuildsBut hole shapes classes v) (respects : Respects classes v) where
-  pub but_tail : (m : Row) × (v tail ≡ OfRow m)
+  pub but_tail : (m : OpenRow) × (v tail ≡ OfRow m)
   but_tail = row_value (shape_at shapes tail) v (v tail) kind (but tail flat.below flat.named apart)
 
   low : IsRowOf flat.rest v (v tail) (v flat.first)
