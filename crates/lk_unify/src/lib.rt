@@ -1,6 +1,6 @@
 //! Unification of types with rows, over numbered nodes that are merged into classes.
 //!
-//! `specs/Shapes` says which values nodes can have, a value being a ground type or a row of them (`specs/Values`), and
+//! `specs/Shapes` says which values nodes can have, a value being a type or a row of types (`specs/Values`), and
 //! `specs/Steps` what a new node, a binding of a row or a union of two classes says of them. `specs/Measures` is why merging
 //! ends, `specs/Order` says when no type is a part of itself, and `specs/Kinds` that there are values then.
 #![tactic(auto)]
