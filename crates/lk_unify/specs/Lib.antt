@@ -6,6 +6,7 @@ pub mod Models
 pub mod Nodes
 pub mod Openings
 pub mod Order
+pub mod Reading
 pub mod Shapes
 pub mod Solving
 pub mod Steps

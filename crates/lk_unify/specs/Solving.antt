@@ -1,9 +1,12 @@
 -- What nodes say of the equations that were made into them and merged: just what solves the equations.
-use Rattle.std.specs.Prelude.{◌≡◌, ℕ, ◌+◌, ◌<◌, ◌≤◌, List, length, take}
+use Rattle.std.specs.Prelude.{◌≡◌, ℕ, ◌+◌, ◌<◌, List, length, take, IsSome}
+use Rattle.lk_types.specs.Each.{Each}
 use Rattle.lk_types.specs.Solutions.{HasSolution}
+use Rattle.lk_types.specs.Variables.{equation_variables}
 use Rattle.lk_types.specs.declared.equation.Equation.{Equation}
+use Rattle.lk_types.specs.declared.ty.Variable.{Variable}
 use Rattle.lk_unify.specs.Kinds.{Kind}
-use Rattle.lk_unify.specs.Loading.{IsLoader, IsKinded, Agrees}
+use Rattle.lk_unify.specs.Loading.{node_for, IsLoader, IsKinded, Agrees}
 use Rattle.lk_unify.specs.Openings.{Opening, OpenSolves}
 use Rattle.lk_unify.specs.Shapes.{FitsNodes, WeakNodes}
 use Rattle.lk_unify.specs.Values.{Value}
@@ -17,9 +20,13 @@ pub record Says (l : Loader) (equations : List Equation) : Type 0 where
   pub back : (v : ℕ → Value) (ρ : Opening) → WeakNodes l.arena.shapes l.arena.classes v → Agrees l ρ v → OpenSolves ρ equations
   pub forth : (ρ : Opening) → OpenSolves ρ equations → (v : ℕ → Value) × FitsNodes l.arena.shapes l.arena.classes v × Agrees l ρ v
 
--- there are nodes that say just this
+-- each of them has a node
+abbrev pub AreBound : Loader → List Variable → Type 0
+AreBound l xs = Each (λ x. IsSome (node_for l x)) xs
+
+-- there are nodes that say just this, with one for each variable
 abbrev pub HasNodes : List Equation → Type 0
-HasNodes equations = (l : Loader) × Says l equations
+HasNodes equations = (l : Loader) × Says l equations × AreBound l (equation_variables equations)
 
 -- the equations before number k have a solution, and with it there is none
 pub record IsFirstWithout (equations : List Equation) (k : ℕ) : Type 0 where
