@@ -1,6 +1,6 @@
 -- What is read back of the classes: what their values put for the variables.
 use Rattle.std.specs.FinMap as fin
-use Rattle.std.specs.Prelude.{◌≡◌, ℕ, ◌<◌, true, List, length, map, Option, Some, None, is_some}
+use Rattle.std.specs.Prelude.{◌≡◌, ℕ, ◌<◌, true, List, [], ◌∷◌, length, flat_map, Option, Some, None, is_some}
 use Rattle.lk_classes.specs.Classes.{class_at}
 use Rattle.lk_types.specs.Rows.{EffectSet}
 use Rattle.lk_types.specs.TypeText.{effect_word}
@@ -56,9 +56,14 @@ number_of (variable.Plain n) = n
 number_of (variable.Row n) = n
 number_of (variable.Effects n) = n
 
+-- what is put for a variable, by the value of its node
+abbrev pub binding_by : Variable → (ℕ → Value) → Option ℕ → List Binding
+binding_by x u None = []
+binding_by x u (Some n) = record { var = number_of x; is = image_of x (u n) } ∷ []
+
 -- what the values put for each variable that has a node
 abbrev pub subst_by : Loader → (ℕ → Value) → Subst
-subst_by l u = record { binds = map (λ e. record { var = number_of e.0; is = image_of e.0 (u e.1) }) l.names.entries }
+subst_by l u = record { binds = flat_map (λ e. binding_by e.0 u (node_for l e.0)) l.names.entries }
 
 -- ---- variables for the classes of which nothing is known
 
