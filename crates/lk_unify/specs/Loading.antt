@@ -4,7 +4,7 @@ use Rattle.std.specs.Map.{lookup}
 use Rattle.std.specs.Option.{option_map}
 use Rattle.std.specs.Prelude.{◌≡◌, ℕ, ◌<◌, ◌≤◌, List, ◌∷◌, [], ◌++◌, length, map, Option, Some, None}
 use Rattle.lk_types.specs.Each.{Each}
-use Rattle.lk_types.specs.Opening.{all_of}
+use Rattle.lk_types.specs.Grounding.{all_of}
 use Rattle.lk_types.specs.TypeText.{effect_word}
 use Rattle.lk_types.specs.Variables.{same_variable}
 use Rattle.lk_types.specs.declared.equation.Equation.{Equation}
