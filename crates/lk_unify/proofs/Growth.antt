@@ -31,7 +31,8 @@ IsRowOf-same fs v w y z x tail same r = record {
   row_is = r.row_is;
   plain = Each-zip (λ f. IsPlain (v f.node)) (λ f. w f.node ≡ v f.node) (λ f. IsPlain (w f.node)) (λ f p e. (p.0, e ∙ p.1)) fs r.plain same;
   fresh = r.fresh;
-  at = λ l. r.at l ∙ value_at-same v w (found_at fs l) (fin.get r.tail l) (λ n e. found_prop (λ n. w n ≡ v n) fs l n same e);
+  at = λ l. r.at l ∙ value_at-same v w (found_at fs l) (fin.get r.tail.fields l) (λ n e. found_prop (λ n. w n ≡ v n) fs l n same e);
+  same_end = r.same_end;
 }
 
 -- a shape speaks of its parts alone
