@@ -1,4 +1,4 @@
--- The row of a set of effects shows the set.
+-- The row of effects shows which they are, and their end.
 use Rattle.std.proofs.Common.{◌≡◌, ℕ, Bool, true, false, inl, inr, List, [], ◌∷◌, map, Some, refl, sym, ◌∙◌, ap, subst}
 use Rattle.std.specs.Cmp.Lexicographic.{nat_list_cmp_total}
 use Rattle.std.specs.FinMap as fin
@@ -6,13 +6,15 @@ use Rattle.std.specs.List.{filter}
 use Rattle.std.specs.Ordering.{eq_by_cmp}
 use Rattle.std.specs.Prelude.{is_some, cond, ◌==◌}
 use Rattle.lk_types.specs.Each.{OneOf}
-use Rattle.lk_types.specs.Rows.{Label, Row, EffectSet, label_order, effects_of}
+use Rattle.lk_types.specs.Rows.{Label, EffectSet, label_order, effects_of}
 use Rattle.lk_types.specs.TypeText.{effect_word}
-use Rattle.lk_types.specs.declared.ground.Ground.TheVariants as ground
 use Rattle.lk_types.specs.declared.ty.Effect.{Effect}
 use Rattle.lk_types.specs.declared.ty.Effect.TheVariants.{Local, Move, Print, Rec, Scan, Trap, Write}
+use Rattle.lk_types.specs.declared.ty.RowTail.{RowTail}
 use Rattle.lk_unify.proofs.EffectRows.{IsEffectRow, IsEffectRow-empty, IsEffectRow-insert, set_in}
+use Rattle.lk_unify.proofs.RowAlgebra.{RowFields}
 use Rattle.lk_unify.proofs.Sizes.{ties, no_ties}
+use Rattle.lk_unify.specs.Openings.{OpenRow, OpenEffects, unit_type}
 use Rattle.lk_unify.specs.Values.{effect_row}
 
 -- ---- effects by the first bytes of their words
@@ -40,36 +42,43 @@ same_word a b e = sym (by_word a) ∙ ap (λ l. by_byte (first_byte l)) e ∙ by
 
 -- ---- the row of some effects
 
-row_of : List Effect → Row
-row_of es = fin.from_entries (map (λ e. (effect_word e, ground.Fields [])) es)
+map_of : List Effect → RowFields
+map_of es = fin.from_entries (map (λ e. (effect_word e, unit_type)) es)
 
-its_row : (es : List Effect) → IsEffectRow (row_of es)
-unfolding row_of
-its_row [] = IsEffectRow-empty
-its_row (e ∷ es) = IsEffectRow-insert (row_of es) (effect_word e) (e, refl) (its_row es)
+abbrev row_of : List Effect → RowTail → OpenRow
+row_of es tail = record { fields = map_of es; tail = tail }
 
-pub IsEffectRow-effect_row : (s : EffectSet) → IsEffectRow (effect_row s)
-unfolding row_of
-IsEffectRow-effect_row s = its_row (effects_of s)
+its_row : (es : List Effect) (tail : RowTail) → IsEffectRow (row_of es tail)
+unfolding map_of
+its_row [] tail = IsEffectRow-empty tail
+its_row (e ∷ es) tail = IsEffectRow-insert (row_of es tail) (effect_word e) (e, refl) (its_row es tail)
 
-found_in : (es : List Effect) (x : Effect) → OneOf (λ e. e ≡ x) es → set_in (row_of es) x ≡ true
-unfolding row_of
+pub IsEffectRow-effect_row : (s : OpenEffects) → IsEffectRow (effect_row s)
+unfolding map_of
+IsEffectRow-effect_row s = its_row (effects_of s.labels) s.tail
+
+-- whether the effect is among them
+has_effect : RowFields → Effect → Bool
+has_effect m x = is_some (fin.get m (effect_word x))
+
+found_in : (es : List Effect) (x : Effect) → OneOf (λ e. e ≡ x) es → has_effect (map_of es) x ≡ true
+unfolding map_of has_effect
 found_in [] x o = absurd o
 found_in (e ∷ es) x o =
-    ap is_some (fin.get-insert nat_list_cmp_total (row_of es) (effect_word e) (ground.Fields []) (effect_word x)) ∙ by_test (eq_by_cmp label_order (effect_word x) (effect_word e)) refl o (found_in es x)
+    ap is_some (fin.get-insert nat_list_cmp_total (map_of es) (effect_word e) unit_type (effect_word x)) ∙ by_test (eq_by_cmp label_order (effect_word x) (effect_word e)) refl o (found_in es x)
   where
-    by_test : (b : Bool) → eq_by_cmp label_order (effect_word x) (effect_word e) ≡ b → OneOf (λ e. e ≡ x) (e ∷ es) → (OneOf (λ e. e ≡ x) es → set_in (row_of es) x ≡ true)
-        → is_some (cond b (Some (ground.Fields [])) (fin.get (row_of es) (effect_word x))) ≡ true
+    by_test : (b : Bool) → eq_by_cmp label_order (effect_word x) (effect_word e) ≡ b → OneOf (λ e. e ≡ x) (e ∷ es) → (OneOf (λ e. e ≡ x) es → has_effect (map_of es) x ≡ true)
+        → is_some (cond b (Some unit_type) (fin.get (map_of es) (effect_word x))) ≡ true
     by_test true is o below = refl
     by_test false is (inl same) below = let f : false ≡ true = sym is ∙ ties (effect_word x) (effect_word e) (ap effect_word (sym same)) in cc
     by_test false is (inr rest) below = below rest
 
-missing_in : (es : List Effect) (x : Effect) → (OneOf (λ e. e ≡ x) es → ⊥) → set_in (row_of es) x ≡ false
-unfolding row_of
+missing_in : (es : List Effect) (x : Effect) → (OneOf (λ e. e ≡ x) es → ⊥) → has_effect (map_of es) x ≡ false
+unfolding map_of has_effect
 missing_in [] x n = ap is_some (fin.get-empty label_order (effect_word x))
 missing_in (e ∷ es) x n =
-    ap is_some (fin.get-insert nat_list_cmp_total (row_of es) (effect_word e) (ground.Fields []) (effect_word x)
-    ∙ ap (λ b. cond b (Some (ground.Fields [])) (fin.get (row_of es) (effect_word x))) (no_ties (effect_word x) (effect_word e) (λ same. n (inl (sym (same_word x e same))))))
+    ap is_some (fin.get-insert nat_list_cmp_total (map_of es) (effect_word e) unit_type (effect_word x)
+    ∙ ap (λ b. cond b (Some unit_type) (fin.get (map_of es) (effect_word x))) (no_ties (effect_word x) (effect_word e) (λ same. n (inl (sym (same_word x e same))))))
     ∙ missing_in es x (λ o. n (inr o))
 
 kept : (s : EffectSet) (x : Effect) (es : List Effect) → s x ≡ true → OneOf (λ e. e ≡ x) es → OneOf (λ e. e ≡ x) (filter s es)
@@ -99,13 +108,19 @@ all_effects Scan = inr (inr (inr (inr (inl refl))))
 all_effects Trap = inr (inr (inr (inr (inr (inl refl)))))
 all_effects Write = inr (inr (inr (inr (inr (inr (inl refl))))))
 
-pub set_in-effect_row : (s : EffectSet) (e : Effect) → set_in (effect_row s) e ≡ s e
-unfolding row_of
-set_in-effect_row s e = by_test (s e) refl
+pub set_in-effect_row : (s : OpenEffects) (e : Effect) → set_in (effect_row s) e ≡ s.labels e
+unfolding map_of has_effect
+set_in-effect_row s e = by_test (s.labels e) refl
   where
-    by_test : (b : Bool) → s e ≡ b → set_in (effect_row s) e ≡ b
-    by_test true is = found_in (effects_of s) e (kept s e (Local ∷ Move ∷ Print ∷ Rec ∷ Scan ∷ Trap ∷ Write ∷ []) is (all_effects e))
-    by_test false is = missing_in (effects_of s) e (left_out s e (Local ∷ Move ∷ Print ∷ Rec ∷ Scan ∷ Trap ∷ Write ∷ []) is)
+    by_test : (b : Bool) → s.labels e ≡ b → set_in (effect_row s) e ≡ b
+    by_test true is = found_in (effects_of s.labels) e (kept s.labels e (Local ∷ Move ∷ Print ∷ Rec ∷ Scan ∷ Trap ∷ Write ∷ []) is (all_effects e))
+    by_test false is = missing_in (effects_of s.labels) e (left_out s.labels e (Local ∷ Move ∷ Print ∷ Rec ∷ Scan ∷ Trap ∷ Write ∷ []) is)
 
-pub same_set : (s t : EffectSet) → effect_row s ≡ effect_row t → s ≡ t
-same_set s t e i x = (sym (set_in-effect_row s x) ∙ ap (λ m. set_in m x) e ∙ set_in-effect_row t x) i
+same_labels : (s t : OpenEffects) → effect_row s ≡ effect_row t → s.labels ≡ t.labels
+same_labels s t e i x = (sym (set_in-effect_row s x) ∙ ap (λ (m : OpenRow). set_in m x) e ∙ set_in-effect_row t x) i
+
+pub same_set : (s t : OpenEffects) → effect_row s ≡ effect_row t → s ≡ t
+same_set s t e =
+    let labels = same_labels s t e in
+    let tails : s.tail ≡ t.tail = ap (λ (m : OpenRow). m.tail) e in
+    λ i. record { labels = labels i; tail = tails i }

@@ -7,15 +7,27 @@ use Rattle.std.specs.FinMap as fin
 use Rattle.std.specs.Prelude.{is_some, not}
 use Rattle.std.specs.Str.{bytes_eq}
 use Rattle.lk_types.specs.Each.{Each}
-use Rattle.lk_types.specs.Rows.{Label, Row, label_order}
-use Rattle.lk_types.specs.declared.ground.Ground.{Ground}
+use Rattle.lk_types.specs.Rows.{Label, label_order}
+use Rattle.lk_types.specs.declared.ty.RowTail.TheVariants.{Closed}
+use Rattle.lk_types.specs.declared.ty.Ty.{Ty}
 use Rattle.lk_unify.proofs.EachLemmas.{Each-zip, Each-map}
+use Rattle.lk_unify.specs.Openings.{OpenRow, only_tail}
 use Rattle.lk_unify.specs.Shapes.{found_at, plain_of, value_at, IsPlain, IsRowOf, missing, keep_missing, common, pair_common, Equates, IsDistinct, AreFound}
 use Rattle.lk_unify.specs.Values.{Value, Plain, OfRow}
 use Rattle.lk_unify.specs.declared.node.Field.{Field}
 
-pub same_rows : (m n : Row) → ((l : Label) → fin.get m l ≡ fin.get n l) → m ≡ n
-same_rows m n h = fin.same_map nat_list_cmp_total (fin.slice_cmp-IsAntisymmetric fin.nat_cmp-IsAntisymmetric) m n h
+-- the fields of a row
+abbrev pub RowFields : Type 0
+RowFields = fin.FinMap label_order Ty
+
+-- the row with one field more
+abbrev pub one_more : OpenRow → Label → Ty → OpenRow
+one_more m l t = record { fields = fin.insert m.fields l t; tail = m.tail }
+
+pub same_rows : (m n : OpenRow) → ((l : Label) → fin.get m.fields l ≡ fin.get n.fields l) → m.tail ≡ n.tail → m ≡ n
+same_rows m n h e =
+    let f = fin.same_map nat_list_cmp_total (fin.slice_cmp-IsAntisymmetric fin.nat_cmp-IsAntisymmetric) m.fields n.fields h in
+    λ i. record { fields = f i; tail = e i }
 
 pub bool_cases : (b : Bool) → (b ≡ true) ⊎ (b ≡ false)
 bool_cases true = inl refl
@@ -121,7 +133,7 @@ found_label Q (f ∷ fs) l x e is =
 pub plain_same : (a b : Value) → IsPlain a → plain_of a ≡ plain_of b → IsPlain b → a ≡ b
 plain_same (Plain s) (Plain t) p e q = ap Plain (some-some' e)
   where
-    some-some' : {s t : Ground} → Some s ≡ Some t → s ≡ t
+    some-some' : {s t : Ty} → Some s ≡ Some t → s ≡ t
     some-some' e = cc
 plain_same (Plain s) (OfRow m) p e q = absurd (none-some s (sym e))
 plain_same (OfRow m) b p e q = let f : OfRow m ≡ Plain p.0 = p.1 in cc
@@ -130,7 +142,7 @@ pub plain_some : (a : Value) → IsPlain a → plain_of a ≡ None → ⊥
 plain_some (Plain s) p e = none-some s (sym e)
 plain_some (OfRow m) p e = let f : OfRow m ≡ Plain p.0 = p.1 in cc
 
-pub row_same : (m n : Row) → OfRow m ≡ OfRow n → m ≡ n
+pub row_same : (m n : OpenRow) → OfRow m ≡ OfRow n → m ≡ n
 row_same m n e = cc
 
 -- ---- one row in two ways
@@ -142,18 +154,18 @@ module _ (w : ℕ → Value) (fs gs : List Field) where
   missing_is' : (l : Label) (o p : Option ℕ) → found_at fs l ≡ o → found_at gs l ≡ p → found_at (missing fs gs) l ≡ unless p o
   missing_is' l o p a b = found_at-missing fs gs l ∙ (λ i. unless (b i) (a i))
 
-  at_of : (hs : List Field) (o : Option ℕ) (l : Label) (row tail : Row) → fin.get row l ≡ value_at w (found_at hs l) (fin.get tail l) → found_at hs l ≡ o → fin.get row l ≡ value_at w o (fin.get tail l)
-  at_of hs o l row tail e is = e ∙ ap (λ o. value_at w o (fin.get tail l)) is
+  at_of : (hs : List Field) (o : Option ℕ) (l : Label) (row tail : OpenRow) → fin.get row.fields l ≡ value_at w (found_at hs l) (fin.get tail.fields l) → found_at hs l ≡ o → fin.get row.fields l ≡ value_at w o (fin.get tail.fields l)
+  at_of hs o l row tail e is = e ∙ ap (λ o. value_at w o (fin.get tail.fields l)) is
 
   module _ (y z x : Value) (left : IsRowOf fs w y x) (right : IsRowOf gs w z x) where
     same_row : left.row ≡ right.row
     same_row = row_same left.row right.row (sym left.row_is ∙ right.row_is)
 
-    at_left : (l : Label) (o : Option ℕ) → found_at fs l ≡ o → fin.get left.row l ≡ value_at w o (fin.get left.tail l)
+    at_left : (l : Label) (o : Option ℕ) → found_at fs l ≡ o → fin.get left.row.fields l ≡ value_at w o (fin.get left.tail.fields l)
     at_left l o e = at_of fs o l left.row left.tail (left.at l) e
 
-    at_right : (l : Label) (o : Option ℕ) → found_at gs l ≡ o → fin.get left.row l ≡ value_at w o (fin.get right.tail l)
-    at_right l o e = ap (λ m. fin.get m l) same_row ∙ at_of gs o l right.row right.tail (right.at l) e
+    at_right : (l : Label) (o : Option ℕ) → found_at gs l ≡ o → fin.get left.row.fields l ≡ value_at w o (fin.get right.tail.fields l)
+    at_right l o e = ap (λ (m : OpenRow). fin.get m.fields l) same_row ∙ at_of gs o l right.row right.tail (right.at l) e
 
     pub rows_common : AreFound fs → Equates (common fs gs) w
     rows_common distinct =
@@ -164,15 +176,19 @@ module _ (w : ℕ → Value) (fs gs : List Field) where
         fs distinct left.plain)
 
     -- what is left of both tails
-    pub rest : Row
-    rest = fin.retain_keys left.tail (λ l. not (is_some (found_at (missing gs fs) l)))
+    pub rest : OpenRow
+    rest = record { fields = fin.retain_keys left.tail.fields (λ l. not (is_some (found_at (missing gs fs) l))); tail = left.tail.tail }
 
-    get-rest : (l : Label) (o : Option ℕ) → found_at (missing gs fs) l ≡ o → fin.get rest l ≡ cond (not (is_some o)) (fin.get left.tail l) None
+    rest_end : rest.tail ≡ left.tail.tail
+    unfolding rest
+    rest_end = refl
+
+    get-rest : (l : Label) (o : Option ℕ) → found_at (missing gs fs) l ≡ o → fin.get rest.fields l ≡ cond (not (is_some o)) (fin.get left.tail.fields l) None
     unfolding rest
     get-rest l o e =
-        fin.get-retain_keys left.tail (λ l. not (is_some (found_at (missing gs fs) l))) l
+        fin.get-retain_keys left.tail.fields (λ l. not (is_some (found_at (missing gs fs) l))) l
         (λ k t. ap (λ l. not (is_some (found_at (missing gs fs) l))) (sym (fin.slice_cmp-IsAntisymmetric fin.nat_cmp-IsAntisymmetric l k t)))
-        ∙ ap (λ o. cond (not (is_some o)) (fin.get left.tail l) None) e
+        ∙ ap (λ o. cond (not (is_some o)) (fin.get left.tail.fields l) None) e
 
     pub rows_left : AreFound gs → IsRowOf (missing gs fs) w (OfRow rest) y
     rows_left distinct = record {
@@ -182,19 +198,20 @@ module _ (w : ℕ → Value) (fs gs : List Field) where
       row_is = left.tail_is;
       plain = Each-missing (λ f. IsPlain (w f.node)) gs fs right.plain;
       fresh =
-          Each-zip (λ f. found_at gs f.label ≡ Some f.node) (λ f. found_at fs f.label ≡ None) (λ f. fin.get rest f.label ≡ None)
+          Each-zip (λ f. found_at gs f.label ≡ Some f.node) (λ f. found_at fs f.label ≡ None) (λ f. fin.get rest.fields f.label ≡ None)
           (λ f d e. get-rest f.label (Some f.node) (missing_is f.label None (Some f.node) e d)) (missing gs fs)
           (Each-missing (λ f. found_at gs f.label ≡ Some f.node) gs fs distinct) (Each-lacking gs fs);
       at = λ l. go l (found_at fs l) (found_at gs l) refl refl;
+      same_end = sym rest_end;
     }
       where
-        go : (l : Label) (o p : Option ℕ) → found_at fs l ≡ o → found_at gs l ≡ p → fin.get left.tail l ≡ value_at w (found_at (missing gs fs) l) (fin.get rest l)
-        go l None None a b = sym (ap (λ o. value_at w o (fin.get rest l)) (missing_is l None None a b) ∙ get-rest l None (missing_is l None None a b))
-        go l (Some x) None a b = sym (ap (λ o. value_at w o (fin.get rest l)) (missing_is l (Some x) None a b) ∙ get-rest l None (missing_is l (Some x) None a b))
+        go : (l : Label) (o p : Option ℕ) → found_at fs l ≡ o → found_at gs l ≡ p → fin.get left.tail.fields l ≡ value_at w (found_at (missing gs fs) l) (fin.get rest.fields l)
+        go l None None a b = sym (ap (λ o. value_at w o (fin.get rest.fields l)) (missing_is l None None a b) ∙ get-rest l None (missing_is l None None a b))
+        go l (Some x) None a b = sym (ap (λ o. value_at w o (fin.get rest.fields l)) (missing_is l (Some x) None a b) ∙ get-rest l None (missing_is l (Some x) None a b))
         go l None (Some y) a b =
-            sym (at_left l None a) ∙ at_right l (Some y) b ∙ sym (ap (λ o. value_at w o (fin.get rest l)) (missing_is l None (Some y) a b))
+            sym (at_left l None a) ∙ at_right l (Some y) b ∙ sym (ap (λ o. value_at w o (fin.get rest.fields l)) (missing_is l None (Some y) a b))
         go l (Some x) (Some y) a b =
-            sym (ap (λ o. value_at w o (fin.get rest l)) (missing_is l (Some x) (Some y) a b) ∙ get-rest l None (missing_is l (Some x) (Some y) a b))
+            sym (ap (λ o. value_at w o (fin.get rest.fields l)) (missing_is l (Some x) (Some y) a b) ∙ get-rest l None (missing_is l (Some x) (Some y) a b))
 
     pub rows_right : AreFound fs → IsRowOf (missing fs gs) w (OfRow rest) z
     rows_right distinct = record {
@@ -204,24 +221,25 @@ module _ (w : ℕ → Value) (fs gs : List Field) where
       row_is = right.tail_is;
       plain = Each-missing (λ f. IsPlain (w f.node)) fs gs left.plain;
       fresh =
-          Each-zip (λ f. found_at fs f.label ≡ Some f.node) (λ f. found_at gs f.label ≡ None) (λ f. fin.get rest f.label ≡ None)
-          (λ f d e. get-rest f.label None (missing_is f.label (Some f.node) None d e) ∙ found_label (λ l. fin.get left.tail l ≡ None) fs f.label f.node left.fresh d) (missing fs gs)
+          Each-zip (λ f. found_at fs f.label ≡ Some f.node) (λ f. found_at gs f.label ≡ None) (λ f. fin.get rest.fields f.label ≡ None)
+          (λ f d e. get-rest f.label None (missing_is f.label (Some f.node) None d e) ∙ found_label (λ l. fin.get left.tail.fields l ≡ None) fs f.label f.node left.fresh d) (missing fs gs)
           (Each-missing (λ f. found_at fs f.label ≡ Some f.node) fs gs distinct) (Each-lacking fs gs);
       at = λ l. go l (found_at fs l) (found_at gs l) refl refl;
+      same_end = sym right.same_end ∙ ap (λ (m : OpenRow). m.tail) (sym same_row) ∙ left.same_end ∙ sym rest_end;
     }
       where
-        go : (l : Label) (o p : Option ℕ) → found_at fs l ≡ o → found_at gs l ≡ p → fin.get right.tail l ≡ value_at w (found_at (missing fs gs) l) (fin.get rest l)
+        go : (l : Label) (o p : Option ℕ) → found_at fs l ≡ o → found_at gs l ≡ p → fin.get right.tail.fields l ≡ value_at w (found_at (missing fs gs) l) (fin.get rest.fields l)
         go l None None a b =
-            sym (at_right l None b) ∙ at_left l None a ∙ sym (ap (λ o. value_at w o (fin.get rest l)) (missing_is' l None None a b) ∙ get-rest l None (missing_is l None None a b))
+            sym (at_right l None b) ∙ at_left l None a ∙ sym (ap (λ o. value_at w o (fin.get rest.fields l)) (missing_is' l None None a b) ∙ get-rest l None (missing_is l None None a b))
         go l (Some x) None a b =
-            sym (at_right l None b) ∙ at_left l (Some x) a ∙ sym (ap (λ o. value_at w o (fin.get rest l)) (missing_is' l (Some x) None a b))
+            sym (at_right l None b) ∙ at_left l (Some x) a ∙ sym (ap (λ o. value_at w o (fin.get rest.fields l)) (missing_is' l (Some x) None a b))
         go l None (Some y) a b =
-            found_label (λ l. fin.get right.tail l ≡ None) gs l y right.fresh b
-            ∙ sym (ap (λ o. value_at w o (fin.get rest l)) (missing_is' l None (Some y) a b) ∙ get-rest l (Some y) (missing_is l None (Some y) a b))
+            found_label (λ l. fin.get right.tail.fields l ≡ None) gs l y right.fresh b
+            ∙ sym (ap (λ o. value_at w o (fin.get rest.fields l)) (missing_is' l None (Some y) a b) ∙ get-rest l (Some y) (missing_is l None (Some y) a b))
         go l (Some x) (Some y) a b =
-            found_label (λ l. fin.get right.tail l ≡ None) gs l y right.fresh b
-            ∙ sym (ap (λ o. value_at w o (fin.get rest l)) (missing_is' l (Some x) (Some y) a b) ∙ get-rest l None (missing_is l (Some x) (Some y) a b)
-            ∙ found_label (λ l. fin.get left.tail l ≡ None) fs l x left.fresh a)
+            found_label (λ l. fin.get right.tail.fields l ≡ None) gs l y right.fresh b
+            ∙ sym (ap (λ o. value_at w o (fin.get rest.fields l)) (missing_is' l (Some x) (Some y) a b) ∙ get-rest l None (missing_is l (Some x) (Some y) a b)
+            ∙ found_label (λ l. fin.get left.tail.fields l ≡ None) fs l x left.fresh a)
 
     -- over one tail neither has a label that the other lacks
     pub same_tail_left : y ≡ z → Each (λ f. found_at fs f.label ≡ Some f.node) (missing fs gs) → Each (λ f. ⊥) (missing fs gs)
@@ -229,20 +247,20 @@ module _ (w : ℕ → Value) (fs gs : List Field) where
         let tails : left.tail ≡ right.tail = row_same left.tail right.tail (sym left.tail_is ∙ e ∙ right.tail_is) in
         Each-zip (λ f. (found_at fs f.label ≡ Some f.node) × (found_at gs f.label ≡ None)) (λ f. IsPlain (w f.node)) (λ f. ⊥)
         (λ f d p. plain_some (w f.node) p
-        (sym (at_left f.label (Some f.node) d.0) ∙ at_right f.label None d.1 ∙ ap (λ m. fin.get m f.label) (sym tails)
-        ∙ found_label (λ l. fin.get left.tail l ≡ None) fs f.label f.node left.fresh d.0))
+        (sym (at_left f.label (Some f.node) d.0) ∙ at_right f.label None d.1 ∙ ap (λ (m : OpenRow). fin.get m.fields f.label) (sym tails)
+        ∙ found_label (λ l. fin.get left.tail.fields l ≡ None) fs f.label f.node left.fresh d.0))
         (missing fs gs)
         (Each-zip (λ f. found_at fs f.label ≡ Some f.node) (λ f. found_at gs f.label ≡ None) (λ f. (found_at fs f.label ≡ Some f.node) × (found_at gs f.label ≡ None))
         (λ f a b. (a, b)) (missing fs gs) distinct (Each-lacking fs gs))
         (Each-missing (λ f. IsPlain (w f.node)) fs gs left.plain)
 
     -- over a row without fields the first has all labels
-    pub empty_left : y ≡ OfRow fin.empty → Each (λ f. found_at gs f.label ≡ Some f.node) (missing gs fs) → Each (λ f. ⊥) (missing gs fs)
+    pub empty_left : y ≡ OfRow (only_tail Closed) → Each (λ f. found_at gs f.label ≡ Some f.node) (missing gs fs) → Each (λ f. ⊥) (missing gs fs)
     empty_left e distinct =
-        let tails : left.tail ≡ fin.empty = row_same left.tail fin.empty (sym left.tail_is ∙ e) in
+        let tails : left.tail ≡ only_tail Closed = row_same left.tail (only_tail Closed) (sym left.tail_is ∙ e) in
         Each-zip (λ f. (found_at gs f.label ≡ Some f.node) × (found_at fs f.label ≡ None)) (λ f. IsPlain (w f.node)) (λ f. ⊥)
         (λ f d p. plain_some (w f.node) p
-        (sym (at_right f.label (Some f.node) d.0) ∙ at_left f.label None d.1 ∙ ap (λ m. fin.get m f.label) tails ∙ fin.get-empty label_order f.label))
+        (sym (at_right f.label (Some f.node) d.0) ∙ at_left f.label None d.1 ∙ ap (λ (m : OpenRow). fin.get m.fields f.label) tails ∙ fin.get-empty label_order f.label))
         (missing gs fs)
         (Each-zip (λ f. found_at gs f.label ≡ Some f.node) (λ f. found_at fs f.label ≡ None) (λ f. (found_at gs f.label ≡ Some f.node) × (found_at fs f.label ≡ None))
         (λ f a b. (a, b)) (missing gs fs) distinct (Each-lacking gs fs))
@@ -282,16 +300,16 @@ module _ (w : ℕ → Value) (fs gs : List Field) (y z u x : Value) (right : IsR
       subst IsPlain (sym (common_at w fs gs eqs f.label f.node n d e)) (found_prop (λ n. IsPlain (w n)) gs f.label n right.plain e)
   plain_at f d None e = found_prop (λ n. IsPlain (w n)) (missing fs gs) f.label f.node low'.plain (missing_is' w fs gs f.label (Some f.node) None d e)
 
-  fresh_at : (f : Field) → found_at fs f.label ≡ Some f.node → (o : Option ℕ) → found_at gs f.label ≡ o → fin.get low.row f.label ≡ None
+  fresh_at : (f : Field) → found_at fs f.label ≡ Some f.node → (o : Option ℕ) → found_at gs f.label ≡ o → fin.get low.row.fields f.label ≡ None
   fresh_at f d (Some n) e =
-      low.at f.label ∙ ap (λ o. value_at w o (fin.get low.tail f.label)) (missing_is w fs gs f.label (Some f.node) (Some n) d e)
-      ∙ ap (λ m. fin.get m f.label) same_low
-      ∙ sym (low'.at f.label ∙ ap (λ o. value_at w o (fin.get low'.tail f.label)) (missing_is' w fs gs f.label (Some f.node) (Some n) d e))
-      ∙ ap (λ m. fin.get m f.label) (sym same_mid) ∙ found_label (λ l. fin.get right.tail l ≡ None) gs f.label n right.fresh e
+      low.at f.label ∙ ap (λ o. value_at w o (fin.get low.tail.fields f.label)) (missing_is w fs gs f.label (Some f.node) (Some n) d e)
+      ∙ ap (λ (m : OpenRow). fin.get m.fields f.label) same_low
+      ∙ sym (low'.at f.label ∙ ap (λ o. value_at w o (fin.get low'.tail.fields f.label)) (missing_is' w fs gs f.label (Some f.node) (Some n) d e))
+      ∙ ap (λ (m : OpenRow). fin.get m.fields f.label) (sym same_mid) ∙ found_label (λ l. fin.get right.tail.fields l ≡ None) gs f.label n right.fresh e
   fresh_at f d None e =
-      low.at f.label ∙ ap (λ o. value_at w o (fin.get low.tail f.label)) (missing_is w fs gs f.label (Some f.node) None d e)
-      ∙ ap (λ m. fin.get m f.label) same_low
-      ∙ found_label (λ l. fin.get low'.tail l ≡ None) (missing fs gs) f.label f.node low'.fresh (missing_is' w fs gs f.label (Some f.node) None d e)
+      low.at f.label ∙ ap (λ o. value_at w o (fin.get low.tail.fields f.label)) (missing_is w fs gs f.label (Some f.node) None d e)
+      ∙ ap (λ (m : OpenRow). fin.get m.fields f.label) same_low
+      ∙ found_label (λ l. fin.get low'.tail.fields l ≡ None) (missing fs gs) f.label f.node low'.fresh (missing_is' w fs gs f.label (Some f.node) None d e)
 
   pub rows_rebuilt : IsRowOf fs w y x
   rows_rebuilt = record {
@@ -300,27 +318,28 @@ module _ (w : ℕ → Value) (fs gs : List Field) (y z u x : Value) (right : IsR
     tail_is = low.row_is;
     row_is = right.row_is;
     plain = Each-map (λ f. found_at fs f.label ≡ Some f.node) (λ f. IsPlain (w f.node)) (λ f d. plain_at f d (found_at gs f.label) refl) fs distinct;
-    fresh = Each-map (λ f. found_at fs f.label ≡ Some f.node) (λ f. fin.get low.row f.label ≡ None) (λ f d. fresh_at f d (found_at gs f.label) refl) fs distinct;
+    fresh = Each-map (λ f. found_at fs f.label ≡ Some f.node) (λ f. fin.get low.row.fields f.label ≡ None) (λ f d. fresh_at f d (found_at gs f.label) refl) fs distinct;
     at = λ l. go l (found_at fs l) (found_at gs l) refl refl;
+    same_end = right.same_end ∙ ap (λ (m : OpenRow). m.tail) same_mid ∙ low'.same_end ∙ ap (λ (m : OpenRow). m.tail) (sym same_low) ∙ sym low.same_end;
   }
     where
       -- right.tail at a label
-      mid : (l : Label) (o p : Option ℕ) → found_at fs l ≡ o → found_at gs l ≡ p → fin.get right.tail l ≡ value_at w (unless p o) (fin.get low.tail l)
+      mid : (l : Label) (o p : Option ℕ) → found_at fs l ≡ o → found_at gs l ≡ p → fin.get right.tail.fields l ≡ value_at w (unless p o) (fin.get low.tail.fields l)
       mid l o p a b =
-          ap (λ m. fin.get m l) same_mid ∙ low'.at l ∙ ap (λ o. value_at w o (fin.get low'.tail l)) (missing_is' w fs gs l o p a b)
-          ∙ ap (λ m. value_at w (unless p o) (fin.get m l)) (sym same_low)
+          ap (λ (m : OpenRow). fin.get m.fields l) same_mid ∙ low'.at l ∙ ap (λ o. value_at w o (fin.get low'.tail.fields l)) (missing_is' w fs gs l o p a b)
+          ∙ ap (λ (m : OpenRow). value_at w (unless p o) (fin.get m.fields l)) (sym same_low)
 
-      go : (l : Label) (o p : Option ℕ) → found_at fs l ≡ o → found_at gs l ≡ p → fin.get right.row l ≡ value_at w (found_at fs l) (fin.get low.row l)
+      go : (l : Label) (o p : Option ℕ) → found_at fs l ≡ o → found_at gs l ≡ p → fin.get right.row.fields l ≡ value_at w (found_at fs l) (fin.get low.row.fields l)
       go l None None a b =
-          right.at l ∙ ap (λ o. value_at w o (fin.get right.tail l)) b ∙ mid l None None a b
-          ∙ sym (ap (λ o. value_at w o (fin.get low.row l)) a ∙ low.at l ∙ ap (λ o. value_at w o (fin.get low.tail l)) (missing_is w fs gs l None None a b))
+          right.at l ∙ ap (λ o. value_at w o (fin.get right.tail.fields l)) b ∙ mid l None None a b
+          ∙ sym (ap (λ o. value_at w o (fin.get low.row.fields l)) a ∙ low.at l ∙ ap (λ o. value_at w o (fin.get low.tail.fields l)) (missing_is w fs gs l None None a b))
       go l (Some x) None a b =
-          right.at l ∙ ap (λ o. value_at w o (fin.get right.tail l)) b ∙ mid l (Some x) None a b ∙ sym (ap (λ o. value_at w o (fin.get low.row l)) a)
+          right.at l ∙ ap (λ o. value_at w o (fin.get right.tail.fields l)) b ∙ mid l (Some x) None a b ∙ sym (ap (λ o. value_at w o (fin.get low.row.fields l)) a)
       go l None (Some y) a b =
-          right.at l ∙ ap (λ o. value_at w o (fin.get right.tail l)) b
-          ∙ sym (ap (λ o. value_at w o (fin.get low.row l)) a ∙ low.at l ∙ ap (λ o. value_at w o (fin.get low.tail l)) (missing_is w fs gs l None (Some y) a b))
+          right.at l ∙ ap (λ o. value_at w o (fin.get right.tail.fields l)) b
+          ∙ sym (ap (λ o. value_at w o (fin.get low.row.fields l)) a ∙ low.at l ∙ ap (λ o. value_at w o (fin.get low.tail.fields l)) (missing_is w fs gs l None (Some y) a b))
       go l (Some x) (Some y) a b =
-          right.at l ∙ ap (λ o. value_at w o (fin.get right.tail l)) b ∙ ap plain_of (sym (common_at w fs gs eqs l x y a b)) ∙ sym (ap (λ o. value_at w o (fin.get low.row l)) a)
+          right.at l ∙ ap (λ o. value_at w o (fin.get right.tail.fields l)) b ∙ ap plain_of (sym (common_at w fs gs eqs l x y a b)) ∙ sym (ap (λ o. value_at w o (fin.get low.row.fields l)) a)
 
 -- ---- labels that stand once
 
