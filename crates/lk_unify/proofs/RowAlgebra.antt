@@ -154,7 +154,8 @@ module _ (w : ℕ → Value) (fs gs : List Field) where
   missing_is' : (l : Label) (o p : Option ℕ) → found_at fs l ≡ o → found_at gs l ≡ p → found_at (missing fs gs) l ≡ unless p o
   missing_is' l o p a b = found_at-missing fs gs l ∙ (λ i. unless (b i) (a i))
 
-  at_of : (hs : List Field) (o : Option ℕ) (l : Label) (row tail : OpenRow) → fin.get row.fields l ≡ value_at w (found_at hs l) (fin.get tail.fields l) → found_at hs l ≡ o → fin.get row.fields l ≡ value_at w o (fin.get tail.fields l)
+  at_of : (hs : List Field) (o : Option ℕ) (l : Label) (row tail : OpenRow) → fin.get row.fields l ≡ value_at w (found_at hs l) (fin.get tail.fields l)
+      → found_at hs l ≡ o → fin.get row.fields l ≡ value_at w o (fin.get tail.fields l)
   at_of hs o l row tail e is = e ∙ ap (λ o. value_at w o (fin.get tail.fields l)) is
 
   module _ (y z x : Value) (left : IsRowOf fs w y x) (right : IsRowOf gs w z x) where

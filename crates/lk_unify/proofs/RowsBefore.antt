@@ -52,7 +52,8 @@ nothing_behind w (Some n) below p e = absurd (plain_some (w n) (p n refl) e)
 
 -- what a row has at a label
 at_row : (w : ℕ → Value) (fs : List Field) (y m : OpenRow) → IsRowOf fs w (OfRow y) (OfRow m) → (l : Label) → fin.get m.fields l ≡ value_at w (found_at fs l) (fin.get y.fields l)
-at_row w fs y m q l = ap (λ (r : OpenRow). fin.get r.fields l) (row_same m q.row q.row_is) ∙ q.at l ∙ ap (λ (r : OpenRow). value_at w (found_at fs l) (fin.get r.fields l)) (row_same q.tail y (sym q.tail_is))
+at_row w fs y m q l =
+    ap (λ (r : OpenRow). fin.get r.fields l) (row_same m q.row q.row_is) ∙ q.at l ∙ ap (λ (r : OpenRow). value_at w (found_at fs l) (fin.get r.fields l)) (row_same q.tail y (sym q.tail_is))
 
 -- and where it ends
 end_row : (w : ℕ → Value) (fs : List Field) (y m : OpenRow) → IsRowOf fs w (OfRow y) (OfRow m) → m.tail ≡ y.tail
@@ -96,7 +97,18 @@ some_row y x e = cc
 
 -- the row is what stands before
 pub before_is : (w : ℕ → Value) (fs : List Field) (ks : List Opened) (y x : OpenRow) → AreKnown w fs ks → before_open ks y ≡ Some x → IsRowOf fs w (OfRow y) (OfRow x)
-before_is w [] [] y x known e = record { tail = y; row = x; tail_is = refl; row_is = refl; plain = tt; fresh = tt; at = λ l. ap (λ (r : OpenRow). fin.get r.fields l) (sym (some_row y x e)); same_end = ap (λ (r : OpenRow). r.tail) (sym (some_row y x e)) }
+before_is w [] [] y x known e =
+    let same : x ≡ y = sym (some_row y x e) in
+    record {
+      tail = y;
+      row = x;
+      tail_is = refl;
+      row_is = refl;
+      plain = tt;
+      fresh = tt;
+      at = λ l. ap (λ (r : OpenRow). fin.get r.fields l) same;
+      same_end = ap (λ (r : OpenRow). r.tail) same;
+    }
 before_is w [] (k ∷ ks) y x known e = absurd known
 before_is w (f ∷ fs) [] y x known e = absurd known
 before_is w (f ∷ fs) (k ∷ ks) y x known e =

@@ -182,7 +182,8 @@ plain_size (Plain t) p = refl
 plain_size (OfRow m) p = let f : OfRow m ≡ Plain p.0 = p.1 in cc
 
 size-map_with :
-    (fs : List Field) (w : ℕ → Value) (r : RowFields) → Each (λ f. IsPlain (w f.node)) fs → IsDistinct fs → Each (λ f. fin.get r f.label ≡ None) fs → map_size (map_with fs w r) ≡ fields_size fs w + map_size r
+    (fs : List Field) (w : ℕ → Value) (r : RowFields) → Each (λ f. IsPlain (w f.node)) fs → IsDistinct fs → Each (λ f. fin.get r f.label ≡ None) fs
+    → map_size (map_with fs w r) ≡ fields_size fs w + map_size r
 size-map_with [] w r p d fresh = omega arith
 size-map_with (f ∷ fs) w r p d fresh =
     let free : fin.get (map_with fs w r) f.label ≡ None = get-map_with fs w r p.1 f.label ∙ ap (λ o. value_at w o (fin.get r f.label)) d.0 ∙ fresh.0 in
@@ -192,7 +193,8 @@ size-map_with (f ∷ fs) w r p d fresh =
     omega arith
 
 size-row_with :
-    (fs : List Field) (w : ℕ → Value) (r : OpenRow) → Each (λ f. IsPlain (w f.node)) fs → IsDistinct fs → Each (λ f. fin.get r.fields f.label ≡ None) fs → row_size (row_with fs w r) ≡ fields_size fs w + row_size r
+    (fs : List Field) (w : ℕ → Value) (r : OpenRow) → Each (λ f. IsPlain (w f.node)) fs → IsDistinct fs → Each (λ f. fin.get r.fields f.label ≡ None) fs
+    → row_size (row_with fs w r) ≡ fields_size fs w + row_size r
 unfolding row_size
 size-row_with fs w r p d fresh = size-map_with fs w r.fields p d fresh
 
