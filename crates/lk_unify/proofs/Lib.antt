@@ -24,6 +24,7 @@ pub mod Loose
 pub mod Mades
 pub mod Merged
 pub mod Models
+pub mod OpenUnfold
 pub mod Ordered
 pub mod Pairs
 pub mod Ranks

@@ -1,43 +1,24 @@
--- A set of effects is known from its row, and one effect more is one field more.
-use Rattle.std.proofs.Common.{◌≡◌, Bool, true, false, ◌⊎◌, inl, inr, ⊎_elim, List, [], ◌∷◌, map, Option, Some, None, refl, sym, ◌∙◌, ap, subst, cond, ◌||◌}
-use Rattle.std.specs.Cmp.Lexicographic.{nat_list_cmp_total, bytes_decides}
+-- Effects are known from their row, and one effect more is one field more.
+use Rattle.std.proofs.Common.{◌≡◌, Bool, true, false, ⊎_elim, List, [], ◌∷◌, map, Option, Some, None, refl, sym, ◌∙◌, ap, ◌||◌}
+use Rattle.std.specs.Cmp.Lexicographic.{bytes_decides}
 use Rattle.std.specs.FinMap as fin
-use Rattle.std.specs.List.{filter}
 use Rattle.std.specs.Option.{option_map}
 use Rattle.std.specs.Prelude.{is_some, if◌then◌else◌}
 use Rattle.std.specs.Str.{bytes_eq}
-use Rattle.lk_types.specs.Each.{OneOf}
-use Rattle.lk_types.specs.Grounding.{Known, before_row, before_effects}
-use Rattle.lk_types.specs.Rows.{Label, Row, EffectSet, has_label, with_field, with_effect, same_effect}
+use Rattle.lk_types.specs.Grounding.{before_effects}
+use Rattle.lk_types.specs.Rows.{EffectSet, with_effect, same_effect}
 use Rattle.lk_types.specs.TypeText.{effect_word}
-use Rattle.lk_types.specs.declared.ground.Ground.{Ground}
-use Rattle.lk_types.specs.declared.ground.Ground.TheVariants as ground
 use Rattle.lk_types.specs.declared.ty.Effect.{Effect}
 use Rattle.lk_types.specs.declared.ty.Effect.TheVariants.{Local, Move, Print, Rec, Scan, Trap, Write}
-use Rattle.lk_unify.proofs.EffectRows.{IsEffectRow, IsEffectRow-empty, IsEffectRow-insert, set_in, its_effects}
-use Rattle.lk_unify.proofs.RowAlgebra.{label_cases}
-use Rattle.lk_unify.proofs.Sizes.{ties, no_ties}
+use Rattle.lk_types.specs.declared.ty.RowTail.{RowTail}
+use Rattle.lk_unify.proofs.EffectRows.{IsEffectRow-insert, set_in, effects_in, its_effects}
+use Rattle.lk_unify.proofs.EffectSets.{IsEffectRow-effect_row, set_in-effect_row}
+use Rattle.lk_unify.proofs.RowAlgebra.{one_more, label_cases}
+use Rattle.lk_unify.proofs.RowsBefore.{hit, miss}
+use Rattle.lk_unify.specs.Openings.{OpenEffects, Opened, unit_type, with_opened, before_open, before_open_effects}
 use Rattle.lk_unify.specs.Values.{effect_row}
 
 -- ---- the names of effects
-
-effect_named : Label → Effect
-effect_named l =
-    cond (bytes_eq l (effect_word Local)) Local (cond (bytes_eq l (effect_word Move)) Move (cond (bytes_eq l (effect_word Print)) Print
-    (cond (bytes_eq l (effect_word Rec)) Rec (cond (bytes_eq l (effect_word Scan)) Scan (cond (bytes_eq l (effect_word Trap)) Trap Write)))))
-
-named_word : (e : Effect) → effect_named (effect_word e) ≡ e
-unfolding effect_named
-named_word Local = refl
-named_word Move = refl
-named_word Print = refl
-named_word Rec = refl
-named_word Scan = refl
-named_word Trap = refl
-named_word Write = refl
-
-word_once : (e x : Effect) → effect_word e ≡ effect_word x → e ≡ x
-word_once e x h = sym (named_word e) ∙ ap effect_named h ∙ named_word x
 
 same_words : (e x : Effect) → same_effect e x ≡ bytes_eq (effect_word x) (effect_word e)
 same_words Local Local = refl
@@ -90,127 +71,52 @@ same_words Write Scan = refl
 same_words Write Trap = refl
 same_words Write Write = refl
 
--- ---- what a row of effects has at a label
+-- ---- the effects of a row
 
-hit : (m : Row) (k : Label) (t : Ground) (l : Label) → l ≡ k → fin.get (fin.insert m k t) l ≡ Some t
-hit m k t l e = fin.get-insert nat_list_cmp_total m k t l ∙ ap (λ b. cond b (Some t) (fin.get m l)) (ties l k e)
-
-miss : (m : Row) (k : Label) (t : Ground) (l : Label) → (l ≡ k → ⊥) → fin.get (fin.insert m k t) l ≡ fin.get m l
-miss m k t l n = fin.get-insert nat_list_cmp_total m k t l ∙ ap (λ b. cond b (Some t) (fin.get m l)) (no_ties l k n)
-
-abbrev row_of : EffectSet → List Effect → Row
-row_of s es = fin.from_entries (map (λ e. (effect_word e, ground.Fields [])) (filter s es))
-
-either : (b : Bool) → (b ≡ true) ⊎ (b ≡ false)
-either true = inl refl
-either false = inr refl
-
-taken : (s : EffectSet) (e : Effect) (es : List Effect) → s e ≡ true → row_of s (e ∷ es) ≡ fin.insert (row_of s es) (effect_word e) (ground.Fields [])
-taken s e es h = ap (λ b. fin.from_entries (map (λ e. (effect_word e, ground.Fields [])) (cond b (e ∷ filter s es) (filter s es)))) h
-
-left : (s : EffectSet) (e : Effect) (es : List Effect) → s e ≡ false → row_of s (e ∷ es) ≡ row_of s es
-left s e es h = ap (λ b. fin.from_entries (map (λ e. (effect_word e, ground.Fields [])) (cond b (e ∷ filter s es) (filter s es)))) h
-
-is_row_of : (s : EffectSet) (es : List Effect) → IsEffectRow (row_of s es)
-is_row_of s [] = IsEffectRow-empty
-is_row_of s (e ∷ es) =
-    ⊎_elim
-    (λ (h : s e ≡ true). subst IsEffectRow (sym (taken s e es h)) (IsEffectRow-insert (row_of s es) (effect_word e) (e, refl) (is_row_of s es)))
-    (λ (h : s e ≡ false). subst IsEffectRow (sym (left s e es h)) (is_row_of s es))
-    (either (s e))
-
-is_effect_row : (s : EffectSet) → IsEffectRow (effect_row s)
-is_effect_row s = is_row_of s (Local ∷ Move ∷ Print ∷ Rec ∷ Scan ∷ Trap ∷ Write ∷ [])
-
-label_same : (e x : Effect) → (e ≡ x) ⊎ (effect_word x ≡ effect_word e → ⊥)
-label_same e x =
-    ⊎_elim
-    (λ (h : (bytes_eq (effect_word x) (effect_word e) ≡ true) × (effect_word x ≡ effect_word e)). inl (word_once e x (sym h.1)))
-    (λ (h : bytes_eq (effect_word x) (effect_word e) ≡ false).
-    inr (λ same. (let t : false ≡ true = sym h ∙ (bytes_decides (effect_word x) (effect_word e)).1 same in cc)))
-    (label_cases (effect_word x) (effect_word e))
-
-lacks : (s : EffectSet) (es : List Effect) (x : Effect) → s x ≡ false → fin.get (row_of s es) (effect_word x) ≡ None
-lacks s [] x n = fin.get-empty _ (effect_word x)
-lacks s (e ∷ es) x n =
-    ⊎_elim
-    (λ (h : s e ≡ true).
-    ap (λ m. fin.get m (effect_word x)) (taken s e es h)
-    ∙ miss (row_of s es) (effect_word e) (ground.Fields []) (effect_word x) (λ same. (let t : true ≡ false = sym h ∙ ap s (word_once e x (sym same)) ∙ n in cc))
-    ∙ lacks s es x n)
-    (λ (h : s e ≡ false). ap (λ m. fin.get m (effect_word x)) (left s e es h) ∙ lacks s es x n)
-    (either (s e))
-
-has : (s : EffectSet) (es : List Effect) (x : Effect) → OneOf (λ e. e ≡ x) es → s x ≡ true → fin.get (row_of s es) (effect_word x) ≡ Some (ground.Fields [])
-has s [] x o h = absurd o
-has s (e ∷ es) x (inl same) h =
-    ap (λ m. fin.get m (effect_word x)) (taken s e es (ap s same ∙ h)) ∙ hit (row_of s es) (effect_word e) (ground.Fields []) (effect_word x) (ap effect_word (sym same))
-has s (e ∷ es) x (inr o) h =
-    ⊎_elim
-    (λ (t : s e ≡ true).
-    ap (λ m. fin.get m (effect_word x)) (taken s e es t)
-    ∙ ⊎_elim
-    (λ (a : e ≡ x). hit (row_of s es) (effect_word e) (ground.Fields []) (effect_word x) (ap effect_word (sym a)))
-    (λ (a : effect_word x ≡ effect_word e → ⊥). miss (row_of s es) (effect_word e) (ground.Fields []) (effect_word x) a ∙ has s es x o h)
-    (label_same e x))
-    (λ (f : s e ≡ false). ap (λ m. fin.get m (effect_word x)) (left s e es f) ∙ has s es x o h)
-    (either (s e))
-
-all_effects : (x : Effect) → OneOf (λ e. e ≡ x) (Local ∷ Move ∷ Print ∷ Rec ∷ Scan ∷ Trap ∷ Write ∷ [])
-all_effects Local = inl refl
-all_effects Move = inr (inl refl)
-all_effects Print = inr (inr (inl refl))
-all_effects Rec = inr (inr (inr (inl refl)))
-all_effects Scan = inr (inr (inr (inr (inl refl))))
-all_effects Trap = inr (inr (inr (inr (inr (inl refl)))))
-all_effects Write = inr (inr (inr (inr (inr (inr (inl refl))))))
-
-in_set : (s : EffectSet) (x : Effect) → set_in (effect_row s) x ≡ s x
-in_set s x =
-    ⊎_elim
-    (λ (h : s x ≡ true). ap is_some (has s (Local ∷ Move ∷ Print ∷ Rec ∷ Scan ∷ Trap ∷ Write ∷ []) x (all_effects x) h) ∙ sym h)
-    (λ (h : s x ≡ false). ap is_some (lacks s (Local ∷ Move ∷ Print ∷ Rec ∷ Scan ∷ Trap ∷ Write ∷ []) x h) ∙ sym h)
-    (either (s x))
-
--- the effects of a set's row
-pub set_back : (s : EffectSet) → set_in (effect_row s) ≡ s
-set_back s i x = in_set s x i
-
--- the row says which effects there are
-pub effect_row-once : (s t : EffectSet) → effect_row s ≡ effect_row t → s ≡ t
-effect_row-once s t e = sym (set_back s) ∙ ap set_in e ∙ set_back t
+-- the effects of their row
+pub set_back : (s : OpenEffects) → effects_in (effect_row s) ≡ s
+set_back s i = record { labels = λ x. set_in-effect_row s x i; tail = s.tail }
 
 -- ---- one effect more
 
-with_one : (e : Effect) (s : EffectSet) (x : Effect) → set_in (fin.insert (effect_row s) (effect_word e) (ground.Fields [])) x ≡ (same_effect e x || s x)
+with_one : (e : Effect) (s : OpenEffects) (x : Effect) → set_in (one_more (effect_row s) (effect_word e) unit_type) x ≡ (same_effect e x || s.labels x)
 with_one e s x =
     ⊎_elim
     (λ (h : (bytes_eq (effect_word x) (effect_word e) ≡ true) × (effect_word x ≡ effect_word e)).
-    ap is_some (hit (effect_row s) (effect_word e) (ground.Fields []) (effect_word x) h.1) ∙ sym (ap (λ b. b || s x) (same_words e x ∙ h.0)))
+    ap is_some (hit (effect_row s).fields (effect_word e) unit_type (effect_word x) h.1) ∙ sym (ap (λ b. b || s.labels x) (same_words e x ∙ h.0)))
     (λ (h : bytes_eq (effect_word x) (effect_word e) ≡ false).
-    ap is_some (miss (effect_row s) (effect_word e) (ground.Fields []) (effect_word x) (λ same. (let t : false ≡ true = sym h ∙ (bytes_decides (effect_word x) (effect_word e)).1 same in cc)))
-    ∙ in_set s x ∙ sym (ap (λ b. b || s x) (same_words e x ∙ h)))
+    ap is_some (miss (effect_row s).fields (effect_word e) unit_type (effect_word x)
+        (λ same. (let t : false ≡ true = sym h ∙ (bytes_decides (effect_word x) (effect_word e)).1 same in cc)))
+    ∙ set_in-effect_row s x ∙ sym (ap (λ b. b || s.labels x) (same_words e x ∙ h)))
     (label_cases (effect_word x) (effect_word e))
 
-insert_effect : (e : Effect) (s : EffectSet) → fin.insert (effect_row s) (effect_word e) (ground.Fields []) ≡ effect_row (λ x. same_effect e x || s x)
+-- the effects with this end
+abbrev ended : RowTail → EffectSet → OpenEffects
+ended tail labels = record { labels = labels; tail = tail }
+
+insert_effect : (e : Effect) (s : OpenEffects) → one_more (effect_row s) (effect_word e) unit_type ≡ effect_row (ended s.tail (λ x. same_effect e x || s.labels x))
 insert_effect e s =
-    its_effects (fin.insert (effect_row s) (effect_word e) (ground.Fields [])) (IsEffectRow-insert (effect_row s) (effect_word e) (e, refl) (is_effect_row s))
-    ∙ (λ i. effect_row (λ x. with_one e s x i))
+    its_effects (one_more (effect_row s) (effect_word e) unit_type) (IsEffectRow-insert (effect_row s) (effect_word e) (e, refl) (IsEffectRow-effect_row s))
+    ∙ (λ i. effect_row (ended s.tail (λ x. with_one e s x i)))
 
 -- an effect as a field whose type is known
-abbrev pub known_effect : Effect → Known
-known_effect e = (effect_word e, Some (ground.Fields []))
+abbrev pub known_effect : Effect → Opened
+known_effect e = (effect_word e, Some unit_type)
 
-one_more : (e : Effect) (o : Option EffectSet) → with_field (effect_word e) (Some (ground.Fields [])) (option_map effect_row o) ≡ option_map effect_row (with_effect e o)
-one_more e None = refl
-one_more e (Some s) = by_test (s e) (in_set s e)
+one_effect : (e : Effect) (tail : RowTail) (o : Option EffectSet) → with_opened (effect_word e) (Some unit_type) (option_map effect_row (option_map (ended tail) o))
+    ≡ option_map effect_row (option_map (ended tail) (with_effect e o))
+one_effect e tail None = refl
+one_effect e tail (Some s) = by_test (s e) (set_in-effect_row (ended tail s) e)
   where
-    by_test : (b : Bool) → has_label (effect_row s) (effect_word e) ≡ b
-        → with_field (effect_word e) (Some (ground.Fields [])) (Some (effect_row s)) ≡ option_map effect_row (if b then None else Some (λ x. same_effect e x || s x))
-    by_test true is = ap (λ b. if b then None else Some (fin.insert (effect_row s) (effect_word e) (ground.Fields []))) is
-    by_test false is = ap (λ b. if b then None else Some (fin.insert (effect_row s) (effect_word e) (ground.Fields []))) is ∙ ap Some (insert_effect e s)
+    by_test : (b : Bool) → fin.contains_key (effect_row (ended tail s)).fields (effect_word e) ≡ b
+        → with_opened (effect_word e) (Some unit_type) (Some (effect_row (ended tail s)))
+        ≡ option_map effect_row (option_map (ended tail) (if b then None else Some (λ x. same_effect e x || s x)))
+    by_test true is = ap (λ b. if b then None else Some (one_more (effect_row (ended tail s)) (effect_word e) unit_type)) is
+    by_test false is =
+        ap (λ b. if b then None else Some (one_more (effect_row (ended tail s)) (effect_word e) unit_type)) is ∙ ap Some (insert_effect e (ended tail s))
 
--- the row of a set with effects before it
-pub before_effect_row : (es : List Effect) (s : EffectSet) → before_row (map known_effect es) (effect_row s) ≡ option_map effect_row (before_effects es s)
+-- the row of effects with more of them before it
+pub before_effect_row : (es : List Effect) (s : OpenEffects) → before_open (map known_effect es) (effect_row s) ≡ option_map effect_row (before_open_effects es s)
 before_effect_row [] s = refl
-before_effect_row (e ∷ es) s = ap (with_field (effect_word e) (Some (ground.Fields []))) (before_effect_row es s) ∙ one_more e (before_effects es s)
+before_effect_row (e ∷ es) s =
+    ap (with_opened (effect_word e) (Some unit_type)) (before_effect_row es s) ∙ one_effect e s.tail (before_effects es s.labels)

@@ -3,7 +3,7 @@ use Rattle.std.proofs.Common.{◌≡◌, ◌≢◌, ℕ, ◌<◌, ◌≤◌, ⊎
 use Rattle.std.proofs.lemmas.Bool.{cases_eq, eq-eqb, ne_eqb}
 use Rattle.std.specs.Prelude.{◌==◌}
 use Rattle.lk_types.specs.Each.{Each}
-use Rattle.lk_types.specs.Grounding.{Grounding}
+use Rattle.lk_unify.specs.Openings.{Opening}
 use Rattle.lk_unify.proofs.EachLemmas.{Each-map, Each-zip, Each-from_map}
 use Rattle.lk_unify.proofs.Growth.{old_shape, new_shape, old_class, new_class}
 use Rattle.lk_unify.proofs.LoadSteps.{same_names, one_longer, added_below, more_to}
@@ -176,11 +176,11 @@ kinds_more a b c P s n x longer whole f add parts fits = record {
 }
 
 -- a node on what was loaded
-module _ {A : Type 0} (a b c : Loader) (m : Grounding → Option A) (r : (ℕ → Value) → A) (s : Shape) (k : ℕ) (n : Grounding → Option Value) (l : LoadsTo a b m r) (add : Adds b c s k)
+module _ {A : Type 0} (a b c : Loader) (m : Opening → Option A) (r : (ℕ → Value) → A) (s : Shape) (k : ℕ) (n : Opening → Option Value) (l : LoadsTo a b m r) (add : Adds b c s k)
     (parts : Each (λ p. p < length b.arena.shapes) (parts_of s)) (distinct : IsDistinct (fields_in s)) (filled : HasFields s) (P : (ℕ → Kind) → Type 0) (x : Kind) (f : KindsTo a b P)
     (fits : (j : ℕ → Kind) → P j → HasKind j x s) where
-  pub loads_more : ((v : ℕ → Value) (y : Value) (σ : Grounding) → m σ ≡ Some (r v) → IsBuilt s v y → n σ ≡ Some y)
-      → ((y : Value) (σ : Grounding) → n σ ≡ Some y → (z : A) × (m σ ≡ Some z) × ((w : ℕ → Value) → r w ≡ z → IsBuilt s w y))
+  pub loads_more : ((v : ℕ → Value) (y : Value) (ρ : Opening) → m ρ ≡ Some (r v) → IsBuilt s v y → n ρ ≡ Some y)
+      → ((y : Value) (ρ : Opening) → n ρ ≡ Some y → (z : A) × (m ρ ≡ Some z) × ((w : ℕ → Value) → r w ≡ z → IsBuilt s w y))
       → Loads a c x n k
   loads_more says builds = record {
     below = added_below b c s k l.whole add parts;

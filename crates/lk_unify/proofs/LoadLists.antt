@@ -56,9 +56,9 @@ longer_below n m h k l = omega arith
 module _ (a b c : Loader) (ts : List Ty) (i : ℕ) (t : Ty) (ns : List ℕ) (n : ℕ) (h : i < length ts) (is : t ≡ get_or ts i t) (l : LoadsAll a b (types_meaning (take i ts)) ns) (m : Loads b c OfTypes (type_meaning t) n) where
   types_next : LoadsTo a c (types_meaning (take i ts ++ t ∷ [])) (λ v. map v (ns ++ n ∷ []))
   types_next =
-      loads_as a c (λ σ. both (types_meaning (take i ts) σ) (type_meaning t σ)) (λ v. (map v ns, v n)) with_last (types_meaning (take i ts ++ t ∷ [])) (λ v. map v (ns ++ n ∷ []))
+      loads_as a c (λ ρ. both (types_meaning (take i ts) ρ) (type_meaning t ρ)) (λ v. (map v ns, v n)) with_last (types_meaning (take i ts ++ t ∷ [])) (λ v. map v (ns ++ n ∷ []))
       (loads_both a b c (types_meaning (take i ts)) (λ v. map v ns) (type_meaning t) (λ v. v n) l.to m.to)
-      (λ σ. all_more (λ t. type_meaning t σ) (take i ts) t)
+      (λ ρ. all_more (λ t. type_meaning t ρ) (take i ts) t)
       (λ v. map-append v ns (n ∷ []))
 
   pub loads_types_more : LoadsAll a c (types_meaning (take (i + 1) ts)) (ns ++ n ∷ [])
@@ -75,7 +75,7 @@ module _ (a b c : Loader) (ts : List Ty) (i : ℕ) (t : Ty) (ns : List ℕ) (n :
       })
 
 pub never_types : (ts : List Ty) (i : ℕ) (t : Ty) → i < length ts → t ≡ get_or ts i t → NeverMeans (type_meaning t) → NeverMeans (types_meaning ts)
-never_types ts i t h is never σ = all_none (λ t. type_meaning t σ) ts i t h (ap (λ t. type_meaning t σ) (sym is) ∙ never σ)
+never_types ts i t h is never ρ = all_none (λ t. type_meaning t ρ) ts i t h (ap (λ t. type_meaning t ρ) (sym is) ∙ never ρ)
 
 -- ---- types of fields
 
@@ -86,10 +86,10 @@ module _ (a b c : Loader) (fs : List TyField) (i : ℕ) (f : TyField) (fields : 
     (label : g.label ≡ f.label) where
   fields_next : LoadsTo a c (fields_meaning (take i fs ++ f ∷ [])) (λ v. map (λ f. v f.node) (fields ++ g ∷ []))
   fields_next =
-      loads_as a c (λ σ. both (fields_meaning (take i fs) σ) (type_meaning f.ty σ)) (λ v. (map (λ f. v f.node) fields, v g.node)) with_last (fields_meaning (take i fs ++ f ∷ []))
+      loads_as a c (λ ρ. both (fields_meaning (take i fs) ρ) (type_meaning f.ty ρ)) (λ v. (map (λ f. v f.node) fields, v g.node)) with_last (fields_meaning (take i fs ++ f ∷ []))
       (λ v. map (λ f. v f.node) (fields ++ g ∷ []))
       (loads_both a b c (fields_meaning (take i fs)) (λ v. map (λ f. v f.node) fields) (type_meaning f.ty) (λ v. v g.node) l.to m.to)
-      (λ σ. all_more (λ f. type_meaning f.ty σ) (take i fs) f)
+      (λ ρ. all_more (λ f. type_meaning f.ty ρ) (take i fs) f)
       (λ v. map-append (λ f. v f.node) fields (g ∷ []))
 
   pub loads_fields_more : LoadsFields a c (take (i + 1) fs) (fields ++ g ∷ [])
@@ -107,4 +107,4 @@ module _ (a b c : Loader) (fs : List TyField) (i : ℕ) (f : TyField) (fields : 
       })
 
 pub never_fields : (fs : List TyField) (i : ℕ) (f : TyField) → i < length fs → f ≡ get_or fs i f → NeverMeans (type_meaning f.ty) → NeverMeans (fields_meaning fs)
-never_fields fs i f h is never σ = all_none (λ f. type_meaning f.ty σ) fs i f h (ap (λ f. type_meaning f.ty σ) (sym is) ∙ never σ)
+never_fields fs i f h is never ρ = all_none (λ f. type_meaning f.ty ρ) fs i f h (ap (λ f. type_meaning f.ty ρ) (sym is) ∙ never ρ)

@@ -3,7 +3,7 @@ use Rattle.std.proofs.Common.{[], ◌∷◌, ◌++◌, ◌≡◌, ℕ, ◌+◌, 
 use Rattle.std.specs.Map.{lookup}
 use Rattle.std.specs.Option.{option_map}
 use Rattle.lk_types.specs.Each.{Each}
-use Rattle.lk_types.specs.Grounding.{Grounding}
+use Rattle.lk_unify.specs.Openings.{Opening}
 use Rattle.lk_types.specs.Variables.{same_variable}
 use Rattle.lk_types.specs.declared.ty.TyField.{TyField}
 use Rattle.lk_types.specs.declared.ty.Variable.{Variable}
@@ -41,34 +41,34 @@ both_some (Some a) (Some b) x e = (λ i. Some ((some_once (a, b) x e i).0), λ i
 
 -- ---- loads
 
-pub agrees_before : (old new : Loader) (σ : Grounding) (v : ℕ → Value) → ((x : Variable) (n : ℕ) → node_for old x ≡ Some n → node_for new x ≡ Some n) → Agrees new σ v → Agrees old σ v
-agrees_before old new σ v kept a = record { at = λ x n e. a.at x n (kept x n e) }
+pub agrees_before : (old new : Loader) (ρ : Opening) (v : ℕ → Value) → ((x : Variable) (n : ℕ) → node_for old x ≡ Some n → node_for new x ≡ Some n) → Agrees new ρ v → Agrees old ρ v
+agrees_before old new ρ v kept a = record { at = λ x n e. a.at x n (kept x n e) }
 
 -- nothing
-pub loads_nothing : {A : Type 0} (l : Loader) (a : A) → IsLoader l → LoadsTo l l (λ σ. Some a) (λ v. a)
+pub loads_nothing : {A : Type 0} (l : Loader) (a : A) → IsLoader l → LoadsTo l l (λ ρ. Some a) (λ v. a)
 loads_nothing l a whole = record {
   whole = whole;
   longer = omega arith;
   kept = λ x n e. e;
   local = λ v w s. refl;
   back = λ v f. f;
-  is = λ v σ f g. refl;
-  forth = λ v σ x fits agrees e. (v, (λ i h. refl), fits, agrees, some_once a x e);
+  is = λ v ρ f g. refl;
+  forth = λ v ρ x fits agrees e. (v, (λ i h. refl), fits, agrees, some_once a x e);
 }
 
-pub loads_both : {A B : Type 0} (a b c : Loader) (m : Grounding → Option A) (r : (ℕ → Value) → A) (n : Grounding → Option B) (q : (ℕ → Value) → B)
-    → LoadsTo a b m r → LoadsTo b c n q → LoadsTo a c (λ σ. both (m σ) (n σ)) (λ v. (r v, q v))
+pub loads_both : {A B : Type 0} (a b c : Loader) (m : Opening → Option A) (r : (ℕ → Value) → A) (n : Opening → Option B) (q : (ℕ → Value) → B)
+    → LoadsTo a b m r → LoadsTo b c n q → LoadsTo a c (λ ρ. both (m ρ) (n ρ)) (λ v. (r v, q v))
 loads_both a b c m r n q f g = record {
   whole = g.whole;
   longer = (let x = f.longer in let y = g.longer in omega arith);
   kept = λ x k e. g.kept x k (f.kept x k e);
   local = λ v w s. (λ i. (f.local v w (λ k h. s k (let y = g.longer in omega arith)) i, g.local v w s i));
   back = λ v h. f.back v (g.back v h);
-  is = λ v σ h agrees. (λ i. both (f.is v σ (g.back v h) (agrees_before b c σ v g.kept agrees) i) (g.is v σ h agrees i));
-  forth = λ v σ x fits agrees e.
-      let s = both_some (m σ) (n σ) x e in
-      let p = f.forth v σ x.0 fits agrees s.0 in
-      let o = g.forth p.0 σ x.1 p.2 p.3 s.1 in (
+  is = λ v ρ h agrees. (λ i. both (f.is v ρ (g.back v h) (agrees_before b c ρ v g.kept agrees) i) (g.is v ρ h agrees i));
+  forth = λ v ρ x fits agrees e.
+      let s = both_some (m ρ) (n ρ) x e in
+      let p = f.forth v ρ x.0 fits agrees s.0 in
+      let o = g.forth p.0 ρ x.1 p.2 p.3 s.1 in (
         o.0,
         (λ i h. o.1 i (let y = f.longer in omega arith) ∙ p.1 i h),
         o.2,
@@ -78,18 +78,18 @@ loads_both a b c m r n q f g = record {
 }
 
 -- what is read, in other words
-pub loads_as : {A B : Type 0} (old new : Loader) (m : Grounding → Option A) (r : (ℕ → Value) → A) (f : A → B) (n : Grounding → Option B) (q : (ℕ → Value) → B)
-    → LoadsTo old new m r → ((σ : Grounding) → n σ ≡ option_map f (m σ)) → ((v : ℕ → Value) → q v ≡ f (r v)) → LoadsTo old new n q
+pub loads_as : {A B : Type 0} (old new : Loader) (m : Opening → Option A) (r : (ℕ → Value) → A) (f : A → B) (n : Opening → Option B) (q : (ℕ → Value) → B)
+    → LoadsTo old new m r → ((ρ : Opening) → n ρ ≡ option_map f (m ρ)) → ((v : ℕ → Value) → q v ≡ f (r v)) → LoadsTo old new n q
 loads_as old new m r f n q l meaning read = record {
   whole = l.whole;
   longer = l.longer;
   kept = l.kept;
   local = λ v w s. read w ∙ ap f (l.local v w s) ∙ sym (read v);
   back = l.back;
-  is = λ v σ h agrees. meaning σ ∙ ap (option_map f) (l.is v σ h agrees) ∙ ap Some (sym (read v));
-  forth = λ v σ x fits agrees e.
-      let s = mapped f (m σ) x (sym (meaning σ) ∙ e) in
-      let p = l.forth v σ s.0 fits agrees s.1 in
+  is = λ v ρ h agrees. meaning ρ ∙ ap (option_map f) (l.is v ρ h agrees) ∙ ap Some (sym (read v));
+  forth = λ v ρ x fits agrees e.
+      let s = mapped f (m ρ) x (sym (meaning ρ) ∙ e) in
+      let p = l.forth v ρ s.0 fits agrees s.1 in
       (p.0, p.1, p.2, p.3, read p.0 ∙ ap f p.4 ∙ sym s.2);
 }
 
@@ -127,16 +127,16 @@ module _ (b c : Loader) (s : Shape) (k : ℕ) (whole : IsLoader b) (add : Adds b
     named = λ x n e. (let h : n < length b.arena.shapes = whole.named x n (sym (same_names x) ∙ e) in omega (arith, one_longer));
   }
 
-  agrees_still : (σ : Grounding) (v w : ℕ → Value) → SameBelow (length b.arena.shapes) v w → Agrees b σ v → Agrees c σ w
-  agrees_still σ v w same agrees = record {
+  agrees_still : (ρ : Opening) (v w : ℕ → Value) → SameBelow (length b.arena.shapes) v w → Agrees b ρ v → Agrees c ρ w
+  agrees_still ρ v w same agrees = record {
     at = λ x n e. let f = sym (same_names x) ∙ e in same n (whole.named x n f) ∙ agrees.at x n f;
   }
 
 -- a node on what was loaded
-module _ {A : Type 0} (a b c : Loader) (m : Grounding → Option A) (r : (ℕ → Value) → A) (s : Shape) (k : ℕ) (n : Grounding → Option Value) (l : LoadsTo a b m r) (add : Adds b c s k)
+module _ {A : Type 0} (a b c : Loader) (m : Opening → Option A) (r : (ℕ → Value) → A) (s : Shape) (k : ℕ) (n : Opening → Option Value) (l : LoadsTo a b m r) (add : Adds b c s k)
     (parts : Each (λ p. p < length b.arena.shapes) (parts_of s)) (distinct : IsDistinct (fields_in s)) (filled : HasFields s) where
-  pub more_to : ((v : ℕ → Value) (x : Value) (σ : Grounding) → m σ ≡ Some (r v) → IsBuilt s v x → n σ ≡ Some x)
-      → ((x : Value) (σ : Grounding) → n σ ≡ Some x → (y : A) × (m σ ≡ Some y) × ((w : ℕ → Value) → r w ≡ y → IsBuilt s w x))
+  pub more_to : ((v : ℕ → Value) (x : Value) (ρ : Opening) → m ρ ≡ Some (r v) → IsBuilt s v x → n ρ ≡ Some x)
+      → ((x : Value) (ρ : Opening) → n ρ ≡ Some x → (y : A) × (m ρ ≡ Some y) × ((w : ℕ → Value) → r w ≡ y → IsBuilt s w x))
       → LoadsTo a c n (λ v. v k)
   more_to says builds = record {
     whole = added_whole b c s k l.whole add parts distinct filled;
@@ -144,34 +144,34 @@ module _ {A : Type 0} (a b c : Loader) (m : Grounding → Option A) (r : (ℕ �
     kept = λ x j e. same_names b c s k l.whole add parts x ∙ l.kept x j e;
     local = λ v w same. same k (added_below b c s k l.whole add parts);
     back = λ v h. l.back v (added_back b c s k l.whole add parts v h);
-    is = λ v σ h agrees.
-        says v (v k) σ
-        (l.is v σ (added_back b c s k l.whole add parts v h) (agrees_before b c σ v (λ x j e. same_names b c s k l.whole add parts x ∙ e) agrees))
+    is = λ v ρ h agrees.
+        says v (v k) ρ
+        (l.is v ρ (added_back b c s k l.whole add parts v h) (agrees_before b c ρ v (λ x j e. same_names b c s k l.whole add parts x ∙ e) agrees))
         (added_built b c s k l.whole add parts v h);
-    forth = λ v σ x fits agrees e.
-        let y = builds x σ e in
-        let p = l.forth v σ y.0 fits agrees y.1 in
+    forth = λ v ρ x fits agrees e.
+        let y = builds x ρ e in
+        let p = l.forth v ρ y.0 fits agrees y.1 in
         let h = added_node b c s k l.whole add parts p.0 x p.2 (y.2 p.0 p.4) in (
           h.0,
           (λ i q. h.1 i (let z = l.longer in omega arith) ∙ p.1 i q),
           h.2,
-          agrees_still b c s k l.whole add parts σ p.0 h.0 h.1 p.3,
+          agrees_still b c s k l.whole add parts ρ p.0 h.0 h.1 p.3,
           h.3,
         );
   }
 
 -- ---- answers
 
-pub loaded_some : (a b : Loader) (k : Kind) (m : Grounding → Option Value) (answer : Option ℕ) (n : ℕ) → answer ≡ Some n → Loaded a b k m answer → Loads a b k m n
+pub loaded_some : (a b : Loader) (k : Kind) (m : Opening → Option Value) (answer : Option ℕ) (n : ℕ) → answer ≡ Some n → Loaded a b k m answer → Loads a b k m n
 loaded_some a b k m answer n e l = subst (Loaded a b k m) e l
 
-pub loaded_none : (a b : Loader) (k : Kind) (m : Grounding → Option Value) (answer : Option ℕ) → ((n : ℕ) → answer ≡ Some n → ⊥) → Loaded a b k m answer → NeverMeans m
+pub loaded_none : (a b : Loader) (k : Kind) (m : Opening → Option Value) (answer : Option ℕ) → ((n : ℕ) → answer ≡ Some n → ⊥) → Loaded a b k m answer → NeverMeans m
 loaded_none a b k m answer n l = subst (Loaded a b k m) (none_of answer n) l
 
-pub all_some : (a b : Loader) (m : Grounding → Option (List Value)) (answer : Option (List ℕ)) (ns : List ℕ) → answer ≡ Some ns → LoadedAll a b m answer → LoadsAll a b m ns
+pub all_some : (a b : Loader) (m : Opening → Option (List Value)) (answer : Option (List ℕ)) (ns : List ℕ) → answer ≡ Some ns → LoadedAll a b m answer → LoadsAll a b m ns
 all_some a b m answer ns e l = subst (LoadedAll a b m) e l
 
-pub all_lacking : (a b : Loader) (m : Grounding → Option (List Value)) (answer : Option (List ℕ)) → ((ns : List ℕ) → answer ≡ Some ns → ⊥) → LoadedAll a b m answer → NeverMeans m
+pub all_lacking : (a b : Loader) (m : Opening → Option (List Value)) (answer : Option (List ℕ)) → ((ns : List ℕ) → answer ≡ Some ns → ⊥) → LoadedAll a b m answer → NeverMeans m
 all_lacking a b m answer n l = subst (LoadedAll a b m) (none_of answer n) l
 
 pub fields_some : (a b : Loader) (fs gs : List TyField) (answer : Option (List Field)) (fields : List Field) → gs ≡ fs → answer ≡ Some fields → LoadedFields a b gs answer → LoadsFields a b fs fields

@@ -6,7 +6,7 @@ use Rattle.std.specs.BTreeMap.{get, is_at}
 use Rattle.std.specs.Map.{lookup}
 use Rattle.std.specs.Ordering.{is_eq}
 use Rattle.lk_types.specs.Each.{Each}
-use Rattle.lk_types.specs.Grounding.{Grounding}
+use Rattle.lk_unify.specs.Openings.{Opening}
 use Rattle.lk_types.specs.Variables.{same_variable}
 use Rattle.lk_types.specs.contracts.ty.VariableOrd.TheImpl.{cmp-value}
 use Rattle.lk_types.specs.declared.ty.Variable.{Variable}
@@ -74,10 +74,10 @@ shape_filled (variable.Row n) = tt
 shape_filled (variable.Effects n) = tt
 
 -- whatever stands for a variable fits its node
-shape_fits : (x : Variable) (σ : Grounding) (v : ℕ → Value) → IsBuilt (shape_for x) v (value_of σ x)
-shape_fits (variable.Plain n) σ v = (σ.plain n, refl)
-shape_fits (variable.Row n) σ v = (σ.rows n, refl)
-shape_fits (variable.Effects n) σ v = (_, refl)
+shape_fits : (x : Variable) (ρ : Opening) (v : ℕ → Value) → IsBuilt (shape_for x) v (value_of ρ x)
+shape_fits (variable.Plain n) ρ v = (ρ.plain n, refl)
+shape_fits (variable.Row n) ρ v = (ρ.rows n, refl)
+shape_fits (variable.Effects n) ρ v = (_, refl)
 
 shape_kind : (x : Variable) (j : ℕ → Kind) → HasKind j (kind_of x) (shape_for x)
 shape_kind (variable.Plain n) j = tt
@@ -86,7 +86,7 @@ shape_kind (variable.Effects n) j = tt
 
 -- ---- a variable that has a node
 
-pub loads_known : (l : Loader) (x : Variable) (n : ℕ) → IsLoader l → node_for l x ≡ Some n → Loads l l (kind_of x) (λ σ. Some (value_of σ x)) n
+pub loads_known : (l : Loader) (x : Variable) (n : ℕ) → IsLoader l → node_for l x ≡ Some n → Loads l l (kind_of x) (λ ρ. Some (value_of ρ x)) n
 loads_known l x n whole is = record {
   below = whole.named x n is;
   kinds = record { local = λ k j same p. same n (whole.named x n is) ∙ p; kinds = λ k kinded. (k, (λ i h. refl), kinded, kinded.named x n is) };
@@ -96,8 +96,8 @@ loads_known l x n whole is = record {
     kept = λ y k e. e;
     local = λ v w same. same n (whole.named x n is);
     back = λ v h. h;
-    is = λ v σ h agrees. ap Some (sym (agrees.at x n is));
-    forth = λ v σ y fits agrees e. (v, (λ i h. refl), fits, agrees, agrees.at x n is ∙ some_once (value_of σ x) y e);
+    is = λ v ρ h agrees. ap Some (sym (agrees.at x n is));
+    forth = λ v ρ y fits agrees e. (v, (λ i h. refl), fits, agrees, agrees.at x n is ∙ some_once (value_of ρ x) y e);
   };
 }
 
@@ -163,7 +163,7 @@ module _ (b c d : Loader) (x : Variable) (k : ℕ) (whole : IsLoader b) (none : 
         );
   }
 
-  pub loads_named : Loads b d (kind_of x) (λ σ. Some (value_of σ x)) k
+  pub loads_named : Loads b d (kind_of x) (λ ρ. Some (value_of ρ x)) k
   loads_named = record {
     below = below;
     kinds = named_kinds;
@@ -179,16 +179,16 @@ module _ (b c d : Loader) (x : Variable) (k : ℕ) (whole : IsLoader b) (none : 
       kept = kept_names;
       local = λ v w same. same k below;
       back = λ v h. added_back b c (shape_for x) k whole add parts v (subst (λ a. WeakNodes a.shapes a.classes v) arena h);
-      is = λ v σ h agrees. ap Some (sym (agrees.at x k new_name));
-      forth = λ v σ y fits agrees e.
-          let s : value_of σ x ≡ y = some_once (value_of σ x) y e in
-          let h = added_node b c (shape_for x) k whole add parts v (value_of σ x) fits (shape_fits x σ v) in (
+      is = λ v ρ h agrees. ap Some (sym (agrees.at x k new_name));
+      forth = λ v ρ y fits agrees e.
+          let s : value_of ρ x ≡ y = some_once (value_of ρ x) y e in
+          let h = added_node b c (shape_for x) k whole add parts v (value_of ρ x) fits (shape_fits x ρ v) in (
             h.0,
             h.1,
             subst (λ a. FitsNodes a.shapes a.classes h.0) (sym arena) h.2,
             record {
               at = λ q n e. ⊎_elim
-                  (λ (t : (x ≡ q) × (n ≡ k)). ap h.0 t.1 ∙ h.3 ∙ ap (value_of σ) t.0)
+                  (λ (t : (x ≡ q) × (n ≡ k)). ap h.0 t.1 ∙ h.3 ∙ ap (value_of ρ) t.0)
                   (λ (o : node_for b q ≡ Some n). h.1 n (whole.named q n o) ∙ agrees.at q n o)
                   (name_cases q n e);
             },
