@@ -22,3 +22,4 @@ pub use ground_text::print_ground;
 pub use scheme::{Lack, Scheme};
 pub use ty::{Effect, Effects, RowTail, Ty, TyField, TyRow, Variable};
 pub use type_text::print_type;
+pub use variables::push_variables;

@@ -19,7 +19,7 @@ use Rattle.lk_types.specs.declared.ty.Variable.TheVariants as variable
 use Rattle.lk_unify.proofs.Grounded.{open_solves}
 use Rattle.lk_unify.proofs.OpenGround.{under_as_type, under_as_row, under_as_effects}
 use Rattle.lk_unify.proofs.OpenReads.{Reads, reads_all}
-use Rattle.lk_unify.proofs.OpenRows.{row_under_only_tail}
+use Rattle.lk_unify.proofs.OpenRows.{only_tail-under}
 use Rattle.lk_unify.proofs.OpenEffects.{effects_in_row}
 use Rattle.lk_unify.specs.Kinds.{Kind, OfTypes, OfFields, OfEffects, OfUnit, OfNothing, HasKind}
 use Rattle.lk_unify.specs.Loading.{node_for, kind_of, value_of, Agrees, IsKinded}
@@ -75,7 +75,7 @@ module _ (owner : ℕ → ℕ) (v : ℕ → Value) (kind : ℕ → Kind) (i n : 
       under_variable (grounding_at owner v) n ∙ ap Some (ap (λ j. ground_in (v j)) owned ∙ ground_in-is (v i) g is))
   loose_reads OfFields Open x h loose types rows = λ m is. (
       only_tail (Var n), rows refl,
-      row_under_only_tail (grounding_at owner v) (Var n) ∙ ap Some (ap (λ j. ground_row_in (v j)) owned ∙ ground_row_in-is (v i) m is))
+      only_tail-under (grounding_at owner v) (Var n) ∙ ap Some (ap (λ j. ground_row_in (v j)) owned ∙ ground_row_in-is (v i) m is))
   loose_reads OfEffects Open x h loose types rows = λ s is. (
       only_effects_tail (Var n), rows refl,
       ap Some (ap (λ j. ground_effects_in (v j)) owned ∙ ground_effects_in-is (v i) s is))

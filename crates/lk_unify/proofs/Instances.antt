@@ -15,8 +15,8 @@ use Rattle.lk_types.specs.declared.ty.Ty.TheVariants as ty
 use Rattle.lk_types.specs.declared.ty.Variable.{Variable}
 use Rattle.lk_types.specs.declared.ty.Variable.TheVariants as variable
 use Rattle.lk_unify.proofs.EachLemmas.{Each-append, Each-append_left, Each-append_right}
-use Rattle.lk_unify.proofs.OpenComposed.{composed}
-use Rattle.lk_unify.proofs.OpenRows.{row_under_only_tail}
+use Rattle.lk_unify.proofs.OpenComposed.{type_composed}
+use Rattle.lk_unify.proofs.OpenRows.{only_tail-under}
 use Rattle.lk_unify.specs.Openings.{Opening, OpensTo, OpenSolves, IsOpenMet, only_tail, only_effects_tail, row_type, effects_type, opened}
 
 -- the image is what the opening puts, or there is none where the opening puts the variable itself
@@ -51,7 +51,7 @@ module _ (τ : Grounding) (ρ : Opening) (n : ℕ) where
   plain_stays e = ap (under τ) e ∙ under_variable τ n
 
   row_stays : ρ.rows n ≡ only_tail (Var n) → row_under τ (row_type (ρ.rows n)) ≡ Some (τ.rows n)
-  row_stays e = ap (λ r. row_under τ (row_type r)) e ∙ row_under_only_tail τ (Var n)
+  row_stays e = ap (λ r. row_under τ (row_type r)) e ∙ only_tail-under τ (Var n)
 
   effects_stay : ρ.effects n ≡ only_effects_tail (Var n) → effects_under τ (effects_type (ρ.effects n)) ≡ Some (τ.effects n)
   effects_stay e = ap (λ s. effects_under τ (effects_type s)) e
@@ -89,7 +89,7 @@ module _ (σ : Grounding) (s : Subst) (τ : Grounding) (ρ : Opening) where
       where
         by_side : (o : Option Ground) → under σ t ≡ o → IsSome o → (g : Ground) × (under σ t ≡ Some g) × (under τ u ≡ Some g)
         by_side None e some = absurd (grind arith)
-        by_side (Some g) e some = (g, e, composed τ ρ σ t u g (open_all (variables_of t) at) is e)
+        by_side (Some g) e some = (g, e, type_composed τ ρ σ t u g (open_all (variables_of t) at) is e)
 
     met : (e : Equation) → Each (IsInstanceAt σ s τ) (variables_of e.left) → Each (IsInstanceAt σ s τ) (variables_of e.right) → IsOpenMet ρ e → HasSides σ e → IsMet σ e
     met e lefts rights both sides =

@@ -6,8 +6,8 @@
 #![tactic(auto)]
 
 mod arena;
+mod clean;
 mod counting;
-mod equations;
 mod flat;
 mod joining;
 mod kind;
@@ -20,13 +20,10 @@ mod order;
 mod solve;
 #[cfg(test)]
 mod solve_tests;
-#[cfg(test)]
-mod tests;
 
 pub use arena::Arena;
 pub use counting::Count;
-pub use equations::equate;
 pub use load::load_equation;
 pub use loader::Loader;
 pub use node::{Field, Head, Pair, Shape};
-pub use solve::first_unsolvable;
+pub use solve::{Loaded, first_unsolvable, is_solvable, load_all};

@@ -4,7 +4,7 @@ ghost use Rattle.std.specs.Prelude.{◌≡◌, ◌∷◌, [], IfOk, IsTrue, fals
 ghost use Rattle.lk_types.specs.TypeText.{effect_word};
 ghost use Rattle.lk_unify.specs.Kinds.{OfTypes, OfFields, OfEffects};
 ghost use Rattle.lk_unify.specs.Shapes.{IsDistinct};
-ghost use Rattle.lk_unify.specs.Loading.{type_meaning, types_meaning, row_meaning, effects_meaning, end_value, shape_for, kind_of, IsLoader, Adds, AddsRow, AddsFunction, Loads, LoadsEnd, Loaded, LoadedAll, LoadedFields, LoadedEquation, effect_fields};
+ghost use Rattle.lk_unify.specs.Loading.{type_meaning, types_meaning, row_meaning, effects_meaning, end_value, shape_for, kind_of, IsLoader, Adds, AddsRow, AddsFunction, Loads, LoadsEnd, Loaded, LoadedAll, LoadedFields, LoadedEquation, effect_fields, node_for};
 
 use crate::labels::node_of;
 use crate::loader::Loader;
@@ -55,9 +55,10 @@ fn add_row(loader: &mut Loader, fields: List<Field>, tail: usize) -> Result<Opti
 }
 
 /// The node of a variable.
-fn load_variable(loader: &mut Loader, variable: Variable) -> Result<usize, NoMemory>
+pub fn load_variable(loader: &mut Loader, variable: Variable) -> Result<usize, NoMemory>
     requires { IsLoader loader.old }
-    ensures { IfOk result (λ n. Loads loader.old loader.new (kind_of variable) (λ σ. Some (end_value (Some variable) σ)) n) }
+    ensures loads { IfOk result (λ n. Loads loader.old loader.new (kind_of variable) (λ ρ. Some (end_value (Some variable) ρ)) n) }
+    ensures named { IfOk result (λ n. node_for loader.new variable ≡ Some n) }
 {
     match loader.node_for(variable) {
         Some(node) => Ok(node),
