@@ -16,7 +16,8 @@ use Rattle.lk_types.specs.declared.ty.Ty.{Ty}
 use Rattle.lk_unify.proofs.RowAlgebra.{RowFields, one_more, bool_cases, same_rows, label_cases}
 use Rattle.lk_unify.proofs.Sizes.{ties, no_ties}
 use Rattle.lk_unify.specs.Kinds.{IsEffectName}
-use Rattle.lk_unify.specs.Openings.{OpenRow, OpenEffects, only_tail, unit_type}
+use Rattle.lk_unify.specs.Openings.{OpenRow, only_tail, unit_type}
+use Rattle.lk_unify.specs.Reading.{effects_in}
 use Rattle.lk_unify.specs.Values.{effect_row}
 
 tie_cases : (a b : Label) → ((eq_by_cmp label_order a b ≡ true) × (a ≡ b)) ⊎ ((eq_by_cmp label_order a b ≡ false) × (a ≡ b → ⊥))
@@ -53,9 +54,6 @@ IsEffectRow-insert m l e row q =
 -- the effects that it has
 abbrev pub set_in : OpenRow → EffectSet
 set_in m e = is_some (fin.get m.fields (effect_word e))
-
-abbrev pub effects_in : OpenRow → OpenEffects
-effects_in m = record { labels = set_in m; tail = m.tail }
 
 abbrev row_of : EffectSet → List Effect → RowFields
 row_of s es = fin.from_entries (map (λ e. (effect_word e, unit_type)) (filter s es))

@@ -1,65 +1,36 @@
 -- Each solution is an instance of what the values of the nodes put for the variables, where each class of which nothing is known
 -- stands for a variable of its own.
-use Rattle.std.proofs.Common.{◌≡◌, ℕ, ◌<◌, true, false, List, [], ◌∷◌, length, Option, Some, None, refl, sym, ◌∙◌, ap, subst, arith}
-use Rattle.std.specs.Prelude.{IsSome, unwrap_or}
+use Rattle.std.proofs.Common.{◌≡◌, ℕ, ◌<◌, true, false, List, [], ◌∷◌, length, Option, Some, None, refl, ◌∙◌, ap, subst, arith}
+use Rattle.std.specs.Prelude.{IsSome}
 use Rattle.lk_classes.specs.Classes.{class_at}
 use Rattle.lk_types.proofs.Unfold.{under_variable}
 use Rattle.lk_types.specs.Each.{Each}
 use Rattle.lk_types.specs.Grounding.{Grounding, under, row_under, effects_under}
-use Rattle.lk_types.specs.Rows.{Row, EffectSet, no_fields, no_effects}
 use Rattle.lk_types.specs.Solutions.{Solves}
 use Rattle.lk_types.specs.declared.equation.Equation.{Equation}
-use Rattle.lk_types.specs.declared.ground.Ground.{Ground}
-use Rattle.lk_types.specs.declared.ground.Ground.TheVariants as ground
 use Rattle.lk_types.specs.declared.ty.RowTail.TheVariants.{Var}
-use Rattle.lk_types.specs.declared.ty.Ty.{Ty}
 use Rattle.lk_types.specs.declared.ty.Ty.TheVariants as ty
 use Rattle.lk_types.specs.declared.ty.Variable.{Variable}
 use Rattle.lk_types.specs.declared.ty.Variable.TheVariants as variable
 use Rattle.lk_unify.proofs.Grounded.{open_solves}
-use Rattle.lk_unify.proofs.OpenGround.{under_as_type, under_as_row, under_as_effects}
-use Rattle.lk_unify.proofs.OpenReads.{Reads, reads_all}
+use Rattle.lk_unify.proofs.GroundValues.{ground_in, ground_row_in, ground_effects_in, ground_in-is, ground_row_in-is, ground_effects_in-is}
+use Rattle.lk_unify.proofs.OpenReads.{Reads}
+use Rattle.lk_unify.proofs.OpenReadsAll.{reads_all}
 use Rattle.lk_unify.proofs.OpenRows.{only_tail-under}
 use Rattle.lk_unify.proofs.OpenEffects.{effects_in_row}
 use Rattle.lk_unify.specs.Kinds.{Kind, OfTypes, OfFields, OfEffects, OfUnit, OfNothing, HasKind}
 use Rattle.lk_unify.specs.Loading.{node_for, kind_of, value_of, Agrees, IsKinded}
 use Rattle.lk_unify.specs.Models.{IsOwn}
-use Rattle.lk_unify.specs.Openings.{OpenEffects, OpensTo, as_type, as_row, as_effects, as_opening, only_tail, only_effects_tail, row_type, effects_type}
+use Rattle.lk_unify.specs.Openings.{OpensTo, as_opening, only_tail, only_effects_tail, row_type, effects_type}
 use Rattle.lk_unify.specs.Order.{IsRanked}
-use Rattle.lk_unify.specs.Reading.{type_in, row_in, effects_in, value_or, opening_by, own_variable, IsNaming}
+use Rattle.lk_unify.specs.Reading.{type_in, row_in, effects_in, value_or, opening_by, IsNaming}
 use Rattle.lk_unify.specs.Shapes.{shape_at, is_loose_shape, FitsNodes, WeakNodes}
 use Rattle.lk_unify.specs.Solving.{Says}
-use Rattle.lk_unify.specs.Values.{Value, Plain, OfRow, effect_row}
+use Rattle.lk_unify.specs.Values.{Value, Plain, OfRow}
 use Rattle.lk_unify.specs.declared.loader.Loader.{Loader}
 use Rattle.lk_unify.specs.declared.node.Shape.{Shape}
 use Rattle.lk_unify.specs.declared.node.Shape.TheVariants.{Free, Open, Empty, Made}
 use Rattle.lk_unify.specs.declared.node.Shape.TheVariants as shape
-
--- ---- the ground type that a value is, if it is one
-
--- any types for variables
-abbrev pub least_grounding : Grounding
-least_grounding = record { plain = λ n. ground.Int; rows = λ n. no_fields; effects = λ n. no_effects }
-
-abbrev pub ground_in : Value → Ground
-ground_in x = unwrap_or (under least_grounding (type_in x)) ground.Int
-
-abbrev pub ground_row_in : Value → Row
-ground_row_in x = unwrap_or (row_under least_grounding (row_type (row_in x))) no_fields
-
-abbrev pub ground_effects_in : Value → EffectSet
-ground_effects_in x = unwrap_or (effects_under least_grounding (effects_type (effects_in (row_in x)))) no_effects
-
-pub ground_in-is : (x : Value) (g : Ground) → x ≡ Plain (as_type g) → ground_in x ≡ g
-ground_in-is x g e = ap ground_in e ∙ ap (λ o. unwrap_or o ground.Int) (under_as_type least_grounding g)
-
-pub ground_row_in-is : (x : Value) (m : Row) → x ≡ OfRow (as_row m) → ground_row_in x ≡ m
-ground_row_in-is x m e = ap ground_row_in e ∙ ap (λ o. unwrap_or o no_fields) (under_as_row least_grounding m)
-
-pub ground_effects_in-is : (x : Value) (s : EffectSet) → x ≡ OfRow (effect_row (as_effects s)) → ground_effects_in x ≡ s
-ground_effects_in-is x s e =
-    ap ground_effects_in e ∙ ap (λ e. unwrap_or (effects_under least_grounding (effects_type e)) no_effects) (effects_in_row (as_effects s))
-    ∙ ap (λ o. unwrap_or o no_effects) (under_as_effects least_grounding s)
 
 -- ---- at a class of which nothing is known
 
@@ -71,14 +42,20 @@ module _ (owner : ℕ → ℕ) (v : ℕ → Value) (kind : ℕ → Kind) (i n : 
   loose_reads : (k : Kind) (s : Shape) (x : Value) → HasKind kind k s → is_loose_shape s ≡ true → (s ≡ Free → x ≡ Plain (ty.Var n)) → (s ≡ Open → x ≡ OfRow (only_tail (Var n))) →
       Reads (grounding_at owner v) k x (v i)
   loose_reads OfTypes Free x h loose types rows = λ g is. (
-      ty.Var n, types refl,
-      under_variable (grounding_at owner v) n ∙ ap Some (ap (λ j. ground_in (v j)) owned ∙ ground_in-is (v i) g is))
+    ty.Var n,
+    types refl,
+    under_variable (grounding_at owner v) n ∙ ap Some (ap (λ j. ground_in (v j)) owned ∙ ground_in-is (v i) g is),
+  )
   loose_reads OfFields Open x h loose types rows = λ m is. (
-      only_tail (Var n), rows refl,
-      only_tail-under (grounding_at owner v) (Var n) ∙ ap Some (ap (λ j. ground_row_in (v j)) owned ∙ ground_row_in-is (v i) m is))
+    only_tail (Var n),
+    rows refl,
+    only_tail-under (grounding_at owner v) (Var n) ∙ ap Some (ap (λ j. ground_row_in (v j)) owned ∙ ground_row_in-is (v i) m is),
+  )
   loose_reads OfEffects Open x h loose types rows = λ s is. (
-      only_effects_tail (Var n), rows refl,
-      ap Some (ap (λ j. ground_effects_in (v j)) owned ∙ ground_effects_in-is (v i) s is))
+    only_effects_tail (Var n),
+    rows refl,
+    ap Some (ap (λ j. ground_effects_in (v j)) owned ∙ ground_effects_in-is (v i) s is),
+  )
   loose_reads OfTypes Open x h loose types rows = absurd h
   loose_reads OfFields Free x h loose types rows = absurd h
   loose_reads OfEffects Free x h loose types rows = absurd h
@@ -95,7 +72,6 @@ weak shapes classes v fits = record { builds = λ i b named. fits.builds i b; re
 
 module _ (l : Loader) (kind : ℕ → Kind) (kinded : IsKinded l kind) (rank : ℕ → ℕ) (ranked : IsRanked l.arena.shapes l.arena.classes rank)
     (name owner : ℕ → ℕ) (naming : IsNaming l kind name owner) (u : ℕ → Value) (own : IsOwn l.arena.shapes l.arena.classes name u) (es : List Equation) (says : Says l es) where
-
   module _ (σ : Grounding) (solves : Solves σ es) where
     pub values : (v : ℕ → Value) × FitsNodes l.arena.shapes l.arena.classes v × Agrees l (as_opening σ) v
     values = says.forth (as_opening σ) (open_solves σ es solves)

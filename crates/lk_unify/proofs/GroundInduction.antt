@@ -1,5 +1,5 @@
 -- Induction over ground types: what holds of a ground type where it holds of its parts holds of every one.
-use Rattle.std.proofs.Common.{◌≡◌, List, [], ◌∷◌, map, sym, subst}
+use Rattle.std.proofs.Common.{List, [], ◌∷◌, map, sym, subst}
 use Rattle.lk_types.specs.Each.{Each}
 use Rattle.lk_types.specs.declared.ground.Ground.{Ground, roll-Ground}
 use Rattle.lk_types.specs.declared.ground.Ground.TheFolds.{ind-Ground, map-Ground}

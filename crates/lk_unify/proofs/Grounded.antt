@@ -1,27 +1,24 @@
 -- What solves equations by ground types solves them by types, and the other way round.
-use Rattle.std.proofs.Common.{◌≡◌, List, [], ◌∷◌, Option, Some, None, refl, sym, ◌∙◌, ap, subst}
+use Rattle.std.proofs.Common.{◌≡◌, List, [], ◌∷◌, Option, Some, None, refl, sym, ◌∙◌, ap}
 use Rattle.std.specs.Option.{option_map}
-use Rattle.lk_types.specs.Each.{Each}
 use Rattle.lk_types.specs.Grounding.{Grounding, under}
 use Rattle.lk_types.specs.Solutions.{IsMet, Solves}
 use Rattle.lk_types.specs.declared.equation.Equation.{Equation}
 use Rattle.lk_types.specs.declared.ground.Ground.{Ground}
 use Rattle.lk_types.specs.declared.ty.Ty.{Ty}
-use Rattle.lk_unify.proofs.OpenGround.{under_as_type, opened_as}
+use Rattle.lk_unify.proofs.OpenAsGround.{type_as}
+use Rattle.lk_unify.proofs.OpenGround.{as_type-once}
 use Rattle.lk_unify.specs.Openings.{IsOpenMet, OpenSolves, as_type, as_opening, opened}
 
 some_is : {A : Type 0} {a b : A} → Some a ≡ Some b → a ≡ b
 some_is e = cc
 
-pub as_type-same : (τ : Grounding) (g h : Ground) → as_type g ≡ as_type h → g ≡ h
-as_type-same τ g h e = some_is (sym (under_as_type τ g) ∙ ap (under τ) e ∙ under_as_type τ h)
-
 module _ (σ : Grounding) where
   pub open_meets : (e : Equation) → IsMet σ e → IsOpenMet (as_opening σ) e
-  open_meets e m = (as_type m.0, opened_as σ e.left ∙ ap (option_map as_type) m.1, opened_as σ e.right ∙ ap (option_map as_type) m.2)
+  open_meets e m = (as_type m.0, type_as σ e.left ∙ ap (option_map as_type) m.1, type_as σ e.right ∙ ap (option_map as_type) m.2)
 
   its_ground : (t u : Ty) → opened (as_opening σ) t ≡ Some u → (g : Ground) × (under σ t ≡ Some g) × (as_type g ≡ u)
-  its_ground t u e = by_value (under σ t) refl (sym (opened_as σ t) ∙ e)
+  its_ground t u e = by_value (under σ t) refl (sym (type_as σ t) ∙ e)
     where
       by_value : (o : Option Ground) → under σ t ≡ o → option_map as_type (under σ t) ≡ Some u → (g : Ground) × (under σ t ≡ Some g) × (as_type g ≡ u)
       by_value None is e = let f : None ≡ Some u = sym (ap (option_map as_type) is) ∙ e in cc
@@ -31,7 +28,7 @@ module _ (σ : Grounding) where
   meets_ground e m =
       let l = its_ground e.left m.0 m.1 in
       let r = its_ground e.right m.0 m.2 in
-      (l.0, l.1, r.1 ∙ ap Some (as_type-same σ r.0 l.0 (r.2 ∙ sym l.2)))
+      (l.0, l.1, r.1 ∙ ap Some (as_type-once r.0 l.0 (r.2 ∙ sym l.2)))
 
   pub open_solves : (es : List Equation) → Solves σ es → OpenSolves (as_opening σ) es
   open_solves [] s = tt

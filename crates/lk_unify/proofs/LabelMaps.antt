@@ -1,10 +1,10 @@
 -- Finite maps from labels: what stands at a label after an insertion, lists of entries in order, maps of the same entries.
-use Rattle.std.proofs.Common.{◌≡◌, Bool, true, false, ◌&&◌, ◌⊎◌, inl, inr, ⊎_elim, List, [], ◌∷◌, map, refl, sym, ◌∙◌, ap, subst, Option, Some, None, cond}
+use Rattle.std.proofs.Common.{◌≡◌, Bool, true, false, ◌&&◌, ◌⊎◌, inl, inr, ⊎_elim, List, [], ◌∷◌, map, refl, sym, ◌∙◌, ap, Option, Some, None, cond}
 use Rattle.std.specs.Cmp.Lexicographic.{nat_list_cmp_total}
 use Rattle.std.specs.FinMap as fin
 use Rattle.std.specs.Option.{option_map}
 use Rattle.std.specs.Ordering.{eq_by_cmp, is_eq, is_lt, ordering_reverse}
-use Rattle.std.specs.Prelude.{T, is_some, not}
+use Rattle.std.specs.Prelude.{T}
 use Rattle.std.specs.declared.cmp.Ordering.{Ordering}
 use Rattle.std.specs.declared.cmp.Ordering.TheVariants.{Less, Equal, Greater}
 use Rattle.lk_types.specs.Rows.{Label, label_order}
@@ -172,3 +172,19 @@ module _ {X Y : Type 0} (f : X → Y) where
   pub sorted_mapped : (es : List (Label × X)) → T (fin.is_sorted label_order es) → T (fin.is_sorted label_order (map with_value es))
   sorted_mapped [] h = tt
   sorted_mapped (e ∷ es) h = sorted_after e.0 e.1 es h
+
+  sorted_before : (k : Label) (x : X) (es : List (Label × X)) → T (fin.is_sorted label_order ((k, f x) ∷ map with_value es)) → T (fin.is_sorted label_order ((k, x) ∷ es))
+  sorted_before k x [] h = tt
+  sorted_before k x (e ∷ es) h =
+      let fs = map with_value es in
+      let below = first (is_below k (map with_value (e ∷ es))) (in_order (map with_value (e ∷ es))) h in
+      let rest = second (is_below k (map with_value (e ∷ es))) (in_order (map with_value (e ∷ es))) h in
+      let lower = first (is_lt (label_order k e.0)) (is_below k fs) below in
+      let a = sorted_before k x es (both (is_below k fs) (in_order fs) (second (is_lt (label_order k e.0)) (is_below k fs) below) (second (is_below e.0 fs) (in_order fs) rest)) in
+      let b = sorted_before e.0 e.1 es rest in
+      let others = first (is_below k es) (in_order es) a in
+      both (is_below k (e ∷ es)) (in_order (e ∷ es)) (both (is_lt (label_order k e.0)) (is_below k es) lower others) b
+
+  pub sorted_back : (es : List (Label × X)) → T (fin.is_sorted label_order (map with_value es)) → T (fin.is_sorted label_order es)
+  sorted_back [] h = tt
+  sorted_back (e ∷ es) h = sorted_before e.0 e.1 es h

@@ -11,7 +11,8 @@ use Rattle.lk_types.specs.TypeText.{effect_word}
 use Rattle.lk_types.specs.declared.ty.Effect.{Effect}
 use Rattle.lk_types.specs.declared.ty.Effect.TheVariants.{Local, Move, Print, Rec, Scan, Trap, Write}
 use Rattle.lk_types.specs.declared.ty.RowTail.{RowTail}
-use Rattle.lk_unify.proofs.EffectRows.{IsEffectRow-insert, set_in, effects_in, its_effects}
+use Rattle.lk_unify.proofs.EffectRows.{IsEffectRow-insert, set_in, its_effects}
+use Rattle.lk_unify.specs.Reading.{effects_in}
 use Rattle.lk_unify.proofs.EffectSets.{IsEffectRow-effect_row, set_in-effect_row}
 use Rattle.lk_unify.proofs.RowAlgebra.{one_more, label_cases}
 use Rattle.lk_unify.proofs.RowsBefore.{hit, miss}

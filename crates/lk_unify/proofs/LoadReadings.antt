@@ -5,7 +5,7 @@ use Rattle.lk_types.specs.declared.ty.Ty.{Ty}
 use Rattle.lk_types.specs.declared.ty.Ty.TheVariants as ty
 use Rattle.lk_types.specs.declared.ty.Variable.{Variable}
 use Rattle.lk_types.specs.declared.ty.Variable.TheVariants as variable
-use Rattle.lk_unify.proofs.EffectRows.{effects_in}
+use Rattle.lk_unify.specs.Reading.{effects_in}
 use Rattle.lk_unify.proofs.LoadEffects.{set_back}
 use Rattle.lk_unify.specs.Kinds.{Kind}
 use Rattle.lk_unify.specs.Loading.{node_for, value_of, kind_of, Agrees, IsLoader, IsKinded, IsOfKind}

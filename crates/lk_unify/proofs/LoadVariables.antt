@@ -117,7 +117,7 @@ module _ (b c d : Loader) (x : Variable) (k : ℕ) (whole : IsLoader b) (none : 
       sym (found_is d q) ∙ names q ∙ ap (λ t. cond t (Some k) (get cmp-value.it c.names q)) (agrees x q)
       ∙ ap (cond (same_variable x q) (Some k)) (found_is c q ∙ same_names b c (shape_for x) k whole add parts q)
 
-  new_name : node_for d x ≡ Some k
+  pub new_name : node_for d x ≡ Some k
   new_name = now_named x ∙ ap (λ t. cond t (Some k) (node_for b x)) (same_self x)
 
   -- a name is the new one or an old one

@@ -36,7 +36,7 @@ each_first P (suc k) [] all = tt
 each_first P (suc k) (x ∷ xs) all = (all.0, each_first P k xs all.1)
 
 -- one element more of a list is taken
-taken : {A : Type 0} (xs : List A) (i : ℕ) (x : A) → i < length xs → x ≡ get_or xs i x → take (i + 1) xs ≡ take i xs ++ x ∷ []
+pub taken : {A : Type 0} (xs : List A) (i : ℕ) (x : A) → i < length xs → x ≡ get_or xs i x → take (i + 1) xs ≡ take i xs ++ x ∷ []
 taken xs i x below is = take_more xs i x below ∙ ap (λ y. take i xs ++ y ∷ []) (sym is)
 
 -- ---- the sides

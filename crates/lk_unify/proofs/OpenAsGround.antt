@@ -1,27 +1,28 @@
 -- With ground types put for its variables a type becomes what it becomes under a grounding, as a type.
-use Rattle.std.proofs.Common.{◌≡◌, ℕ, List, [], ◌∷◌, map, refl, sym, ◌∙◌, ap, Option, Some, None}
+use Rattle.std.proofs.Common.{◌≡◌, List, [], ◌∷◌, map, refl, sym, ◌∙◌, ap, Option, Some, None}
 use Rattle.std.specs.FinMap as fin
 use Rattle.std.specs.Option.{option_map}
 use Rattle.std.specs.Prelude.{is_some, if◌then◌else◌}
 use Rattle.lk_types.proofs.Unfold.{under_int, under_bool, under_text, under_list, under_fields, under_tags, under_function, under_variable}
 use Rattle.lk_types.specs.Each.{Each}
 use Rattle.lk_types.specs.Grounding.{Grounding, under, row_under, before_row, row_tail, effect_tail, effects_under, before_effects, all_of, function_of}
-use Rattle.lk_types.specs.Rows.{Label, Row, EffectSet, with_field, fields_of, effects_of}
+use Rattle.lk_types.specs.Rows.{Label, Row, EffectSet, with_field, fields_of}
 use Rattle.lk_types.specs.declared.ground.Ground.{Ground}
 use Rattle.lk_types.specs.declared.ground.Ground.TheVariants as known
-use Rattle.lk_types.specs.declared.ty.Effect.{Effect}
 use Rattle.lk_types.specs.declared.ty.Effects.{Effects}
 use Rattle.lk_types.specs.declared.ty.RowTail.{RowTail}
 use Rattle.lk_types.specs.declared.ty.RowTail.TheVariants.{Closed, Var}
 use Rattle.lk_types.specs.declared.ty.Ty.{Ty}
 use Rattle.lk_types.specs.declared.ty.Ty.TheVariants as ty
 use Rattle.lk_types.specs.declared.ty.TyField.{TyField}
-use Rattle.lk_types.specs.declared.ty.TyRow.{TyRow, roll-TyRow}
+use Rattle.lk_types.specs.declared.ty.TyRow.{TyRow}
 use Rattle.lk_unify.proofs.OpenGround.{get-as_row, as_row-insert, as_row-empty, as_type-fields, as_type-tags, as_type-function}
 use Rattle.lk_unify.proofs.OpenRows.{row_rolled}
-use Rattle.lk_unify.proofs.OpenUnfold.{opened_int, opened_bool, opened_text, opened_list, opened_fields, opened_tags, opened_function, opened_variable, opened_rolled, as_int, as_bool, as_text, as_list}
+use Rattle.lk_unify.proofs.OpenUnfold.{opened_int, opened_bool, opened_text, opened_list, opened_fields, opened_tags}
+use Rattle.lk_unify.proofs.OpenUnfold.{opened_function, opened_variable, opened_rolled, as_int, as_bool, as_text, as_list}
 use Rattle.lk_unify.proofs.TypeInduction.{Hereditary, every_type, every_row}
-use Rattle.lk_unify.specs.Openings.{Opening, OpenRow, OpenEffects, row_type, effects_type, opened, row_opened, effects_opened, effects_tail_opened, tail_opened, with_opened, before_open, open_function, as_type, as_row, as_effects, as_opening}
+use Rattle.lk_unify.specs.Openings.{Opening, row_type, opened, row_opened, effects_opened, effects_tail_opened, tail_opened}
+use Rattle.lk_unify.specs.Openings.{with_opened, before_open, open_function, as_type, as_row, as_effects, as_opening}
 
 mapped_twice : {A B C D : Type 0} (f : A → B) (g : B → D) (h : A → C) (k : C → D) → ((a : A) → g (f a) ≡ k (h a)) → (o : Option A) → option_map g (option_map f o) ≡ option_map k (option_map h o)
 mapped_twice f g h k is None = refl
@@ -41,7 +42,8 @@ with_as l (Some g) (Some m) =
     by_test None = ap Some (sym (as_row-insert m l g))
     by_test (Some h) = refl
 
-all_front : (o : Option Ground) (xs : List (Option Ty)) (ys : List (Option Ground)) → all_of xs ≡ option_map (map as_type) (all_of ys) → all_of (option_map as_type o ∷ xs) ≡ option_map (map as_type) (all_of (o ∷ ys))
+all_front : (o : Option Ground) (xs : List (Option Ty)) (ys : List (Option Ground)) → all_of xs ≡ option_map (map as_type) (all_of ys)
+    → all_of (option_map as_type o ∷ xs) ≡ option_map (map as_type) (all_of (o ∷ ys))
 all_front None xs ys e = refl
 all_front (Some g) xs ys e =
     ap (option_map (λ more. as_type g ∷ more)) e

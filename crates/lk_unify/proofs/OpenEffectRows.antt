@@ -1,12 +1,12 @@
 -- The row of a set of effects has each effect of the set with the unit type, and nothing else, so that it shows the set.
-use Rattle.std.proofs.Common.{◌≡◌, Bool, true, false, ◌||◌, ◌⊎◌, inl, inr, ⊎_elim, List, [], ◌∷◌, map, refl, sym, ◌∙◌, ap, subst, Option, Some, None, cond}
+use Rattle.std.proofs.Common.{◌≡◌, Bool, true, false, ◌||◌, ◌⊎◌, inl, inr, ⊎_elim, List, [], ◌∷◌, map, refl, sym, ◌∙◌, ap, Option, Some, None, cond}
 use Rattle.std.specs.Cmp.Lexicographic.{nat_list_cmp_total}
 use Rattle.std.specs.FinMap as fin
 use Rattle.std.specs.List.{filter}
 use Rattle.std.specs.Option.{option_map}
 use Rattle.std.specs.Ordering.{eq_by_cmp}
 use Rattle.lk_types.specs.Grounding.{Grounding, effects_under}
-use Rattle.lk_types.specs.Rows.{Label, EffectSet, label_order, same_effect, effects_of}
+use Rattle.lk_types.specs.Rows.{Label, Row, EffectSet, label_order, same_effect, effects_of}
 use Rattle.lk_types.specs.TypeText.{effect_word}
 use Rattle.lk_types.specs.declared.ground.Ground.{Ground}
 use Rattle.lk_types.specs.declared.ground.Ground.TheVariants as known
@@ -120,7 +120,8 @@ pub at_other : (s : OpenEffects) (l : Label) → IsNoEffect l → fin.get (effec
 at_other s l n = fin.get-from_entries nat_list_cmp_total (map pair (effects_of s.labels)) l ∙ no_name s.labels l all n
 
 -- a row with this at each label is that of the set
-pub is_effect_row : (m : OpenRow) (s : OpenEffects) → m.tail ≡ s.tail → ((x : Effect) → fin.get m.fields (effect_word x) ≡ unit_if (s.labels x)) → ((l : Label) → IsNoEffect l → fin.get m.fields l ≡ None)
+pub is_effect_row : (m : OpenRow) (s : OpenEffects) → m.tail ≡ s.tail → ((x : Effect) → fin.get m.fields (effect_word x) ≡ unit_if (s.labels x))
+    → ((l : Label) → IsNoEffect l → fin.get m.fields l ≡ None)
     → m ≡ effect_row s
 is_effect_row m s ends named others =
     let fields : m.fields ≡ (effect_row s).fields =
@@ -149,29 +150,30 @@ effect_row-once s t e =
 pub as_unit : as_type (known.Fields []) ≡ unit_type
 as_unit = as_fields []
 
--- their rows have no variables
-pub effect_row-as : (s : EffectSet) → effect_row (as_effects s) ≡ as_row (fin.from_entries (map (λ e. (effect_word e, known.Fields [])) (effects_of s)))
-effect_row-as s = ap (λ fs. record { fields = fs; tail = Closed }) (same_maps (effect_row (as_effects s)).fields (as_row m).fields at)
-  where
-    abbrev m : fin.FinMap label_order Ground
-    m = fin.from_entries (map (λ e. (effect_word e, known.Fields [])) (effects_of s))
+abbrev pub unit_row : EffectSet → Row
+unit_row s = fin.from_entries (map (λ e. (effect_word e, known.Fields [])) (effects_of s))
 
+-- their rows have no variables
+pub effect_row-as : (s : EffectSet) → effect_row (as_effects s) ≡ as_row (unit_row s)
+effect_row-as s = ap (λ fs. record { fields = fs; tail = Closed }) (same_maps (effect_row (as_effects s)).fields (as_row (unit_row s)).fields at)
+  where
     by_test : (b : Bool) (o : Option Ground) → option_map as_type (cond b (Some (known.Fields [])) o) ≡ cond b (Some unit_type) (option_map as_type o)
     by_test true o = ap Some as_unit
     by_test false o = refl
 
-    found : (l : Label) (es : List Effect) → fin.find label_order l (map (λ e. (effect_word e, unit_type)) es) ≡ option_map as_type (fin.find label_order l (map (λ e. (effect_word e, known.Fields [])) es))
+    found : (l : Label) (es : List Effect)
+        → fin.find label_order l (map (λ e. (effect_word e, unit_type)) es) ≡ option_map as_type (fin.find label_order l (map (λ e. (effect_word e, known.Fields [])) es))
     found l [] = refl
     found l (e ∷ es) =
         ap (cond (eq_by_cmp label_order l (effect_word e)) (Some unit_type)) (found l es)
         ∙ sym (by_test (eq_by_cmp label_order l (effect_word e)) (fin.find label_order l (map (λ e. (effect_word e, known.Fields [])) es)))
 
-    at : (l : Label) → fin.get (effect_row (as_effects s)).fields l ≡ fin.get (as_row m).fields l
+    at : (l : Label) → fin.get (effect_row (as_effects s)).fields l ≡ fin.get (as_row (unit_row s)).fields l
     at l =
         fin.get-from_entries nat_list_cmp_total (map (λ e. (effect_word e, unit_type)) (effects_of s)) l
         ∙ found l (effects_of s)
         ∙ ap (option_map as_type) (sym (fin.get-from_entries nat_list_cmp_total (map (λ e. (effect_word e, known.Fields [])) (effects_of s)) l))
-        ∙ sym (get-as_row m l)
+        ∙ sym (get-as_row (unit_row s) l)
 
 -- and are read back as they are
 pub as_effects-under : (τ : Grounding) (s : EffectSet) → effects_under τ (effects_type (as_effects s)) ≡ Some s

@@ -1,9 +1,9 @@
 -- Sets of effects with an end, under a grounding: what one effect more becomes, and what a set becomes at each effect.
-use Rattle.std.proofs.Common.{◌≡◌, Bool, true, false, ◌||◌, ◌⊎◌, inl, inr, ⊎_elim, List, [], ◌∷◌, map, refl, sym, ◌∙◌, ap, subst, Option, Some, None, cond}
+use Rattle.std.proofs.Common.{◌≡◌, Bool, true, false, ◌||◌, ◌⊎◌, inl, inr, ⊎_elim, List, [], ◌∷◌, refl, sym, ◌∙◌, ap, subst, Option, Some, None, cond}
 use Rattle.std.specs.List.{filter}
 use Rattle.std.specs.Prelude.{if◌then◌else◌}
 use Rattle.lk_types.specs.Grounding.{Grounding, effect_tail, effects_under, before_effects}
-use Rattle.lk_types.specs.Rows.{EffectSet, no_effects, same_effect, with_effect, effects_of}
+use Rattle.lk_types.specs.Rows.{EffectSet, same_effect, with_effect, effects_of}
 use Rattle.lk_types.specs.declared.ty.Effect.{Effect}
 use Rattle.lk_types.specs.declared.ty.Effect.TheVariants.{Local, Move, Print, Rec, Scan, Trap, Write}
 use Rattle.lk_types.specs.declared.ty.RowTail.{RowTail}
@@ -88,7 +88,7 @@ same_options None None f g = refl
 same_options None (Some s) f g = g s refl
 same_options (Some s) p f g = sym (f s refl)
 
-lower : (a b x : Bool) → IsSetAt a b x → x ≡ false → b ≡ false
+pub lower : (a b x : Bool) → IsSetAt a b x → x ≡ false → b ≡ false
 lower true b x is e = is.0
 lower false b x is e = sym is ∙ e
 

@@ -1,31 +1,27 @@
 -- Ground types as types: what they are made of is read back from them, and what stands for variables as ground types is put for them.
-use Rattle.std.proofs.Common.{◌≡◌, ℕ, Bool, true, false, List, [], ◌∷◌, map, refl, sym, ◌∙◌, ap, subst, Option, Some, None, cond}
+use Rattle.std.proofs.Common.{◌≡◌, Bool, true, false, List, [], ◌∷◌, map, refl, sym, ◌∙◌, ap, Option, Some, None, cond}
 use Rattle.std.specs.Cmp.Lexicographic.{nat_list_cmp_total}
 use Rattle.std.specs.FinMap as fin
 use Rattle.std.specs.Option.{option_map}
 use Rattle.std.specs.Ordering.{eq_by_cmp}
-use Rattle.std.specs.Prelude.{T, is_some, if◌then◌else◌}
-use Rattle.lk_types.proofs.Unfold.{under_int, under_bool, under_text, under_list, under_fields, under_tags, under_function, under_variable, under_field}
 use Rattle.lk_types.specs.Each.{Each}
-use Rattle.lk_types.specs.Grounding.{Grounding, Known, under, row_under, field_under, before_row, row_tail, effect_tail, effects_under, before_effects, all_of, function_of}
-use Rattle.lk_types.specs.Rows.{Label, Row, EffectSet, label_order, has_label, with_field, no_fields, fields_of, effects_of}
+use Rattle.lk_types.specs.Rows.{Label, Row, EffectSet, label_order, no_fields, fields_of, effects_of}
 use Rattle.lk_types.specs.declared.ground.Ground.{Ground}
 use Rattle.lk_types.specs.declared.ground.Ground.TheVariants as known
 use Rattle.lk_types.specs.declared.ground.GroundField.{GroundField}
-use Rattle.lk_types.specs.declared.ty.Effect.{Effect}
 use Rattle.lk_types.specs.declared.ty.Effects.{Effects}
 use Rattle.lk_types.specs.declared.ty.RowTail.{RowTail}
-use Rattle.lk_types.specs.declared.ty.RowTail.TheVariants.{Closed, Var}
+use Rattle.lk_types.specs.declared.ty.RowTail.TheVariants.{Closed}
 use Rattle.lk_types.specs.declared.ty.Ty.{Ty, fold-Ty}
 use Rattle.lk_types.specs.declared.ty.Ty.TheFolds.{the_lemmas}
 use Rattle.lk_types.specs.declared.ty.Ty.TheOpen.{Ty-F, TyField-F, TyRow-F}
 use Rattle.lk_types.specs.declared.ty.Ty.TheVariants as ty
 use Rattle.lk_types.specs.declared.ty.TyField.{TyField, fold-TyField}
 use Rattle.lk_types.specs.declared.ty.TyRow.{TyRow, roll-TyRow, fold-TyRow}
-use Rattle.lk_unify.proofs.GroundInduction.{GroundSteps, every_ground}
-use Rattle.lk_unify.proofs.LabelMaps.{same_maps, entries_back, map_back, no_entries, find_mapped, sorted_mapped}
+use Rattle.lk_unify.proofs.GroundInduction.{every_ground}
+use Rattle.lk_unify.proofs.LabelMaps.{same_maps, entries_back, map_back, no_entries, with_value, find_mapped, sorted_mapped}
 use Rattle.lk_unify.proofs.OpenUnfold.{as_field, as_int, as_bool, as_text, as_list, as_fields, as_tags, as_function}
-use Rattle.lk_unify.specs.Openings.{OpenRow, OpenEffects, only_tail, field_type, row_type, effects_type, as_type, as_entry, as_row, as_effects}
+use Rattle.lk_unify.specs.Openings.{OpenRow, only_tail, field_type, row_type, effects_type, as_type, as_entry, as_row, as_effects}
 
 -- ---- the ground type that a type without variables is
 
@@ -141,6 +137,19 @@ once (Some g) (Some h) e = (let f : Some (as_type g) ≡ Some (as_type h) = e in
 pub as_row-once : (m n : Row) → as_row m ≡ as_row n → m ≡ n
 as_row-once m n e = same_maps m n (λ l. once (fin.get m l) (fin.get n l) (sym (get-as_row m l) ∙ ap (λ r. fin.get r.fields l) e ∙ get-as_row n l))
 
+-- the row of ground types that a row of types without variables is
+pub ground_row : OpenRow → Row
+ground_row r = fin.from_entries (map (with_value ground_of) (fin.entries r.fields))
+
+entries_back_again : (es : List (Label × Ground)) → map (with_value ground_of) (map as_entry es) ≡ es
+entries_back_again [] = refl
+entries_back_again (e ∷ es) = λ i. (e.0, back e.1 i) ∷ entries_back_again es i
+
+-- is read back from it
+pub back_row : (m : Row) → ground_row (as_row m) ≡ m
+unfolding ground_row
+back_row m = ap (λ es. fin.from_entries (map (with_value ground_of) es)) (entries_as m) ∙ ap fin.from_entries (entries_back_again (fin.entries m)) ∙ map_back m
+
 pub as_effects-once : (s t : EffectSet) → as_effects s ≡ as_effects t → s ≡ t
 as_effects-once s t e = ap (λ r. r.labels) e
 
@@ -178,5 +187,6 @@ as_type-fields m = as_fields (fields_of m) ∙ ap ty.Fields (row_is m)
 pub as_type-tags : (m : Row) → as_type (known.Tags (fields_of m)) ≡ ty.Tags (row_type (as_row m))
 as_type-tags m = as_tags (fields_of m) ∙ ap ty.Tags (row_is m)
 
-pub as_type-function : (params : List Ground) (s : EffectSet) (answer : Ground) → as_type (known.Fun params (effects_of s) answer) ≡ ty.Fun (map as_type params) (effects_type (as_effects s)) (as_type answer)
+pub as_type-function : (params : List Ground) (s : EffectSet) (answer : Ground)
+    → as_type (known.Fun params (effects_of s) answer) ≡ ty.Fun (map as_type params) (effects_type (as_effects s)) (as_type answer)
 as_type-function params s answer = as_function params (effects_of s) answer

@@ -1,27 +1,23 @@
 -- Rows and sets of effects with an end, under a grounding: what one field or one effect more becomes, and what a row becomes at
 -- each label.
-use Rattle.std.proofs.Common.{◌≡◌, Bool, true, false, ◌||◌, ◌⊎◌, inl, inr, ⊎_elim, List, [], ◌∷◌, map, refl, sym, ◌∙◌, ap, subst, Option, Some, None, cond}
+use Rattle.std.proofs.Common.{◌≡◌, Bool, true, false, ⊎_elim, List, [], ◌∷◌, map, refl, sym, ◌∙◌, ap, subst, Option, Some, None, cond}
 use Rattle.std.specs.Cmp.Lexicographic.{nat_list_cmp_total}
 use Rattle.std.specs.FinMap as fin
-use Rattle.std.specs.List.{filter}
-use Rattle.std.specs.Ordering.{eq_by_cmp, is_eq}
+use Rattle.std.specs.Ordering.{is_eq}
 use Rattle.std.specs.Prelude.{T, is_some, if◌then◌else◌}
 use Rattle.std.specs.declared.cmp.Ordering.{Ordering}
 use Rattle.std.specs.declared.cmp.Ordering.TheVariants.{Less, Equal, Greater}
 use Rattle.lk_types.proofs.Unfold.{under_field}
-use Rattle.lk_types.specs.Grounding.{Grounding, Known, under, row_under, field_under, before_row, row_tail, effect_tail, effects_under, before_effects}
-use Rattle.lk_types.specs.Rows.{Label, Row, EffectSet, label_order, has_label, with_field, no_effects, same_effect, with_effect, effects_of}
+use Rattle.lk_types.specs.Grounding.{Grounding, Known, under, row_under, field_under, before_row, row_tail}
+use Rattle.lk_types.specs.Rows.{Label, Row, label_order, has_label, with_field}
 use Rattle.lk_types.specs.declared.ground.Ground.{Ground}
-use Rattle.lk_types.specs.declared.ty.Effect.{Effect}
-use Rattle.lk_types.specs.declared.ty.Effect.TheVariants.{Local, Move, Print, Rec, Scan, Trap, Write}
-use Rattle.lk_types.specs.declared.ty.Effects.{Effects}
 use Rattle.lk_types.specs.declared.ty.RowTail.{RowTail}
 use Rattle.lk_types.specs.declared.ty.Ty.{Ty}
 use Rattle.lk_types.specs.declared.ty.TyField.{TyField}
 use Rattle.lk_types.specs.declared.ty.Ty.TheFolds.{the_lemmas}
-use Rattle.lk_types.specs.declared.ty.TyRow.{TyRow, roll-TyRow}
-use Rattle.lk_unify.proofs.LabelMaps.{Tied, Differ, tie_cases, tied_labels, same_maps, get_here, get_there, removed_here, removed_there, insert_swap, find_here, find_there, find_rest, sorted_rest, no_entries}
-use Rattle.lk_unify.specs.Openings.{OpenRow, OpenEffects, only_tail, field_type, row_type, effects_type}
+use Rattle.lk_types.specs.declared.ty.TyRow.{roll-TyRow}
+use Rattle.lk_unify.proofs.LabelMaps.{Tied, Differ, tie_cases, same_maps, get_here, get_there, removed_here, removed_there, insert_swap, find_here, find_there, find_rest, sorted_rest, no_entries}
+use Rattle.lk_unify.specs.Openings.{OpenRow, only_tail, field_type, row_type}
 
 -- ---- fields in either order
 
@@ -82,7 +78,8 @@ module _ (τ : Grounding) where
   each_under [] = refl
   each_under (f ∷ fs) = λ i. under_field τ f i ∷ each_under fs i
 
-  pub row_rolled : (fields : List TyField) (tail : RowTail) → row_under τ (roll-TyRow (record { fields = fields; tail = tail })) ≡ before_row (map (λ f. (f.label, under τ f.ty)) fields) (row_tail τ tail)
+  pub row_rolled : (fields : List TyField) (tail : RowTail)
+      → row_under τ (roll-TyRow (record { fields = fields; tail = tail })) ≡ before_row (map (λ f. (f.label, under τ f.ty)) fields) (row_tail τ tail)
   row_rolled fields tail = by_fields fields tail ∙ ap (λ fs. before_row fs (row_tail τ tail)) (each_under fields)
 
   pub row_type-under : (m : OpenRow) → row_under τ (row_type m) ≡ before_row (map known (fin.entries m.fields)) (row_tail τ m.tail)

@@ -1,5 +1,5 @@
 -- The definitions by folds, on each form of type: what a type becomes, a ground type as a type, and what types count.
-use Rattle.std.proofs.Common.{◌≡◌, ℕ, ◌+◌, List, [], ◌∷◌, map, refl, ◌∙◌, ap, ap₂, Option, Some, None}
+use Rattle.std.proofs.Common.{◌≡◌, ℕ, ◌+◌, List, [], ◌∷◌, map, refl, ◌∙◌, ap, ap₂, Option, Some}
 use Rattle.std.specs.Option.{option_map}
 use Rattle.lk_types.specs.Grounding.{all_of}
 use Rattle.lk_types.specs.declared.ground.Ground.{Ground}
@@ -46,7 +46,8 @@ module _ (ρ : Opening) where
   unfolding opened row_opened
   opened_tags r = search the_lemmas
 
-  pub opened_function : (params : List Ty) (es : Effects) (answer : Ty) → opened ρ (ty.Fun params es answer) ≡ open_function (all_of (map (opened ρ) params)) (effects_opened ρ es) (opened ρ answer)
+  pub opened_function : (params : List Ty) (es : Effects) (answer : Ty)
+      → opened ρ (ty.Fun params es answer) ≡ open_function (all_of (map (opened ρ) params)) (effects_opened ρ es) (opened ρ answer)
   unfolding opened
   opened_function params es answer = search the_lemmas
 
@@ -71,6 +72,14 @@ module _ (ρ : Opening) where
 
   pub opened_row : (r : TyRow) → row_opened ρ r ≡ before_open (map (λ f. (f.label, opened ρ f.ty)) (out-TyRow r).fields) (tail_opened ρ (out-TyRow r).tail)
   opened_row r = by_fields r ∙ ap (λ fs. before_open fs (tail_opened ρ (out-TyRow r).tail)) (opened_each (out-TyRow r).fields)
+
+  rolled : (fs : List TyField) (tail : RowTail) → row_opened ρ (roll-TyRow (record { fields = fs; tail = tail })) ≡ before_open (map field_opened fs) (tail_opened ρ tail)
+  unfolding row_opened field_opened
+  rolled fs tail = search the_lemmas
+
+  pub opened_rolled : (fs : List TyField) (tail : RowTail)
+      → row_opened ρ (roll-TyRow (record { fields = fs; tail = tail })) ≡ before_open (map (λ f. (f.label, opened ρ f.ty)) fs) (tail_opened ρ tail)
+  opened_rolled fs tail = rolled fs tail ∙ ap (λ fs. before_open fs (tail_opened ρ tail)) (opened_each fs)
 
 -- ---- ground types as types
 
@@ -119,7 +128,8 @@ as_fields fs = fields_as fs ∙ ap (λ fs. ty.Fields (roll-TyRow (record { field
 pub as_tags : (fs : List GroundField) → as_type (known.Tags fs) ≡ ty.Tags (roll-TyRow (record { fields = map as_field fs; tail = Closed }))
 as_tags fs = tags_as fs ∙ ap (λ fs. ty.Tags (roll-TyRow (record { fields = fs; tail = Closed }))) (each_as fs)
 
-pub as_function : (params : List Ground) (es : List Effect) (answer : Ground) → as_type (known.Fun params es answer) ≡ ty.Fun (map as_type params) (record { labels = es; tail = Closed }) (as_type answer)
+pub as_function : (params : List Ground) (es : List Effect) (answer : Ground)
+    → as_type (known.Fun params es answer) ≡ ty.Fun (map as_type params) (record { labels = es; tail = Closed }) (as_type answer)
 unfolding as_type
 as_function params es answer = search ground_folds.the_lemmas
 
@@ -150,7 +160,8 @@ module _ (closed : ℕ) where
   unfolding count row_count
   count_tags r = search the_lemmas
 
-  pub count_function : (params : List Ty) (es : Effects) (answer : Ty) → count closed (ty.Fun params es answer) ≡ 1 + (sum_of (map (count closed) params) + (effects_count closed es + count closed answer))
+  pub count_function : (params : List Ty) (es : Effects) (answer : Ty)
+      → count closed (ty.Fun params es answer) ≡ 1 + (sum_of (map (count closed) params) + (effects_count closed es + count closed answer))
   unfolding count
   count_function params es answer = search the_lemmas
 
@@ -175,3 +186,11 @@ module _ (closed : ℕ) where
 
   pub count_row : (r : TyRow) → row_count closed r ≡ sum_of (map (λ f. 1 + count closed f.ty) (out-TyRow r).fields) + end_count closed (out-TyRow r).tail
   count_row r = by_counts r ∙ ap (λ ns. sum_of ns + end_count closed (out-TyRow r).tail) (counted_each (out-TyRow r).fields)
+
+  counts_rolled : (fs : List TyField) (tail : RowTail) → row_count closed (roll-TyRow (record { fields = fs; tail = tail })) ≡ sum_of (map field_count fs) + end_count closed tail
+  unfolding row_count field_count
+  counts_rolled fs tail = search the_lemmas
+
+  pub count_rolled : (fs : List TyField) (tail : RowTail)
+      → row_count closed (roll-TyRow (record { fields = fs; tail = tail })) ≡ sum_of (map (λ f. 1 + count closed f.ty) fs) + end_count closed tail
+  count_rolled fs tail = counts_rolled fs tail ∙ ap (λ ns. sum_of ns + end_count closed tail) (counted_each fs)

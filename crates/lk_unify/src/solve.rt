@@ -36,7 +36,7 @@ fn variables_in(alloc: Global, equations: &[Equation]) -> Result<List<Variable>,
 
 /// Gives each variable a node.
 fn bind_all(loader: &mut Loader, variables: &[Variable]) -> Result<(), NoMemory>
-    requires start { IsStart loader.old }
+    requires { IsStart loader.old }
     ensures start { OnOk result (IsStart loader.new) }
     ensures bound { OnOk result (AreBound loader.new variables.now) }
 {

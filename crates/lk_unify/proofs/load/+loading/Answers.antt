@@ -44,7 +44,7 @@ load_type-returns-in_ok-load_base-in-Text t c = loads_text c.args.loader.now c.l
 
 pub load_type-returns-in_ok-load_variable-in-Var : goal.load_type-returns-in_ok-load_variable-in-Var
 load_type-returns-in_ok-load_variable-in-Var t c =
-    loads_var c.args.loader.now c.load_variable.new.loader c.in_ok-load_variable-in-Var.field-0 c.in-Var.number c.args.ty.now c.in-Var.is c.in_ok-load_variable-in-Var.ensures
+    loads_var c.args.loader.now c.load_variable.new.loader c.in_ok-load_variable-in-Var.field-0 c.in-Var.number c.args.ty.now c.in-Var.is c.in_ok-load_variable-in-Var.ensures.loads
 
 pub load_types-loop-ty-init : goal.load_types-loop-ty-init
 load_types-loop-ty-init t c = loads_no_types c.args.loader.now c.new-nodes.result c.requires c.new-nodes.ensures

@@ -7,4 +7,4 @@ returns-in_ok-add_node-in-None c =
 
 pub returns-in_ok-load_variable-in-Some : goal.returns-in_ok-load_variable-in-Some
 returns-in_ok-load_variable-in-Some c =
-    end_variable c.args.loader.now c.load_variable.new.loader c.in_ok-load_variable-in-Some.field-0 c.args.tail c.in-Some.variable c.in-Some.is c.in_ok-load_variable-in-Some.ensures
+    end_variable c.args.loader.now c.load_variable.new.loader c.in_ok-load_variable-in-Some.field-0 c.args.tail c.in-Some.variable c.in-Some.is c.in_ok-load_variable-in-Some.ensures.loads
