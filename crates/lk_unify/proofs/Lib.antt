@@ -24,12 +24,14 @@ pub mod Loose
 pub mod Mades
 pub mod Merged
 pub mod Models
+pub mod Numbering
 pub mod Ordered
 pub mod Pairs
 pub mod Ranks
 pub mod Relabel
 pub mod RowAlgebra
 pub mod RowsBefore
+pub mod Shaping
 pub mod Sizes
 pub mod Solved
 pub mod Solving

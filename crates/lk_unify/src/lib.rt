@@ -6,6 +6,7 @@
 #![tactic(auto)]
 
 mod arena;
+mod chain;
 mod counting;
 mod equations;
 mod flat;
@@ -16,7 +17,10 @@ mod load;
 mod loader;
 mod merge;
 mod node;
+mod numbers;
 mod order;
+mod reading;
+mod row_fields;
 mod solve;
 #[cfg(test)]
 mod solve_tests;
@@ -29,4 +33,6 @@ pub use equations::equate;
 pub use load::load_equation;
 pub use loader::Loader;
 pub use node::{Field, Head, Pair, Shape};
+pub use numbers::numbers_for;
+pub use reading::read_all;
 pub use solve::first_unsolvable;
