@@ -27,11 +27,13 @@ pub mod Models
 pub mod Numbering
 pub mod Ordered
 pub mod Pairs
+pub mod Placing
 pub mod Ranks
+pub mod ReadParts
+pub mod ReadRows
 pub mod Relabel
 pub mod RowAlgebra
 pub mod RowsBefore
-pub mod Shaping
 pub mod Sizes
 pub mod Solved
 pub mod Solving
