@@ -29,8 +29,10 @@ pub mod Ordered
 pub mod Pairs
 pub mod Placing
 pub mod Ranks
+pub mod ReadMade
 pub mod ReadParts
 pub mod ReadRows
+pub mod ReadVariables
 pub mod Relabel
 pub mod RowAlgebra
 pub mod RowsBefore

@@ -1,5 +1,5 @@
 -- Rows of nodes read down their tails.
-use Rattle.std.proofs.Common.{◌≡◌, ℕ, zero, suc, ◌+◌, ◌-◌, ◌<◌, Bool, true, false, List, [], ◌∷◌, ◌++◌, length, get_or, map, drop, refl, sym, ◌∙◌, ap, subst, arith, Option, Some, None, cond}
+use Rattle.std.proofs.Common.{◌≡◌, ℕ, zero, suc, ◌+◌, ◌-◌, ◌<◌, append_assoc, Bool, true, false, List, [], ◌∷◌, ◌++◌, length, get_or, map, drop, refl, sym, ◌∙◌, ap, subst, arith, Option, Some, None, cond}
 use Rattle.std.specs.FinMap as fin
 use Rattle.std.specs.List.{filter}
 use Rattle.std.specs.Prelude.{is_some}
@@ -8,6 +8,7 @@ use Rattle.lk_classes.specs.Classes.{class_at}
 use Rattle.lk_types.specs.Each.{Each}
 use Rattle.lk_types.specs.Rows.{Label, label_order, EffectSet}
 use Rattle.lk_types.specs.declared.ty.Effect.{Effect}
+use Rattle.lk_types.specs.declared.ty.Effect.TheVariants.{Local, Move, Print, Rec, Scan, Trap, Write}
 use Rattle.lk_types.specs.declared.ty.RowTail.{RowTail}
 use Rattle.lk_types.specs.declared.ty.RowTail.TheVariants.{Closed, Var}
 use Rattle.lk_types.specs.declared.ty.Ty.{Ty}
@@ -126,6 +127,9 @@ module _ (nodes : Arena) (numbers : List ℕ) (fuel node : ℕ) (can : CanRead n
 
 -- ---- the effects one after another
 
+abbrev pub every_effect : List Effect
+every_effect = Local ∷ Move ∷ Print ∷ Rec ∷ Scan ∷ Trap ∷ Write ∷ []
+
 drop_now : (xs : List Effect) (i : ℕ) (x d : Effect) → i < length xs → get_or xs i d ≡ x → drop i xs ≡ x ∷ drop (suc i) xs
 drop_now [] i x d h is = absurd (omega arith)
 drop_now (y ∷ ys) zero x d h is = ap (λ z. z ∷ ys) is
@@ -136,7 +140,7 @@ module _ (s : EffectSet) (xs labels : List Effect) (i j : ℕ) (is : j ≡ suc i
   next = drop_now xs i x d h at ∙ ap (λ k. x ∷ drop k xs) (sym is)
 
   pub effect_taken : s x ≡ true → labels ++ filter s (drop i xs) ≡ (labels ++ x ∷ []) ++ filter s (drop j xs)
-  effect_taken t = ap (λ ys. labels ++ filter s ys) next ∙ ap (λ b. labels ++ cond b (x ∷ filter s (drop j xs)) (filter s (drop j xs))) t ∙ append-assoc labels (x ∷ []) (filter s (drop j xs))
+  effect_taken t = ap (λ ys. labels ++ filter s ys) next ∙ ap (λ b. labels ++ cond b (x ∷ filter s (drop j xs)) (filter s (drop j xs))) t ∙ sym (append_assoc labels (x ∷ []) (filter s (drop j xs)))
 
   pub effect_left : s x ≡ false → labels ++ filter s (drop i xs) ≡ labels ++ filter s (drop j xs)
   effect_left t = ap (λ ys. labels ++ filter s ys) next ∙ ap (λ b. labels ++ cond b (x ∷ filter s (drop j xs)) (filter s (drop j xs))) t
@@ -209,15 +213,19 @@ missing_below : (fs : List Field) (u : ℕ → Value) (m : OpenRow) (l : Label) 
 missing_below fs u m l p n g =
     ap (λ (m : OpenRow). fin.get m.fields l) (sym (fields_same fs u m)) ∙ get-row_with fs u m p l ∙ ap (λ o. value_at u o (fin.get m.fields l)) n ∙ g
 
-module _ (fs : List Field) (u : ℕ → Value) (m : OpenRow) (can : CanStand fs u m) (i j : ℕ) (is : j ≡ suc i) (d : Field) (h : i < length fs) where
-  pub next_new : fin.get (with_fields (drop j fs) u m).fields (get_or fs i d).label ≡ None
+-- the field f at the place i
+module _ (fs : List Field) (u : ℕ → Value) (m : OpenRow) (can : CanStand fs u m) (i j : ℕ) (is : j ≡ suc i) (h : i < length fs) (f : Field) (at : f ≡ get_or fs i f) where
+  pub next_new : fin.get (with_fields (drop j fs) u m).fields f.label ≡ None
   next_new =
-      missing_below (drop j fs) u m (get_or fs i d).label (Each-drop (λ f. IsPlain (u f.node)) j fs can.plain)
-      (ap (λ k. found_at (drop k fs) (get_or fs i d).label) is ∙ distinct_at fs i d h can.distinct)
-      (Each-at (λ f. fin.get m.fields f.label ≡ None) fs i d h can.fresh)
+      missing_below (drop j fs) u m f.label (Each-drop (λ f. IsPlain (u f.node)) j fs can.plain)
+      (ap (λ k. found_at (drop k fs) f.label) is ∙ ap (λ g. found_at (drop (suc i) fs) g.label) at ∙ distinct_at fs i f h can.distinct)
+      (ap (λ g. fin.get m.fields g.label) at ∙ Each-at (λ f. fin.get m.fields f.label ≡ None) fs i f h can.fresh)
 
-  pub next_row : with_entry (with_fields (drop j fs) u m) (get_or fs i d).label (type_in (u (get_or fs i d).node)) ≡ with_fields (drop i fs) u m
-  next_row = ap (λ k. with_entry (with_fields (drop k fs) u m) (get_or fs i d).label (type_in (u (get_or fs i d).node))) is ∙ sym (with_fields-drop fs u m i d h)
+  pub next_row : with_entry (with_fields (drop j fs) u m) f.label (type_in (u f.node)) ≡ with_fields (drop i fs) u m
+  next_row =
+      ap (λ k. with_entry (with_fields (drop k fs) u m) f.label (type_in (u f.node))) is
+      ∙ ap (λ g. with_entry (with_fields (drop (suc i) fs) u m) g.label (type_in (u g.node))) at
+      ∙ sym (with_fields-drop fs u m i f h)
 
 -- ---- functions
 

@@ -145,8 +145,9 @@ fn read_fields(
 {
     let mut row = below;
     for i in (0..own.len()).rev() {
-        let ty = read_type(alloc, arena, numbers, fuel, own[i].node)?;
-        let label = own[i].label.copy(alloc)?;
+        let field = &own[i];
+        let ty = read_type(alloc, arena, numbers, fuel, field.node)?;
+        let label = field.label.copy(alloc)?;
         row = put_field(row, label, ty)?;
     }
     Ok(row)
@@ -199,10 +200,10 @@ pub fn read_all(
 {
     let mut binds = List::new(alloc);
     for (variable, node) in loader.names.iter() {
-        let is = read_image(alloc, &loader.arena, numbers, fuel, *variable, *node)?;
+        let image = read_image(alloc, &loader.arena, numbers, fuel, *variable, *node)?;
         binds.push(Binding {
             var: number_of(*variable),
-            is,
+            is: image,
         })?;
     }
     Ok(Subst { binds })
