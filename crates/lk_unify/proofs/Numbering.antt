@@ -1,10 +1,8 @@
 -- Numbers given one after another to the classes of which nothing is known.
 use Rattle.std.proofs.Common.{◌≡◌, ℕ, zero, suc, ◌+◌, ◌<◌, ◌≤◌, Bool, true, false, ◌⊎◌, inl, inr, ⊎_elim, List, [], ◌∷◌, ◌++◌, length, refl, sym, ◌∙◌, ap, subst, arith, None}
 use Rattle.std.proofs.lemmas.Bool.{cases_eq, eqb-true, eq-eqb}
-use Rattle.std.proofs.lemmas.Bool.Decides.{nat_tests}
 use Rattle.std.specs.Prelude.{◌==◌, ◌&&◌, cond}
 use Rattle.lk_classes.specs.Classes.{class_at}
-use Rattle.lk_types.specs.declared.ty.Variable.TheVariants as variable
 use Rattle.lk_unify.specs.Kinds.{Kind, OfTypes, OfFields, OfEffects, OfUnit, OfNothing}
 use Rattle.lk_unify.specs.Loading.{node_for}
 use Rattle.lk_unify.specs.Reading.{name_in, own_variable, is_own_class, IsNaming, IsUnused}

@@ -9,7 +9,7 @@ use Rattle.lk_unify.proofs.ReadParts.{made_list, made_fields, made_tags}
 use Rattle.lk_unify.proofs.ReadRows.{made_function}
 use Rattle.lk_unify.specs.Openings.{row_type, effects_type}
 use Rattle.lk_unify.specs.Reading.{CanReadParts, type_in, row_in, effects_in}
-use Rattle.lk_unify.specs.Values.{Value, Plain, OfRow, IsMadeOf}
+use Rattle.lk_unify.specs.Values.{Value, IsMadeOf}
 use Rattle.lk_unify.specs.declared.arena.Arena.{Arena}
 use Rattle.lk_unify.specs.declared.node.Head.{Head}
 use Rattle.lk_unify.specs.declared.node.Head.TheVariants as head
@@ -63,4 +63,6 @@ module _ (nodes : Arena) (numbers : List ℕ) (fuel : ℕ) (u : ℕ → Value) (
     pub function_read : h ≡ head.Fun → (params : List Ty) (effects : Effects) (answer : Ty) → params ≡ map (λ p. type_in (u p)) (others ps) →
         effects ≡ effects_type (effects_in (row_in (u (get_or ps 0 0)))) → answer ≡ type_in (u (get_or ps 1 0)) → ty.Fun params effects answer ≡ type_in x
     function_read is params effects answer p e a =
-        (λ i. ty.Fun (p i) (e i) (a i)) ∙ ap (λ qs. ty.Fun (map (λ p. type_in (u p)) qs) (effects_type (effects_in (row_in (u (get_or ps 0 0))))) (type_in (u (get_or ps 1 0)))) (all_others ps) ∙ sym (function_of ps (subst (λ h. CanReadParts nodes numbers fuel h ps) is can) (subst (λ h. IsMadeOf h (map u ps) x) is made))
+        let whole = p ∙ ap (map (λ q. type_in (u q))) (all_others ps) in
+        (λ i. ty.Fun (whole i) (e i) (a i))
+        ∙ sym (function_of ps (subst (λ h. CanReadParts nodes numbers fuel h ps) is can) (subst (λ h. IsMadeOf h (map u ps) x) is made))

@@ -1,19 +1,17 @@
 -- What the class of a node shows of its value, and what its parts can be read with.
-use Rattle.std.proofs.Common.{◌≡◌, ℕ, ◌+◌, ◌-◌, ◌<◌, List, [], ◌∷◌, length, map, refl, sym, ◌∙◌, ap, subst, arith}
+use Rattle.std.proofs.Common.{◌≡◌, ℕ, ◌-◌, ◌<◌, List, [], ◌∷◌, length, map, refl, sym, ◌∙◌, ap, subst, arith}
 use Rattle.lk_classes.specs.Classes.{class_at}
 use Rattle.lk_types.specs.Each.{Each}
-use Rattle.lk_types.specs.declared.ty.RowTail.TheVariants.{Closed, Var}
-use Rattle.lk_types.specs.declared.ty.Ty.{Ty}
+use Rattle.lk_types.specs.declared.ty.RowTail.TheVariants.{Var}
 use Rattle.lk_types.specs.declared.ty.Ty.TheVariants as ty
 use Rattle.lk_unify.proofs.EachLemmas.{Each-zip, Each-from_map}
-use Rattle.lk_unify.specs.Kinds.{Kind, OfTypes, OfFields, OfEffects, TakesKinds, HasKind}
+use Rattle.lk_unify.specs.Kinds.{Kind, OfTypes, TakesKinds, HasKind}
 use Rattle.lk_unify.specs.Models.{IsOwn}
-use Rattle.lk_unify.specs.Openings.{OpenRow, only_tail, row_type, effects_type}
-use Rattle.lk_unify.specs.Reading.{CanRead, CanReadParts, name_in, type_in, row_in, effects_in}
+use Rattle.lk_unify.specs.Openings.{only_tail, row_type}
+use Rattle.lk_unify.specs.Reading.{CanRead, CanReadParts, name_in, type_in, row_in}
 use Rattle.lk_unify.specs.Shapes.{shape_at, parts_of, IsBuilt}
 use Rattle.lk_unify.specs.Values.{Value, Plain, OfRow, IsMadeOf}
 use Rattle.lk_unify.specs.declared.arena.Arena.{Arena}
-use Rattle.lk_unify.specs.declared.node.Field.{Field}
 use Rattle.lk_unify.specs.declared.node.Head.{Head}
 use Rattle.lk_unify.specs.declared.node.Head.TheVariants as head
 use Rattle.lk_unify.specs.declared.node.Shape.{Shape}

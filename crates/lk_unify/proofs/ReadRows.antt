@@ -1,5 +1,5 @@
 -- Rows of nodes read down their tails.
-use Rattle.std.proofs.Common.{◌≡◌, ℕ, zero, suc, ◌+◌, ◌-◌, ◌<◌, append_assoc, Bool, true, false, List, [], ◌∷◌, ◌++◌, length, get_or, map, drop, refl, sym, ◌∙◌, ap, subst, arith, Option, Some, None, cond}
+use Rattle.std.proofs.Common.{◌≡◌, ℕ, zero, suc, ◌-◌, ◌<◌, append_assoc, Bool, true, false, List, [], ◌∷◌, ◌++◌, length, get_or, map, drop, refl, sym, ◌∙◌, ap, subst, arith, Option, Some, None, cond}
 use Rattle.std.specs.FinMap as fin
 use Rattle.std.specs.List.{filter}
 use Rattle.std.specs.Prelude.{is_some}
@@ -13,17 +13,17 @@ use Rattle.lk_types.specs.declared.ty.RowTail.{RowTail}
 use Rattle.lk_types.specs.declared.ty.RowTail.TheVariants.{Closed, Var}
 use Rattle.lk_types.specs.declared.ty.Ty.{Ty}
 use Rattle.lk_types.specs.declared.ty.Ty.TheVariants as ty
-use Rattle.lk_types.specs.declared.ty.TyRow.{TyRow, roll-TyRow}
+use Rattle.lk_types.specs.declared.ty.TyRow.{roll-TyRow}
 use Rattle.lk_unify.proofs.EachLemmas.{Each-zip, Each-from_map}
 use Rattle.lk_unify.proofs.EffectSets.{set_in-effect_row}
-use Rattle.lk_unify.proofs.ReadParts.{shape_parts_can, shape_kind, shape_built, class_kind, open_value}
-use Rattle.lk_unify.proofs.RowAlgebra.{same_rows, plain_some}
+use Rattle.lk_unify.proofs.ReadParts.{shape_parts_can, shape_kind, shape_built, open_value}
+use Rattle.lk_unify.proofs.RowAlgebra.{same_rows}
 use Rattle.lk_unify.proofs.Sizes.{plain_or, row_with, get-row_with, no_entries}
-use Rattle.lk_unify.specs.Kinds.{Kind, OfTypes, OfFields, OfEffects, HasKind}
+use Rattle.lk_unify.specs.Kinds.{OfTypes, OfFields, OfEffects}
 use Rattle.lk_unify.specs.Models.{IsOwn}
-use Rattle.lk_unify.specs.Openings.{OpenRow, OpenEffects, only_tail, field_type, row_type, effects_type}
+use Rattle.lk_unify.specs.Openings.{OpenRow, only_tail, field_type, row_type, effects_type}
 use Rattle.lk_unify.specs.Reading.{CanRead, CanStand, name_in, type_in, row_in, effects_in, with_entry, with_fields}
-use Rattle.lk_unify.specs.Shapes.{shape_at, found_at, plain_of, value_at, IsPlain, IsRowOf, IsBuilt, IsDistinct, fields_in}
+use Rattle.lk_unify.specs.Shapes.{shape_at, found_at, plain_of, value_at, IsPlain, IsRowOf, IsDistinct, fields_in}
 use Rattle.lk_unify.specs.Values.{Value, Plain, OfRow, IsMadeOf, effect_row}
 use Rattle.lk_unify.specs.declared.arena.Arena.{Arena}
 use Rattle.lk_unify.specs.declared.node.Field.{Field}

@@ -4,9 +4,8 @@ use Rattle.std.specs.Ordering.{is_lt}
 use Rattle.std.specs.Prelude.{◌≡◌, ◌==◌, ◌&&◌, ℕ, suc, ◌<◌, Bool, true, List, [], ◌∷◌, length, map, slice_index_or as get_or, Option, Some, None, is_some, if◌then◌else◌}
 use Rattle.lk_classes.specs.Classes.{class_at}
 use Rattle.lk_types.specs.Each.{Each}
-use Rattle.lk_types.specs.Rows.{EffectSet, Label, label_order}
+use Rattle.lk_types.specs.Rows.{Label, label_order}
 use Rattle.lk_types.specs.TypeText.{effect_word}
-use Rattle.lk_types.specs.declared.equation.Binding.{Binding}
 use Rattle.lk_types.specs.declared.equation.Image.{Image}
 use Rattle.lk_types.specs.declared.equation.Image.TheVariants as image
 use Rattle.lk_types.specs.declared.equation.Subst.{Subst}

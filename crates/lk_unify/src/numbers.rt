@@ -50,7 +50,7 @@ fn is_own(loader: &Loader, node: usize) -> bool
 }
 
 /// A number for each class of which nothing is known, each another one, and none that a variable with a node has. The
-/// other nodes get 0.
+/// other nodes get 0. Refused where a class would get the last number of all.
 pub fn numbers_for(alloc: Global, loader: &Loader) -> Result<Vec<u32>, NoMemory>
     requires { IsLoader loader.now }
     ensures count { IfOk result (λ numbers. length numbers.items ≡ length loader.now.arena.shapes) }

@@ -1,4 +1,4 @@
-use Rattle.std.proofs.Common.{◌≡◌, refl, sym, ◌∙◌, ap}
+use Rattle.std.proofs.Common.{sym, ◌∙◌, ap}
 use Rattle.lk_unify.proofs.ReadRows.{effects_end}
 use Rattle.lk_unify.proofs.chain.+end_of.Goals as goal
 use Rattle.lk_unify.specs.Shapes.{shape_at}

@@ -1,4 +1,4 @@
-use Rattle.std.proofs.Common.{◌≡◌, refl, sym, ◌∙◌, ap}
+use Rattle.std.proofs.Common.{sym, ◌∙◌, ap}
 use Rattle.std.specs.Prelude.{is_some}
 use Rattle.lk_unify.proofs.ReadRows.{effect_own, effect_below, effect_none}
 use Rattle.lk_unify.proofs.chain.+row_has.Goals as goal

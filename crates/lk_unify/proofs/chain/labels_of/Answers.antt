@@ -1,8 +1,7 @@
-use Rattle.std.proofs.Common.{◌≡◌, ◌+◌, [], ◌∷◌, ◌++◌, drop, refl, sym, ◌∙◌, ap, arith, true, false}
+use Rattle.std.proofs.Common.{◌+◌, ◌++◌, drop, refl, sym, ◌∙◌, ap, arith}
 use Rattle.std.specs.List.{filter}
 use Rattle.std.specs.Prelude.{is_some}
 use Rattle.std.specs.FinMap as fin
-use Rattle.lk_types.specs.declared.ty.Effect.TheVariants.{Local, Move, Print, Rec, Scan, Trap, Write}
 use Rattle.lk_unify.proofs.ReadRows.{every_effect, effect_taken, effect_left}
 use Rattle.lk_unify.proofs.chain.labels_of.Goals as goal
 use Rattle.lk_unify.proofs.chain.labels_of.Goals.{then-row_has+in_ok-push, else-row_has}

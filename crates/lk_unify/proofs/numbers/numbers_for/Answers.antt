@@ -1,5 +1,5 @@
-use Rattle.std.proofs.Common.{◌≡◌, ◌+◌, ◌∷◌, ◌++◌, [], refl, sym, ◌∙◌, ap, subst, false, arith}
-use Rattle.lk_unify.proofs.Numbering.{IsNumbered, numbered_other, numbered_more, its_naming}
+use Rattle.std.proofs.Common.{◌≡◌, ◌+◌, ◌∷◌, ◌++◌, [], sym, ◌∙◌, ap, arith}
+use Rattle.lk_unify.proofs.Numbering.{numbered_other, numbered_more, its_naming}
 use Rattle.lk_unify.proofs.numbers.numbers_for.Goals as goal
 use Rattle.lk_unify.proofs.numbers.numbers_for.Goals.{then-is_own+in_ok-number+in-Some+in_ok-push, else-is_own+in_ok-push-2}
 
@@ -10,7 +10,8 @@ loop-node-preserved c =
           let items : c.if-is_own.numbers.items ≡ c.loop-node.numbers.items ++ w.in_ok-number.number ∷ [] = ap (λ v. v.items) w.numbers-is ∙ w.in_ok-push.ensures.items in
           let next : c.if-is_own.next ≡ w.in_ok-number.number + 1 = w.next-is ∙ w.in-Some.ensures.1 in
           rw (items, next)
-          (numbered_more c.args.loader.now c.loop-node.numbers.items c.loop-node.node c.loop-node.next c.loop-node.invariant w.in_ok-number.number w.in_ok-number.ensures.from w.in_ok-number.ensures.unused)
+          (numbered_more c.args.loader.now c.loop-node.numbers.items c.loop-node.node c.loop-node.next c.loop-node.invariant w.in_ok-number.number
+          w.in_ok-number.ensures.from w.in_ok-number.ensures.unused)
       | else-is_own+in_ok-push-2 w ↦
           let items : c.if-is_own.numbers.items ≡ c.loop-node.numbers.items ++ 0 ∷ [] = ap (λ v. v.items) w.numbers-is ∙ w.in_ok-push-2.ensures.items in
           rw (items, w.next-is)

@@ -1,4 +1,3 @@
-use Rattle.std.proofs.Common.{◌≡◌, length}
 use Rattle.lk_unify.proofs.Numbering.{IsNumbered}
 use Rattle.lk_unify.proofs.numbers.numbers_for.Given as goal
 

@@ -1,15 +1,13 @@
-use Rattle.std.proofs.Common.{◌≡◌, ◌+◌, ◌-◌, suc, [], ◌∷◌, drop, length, map, refl, sym, ◌∙◌, ap, subst, arith}
+use Rattle.std.proofs.Common.{◌-◌, [], drop, sym, ◌∙◌, ap, arith}
 use Rattle.std.specs.FinMap as fin
-use Rattle.lk_types.specs.Each.{Each}
 use Rattle.lk_types.specs.declared.ty.RowTail.TheVariants.{Closed, Var}
-use Rattle.lk_types.specs.declared.ty.Ty.TheVariants as ty
 use Rattle.lk_types.specs.declared.ty.TyRow.{roll-TyRow}
 use Rattle.lk_unify.proofs.ReadParts.{made_can}
 use Rattle.lk_unify.proofs.ReadRows.{fields_can, fields_open, fields_none, fields_row, next_new, next_row}
 use Rattle.lk_unify.proofs.ReadMade.{list_read, fields_read, tags_read, function_read}
 use Rattle.lk_unify.proofs.reading.+reading.Goals as goal
-use Rattle.lk_unify.specs.Openings.{row_type, effects_type}
-use Rattle.lk_unify.specs.Reading.{name_in, type_in, row_in, effects_in, with_fields, with_entry}
+use Rattle.lk_unify.specs.Openings.{row_type}
+use Rattle.lk_unify.specs.Reading.{name_in, row_in, with_fields, with_entry}
 use Rattle.lk_unify.specs.Shapes.{shape_at}
 
 pub read_type-read_made-requires : goal.read_type-read_made-requires

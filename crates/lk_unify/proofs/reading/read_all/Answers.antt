@@ -1,6 +1,5 @@
 use Rattle.std.proofs.Common.{◌≡◌, ℕ, List, ◌++◌, append-nil, map, sym, ◌∙◌, ap, subst, Some}
 use Rattle.lk_types.specs.Each.{Each}
-use Rattle.lk_types.specs.declared.equation.Subst.{Subst}
 use Rattle.lk_types.specs.declared.ty.Variable.{Variable}
 use Rattle.lk_unify.proofs.ReadVariables.{named_can, entries_named, binding_of, binds_more}
 use Rattle.lk_unify.proofs.reading.read_all.Goals as goal

@@ -1,5 +1,4 @@
-use Rattle.std.proofs.Common.{◌≡◌, ◌++◌, ◌∷◌, length, take, drop, refl, sym, ◌∙◌, ap, arith}
-use Rattle.lk_types.specs.declared.ty.TyField.{TyField}
+use Rattle.std.proofs.Common.{length, ◌∙◌, ap, arith}
 use Rattle.lk_types.specs.declared.ty.TyRow.{roll-TyRow, out-TyRow}
 use Rattle.lk_unify.proofs.Placing.{inserted, place_within, row_placed}
 use Rattle.lk_unify.proofs.row_fields.put_field.Goals as goal
@@ -17,6 +16,6 @@ pub returns : goal.returns
 returns c m is none =
     let p = c.place_of-at.ensures ∙ ap (place_in c.args.label) c.as_slice.ensures in
     ap (λ fs. roll-TyRow (record { fields = fs; tail = (out-TyRow c.args.row).tail }))
-        (c.from_vec.ensures ∙ c.in_ok-insert.ensures.items
-        ∙ (λ i. inserted (p i) (record { label = c.args.label; ty = c.args.ty }) (c.into_vec-fields.ensures i)))
+    (c.from_vec.ensures ∙ c.in_ok-insert.ensures.items
+    ∙ (λ i. inserted (p i) (record { label = c.args.label; ty = c.args.ty }) (c.into_vec-fields.ensures i)))
     ∙ row_placed c.args.row c.args.label c.args.ty m is none
