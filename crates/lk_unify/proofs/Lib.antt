@@ -35,6 +35,7 @@ pub mod Loose
 pub mod Mades
 pub mod Merged
 pub mod Models
+pub mod Numbering
 pub mod OpenAsGround
 pub mod OpenComposed
 pub mod OpenCounts
@@ -52,7 +53,12 @@ pub mod OpenVariables
 pub mod Ordered
 pub mod OwnModel
 pub mod Pairs
+pub mod Placing
 pub mod Ranks
+pub mod ReadMade
+pub mod ReadParts
+pub mod ReadRows
+pub mod ReadVariables
 pub mod Relabel
 pub mod RowAlgebra
 pub mod RowCounts

@@ -1,8 +1,10 @@
 -- What is read back of the classes: what their values put for the variables.
 use Rattle.std.specs.FinMap as fin
-use Rattle.std.specs.Prelude.{◌≡◌, ℕ, ◌<◌, true, List, [], ◌∷◌, length, flat_map, Option, Some, None, is_some}
+use Rattle.std.specs.Ordering.{is_lt}
+use Rattle.std.specs.Prelude.{◌≡◌, ◌==◌, ◌&&◌, ℕ, suc, ◌<◌, Bool, true, List, [], ◌∷◌, flat_map, length, map, slice_index_or as get_or, Option, Some, None, is_some, if◌then◌else◌}
 use Rattle.lk_classes.specs.Classes.{class_at}
-use Rattle.lk_types.specs.Rows.{EffectSet}
+use Rattle.lk_types.specs.Each.{Each}
+use Rattle.lk_types.specs.Rows.{Label, label_order}
 use Rattle.lk_types.specs.TypeText.{effect_word}
 use Rattle.lk_types.specs.declared.equation.Binding.{Binding}
 use Rattle.lk_types.specs.declared.equation.Image.{Image}
@@ -11,14 +13,20 @@ use Rattle.lk_types.specs.declared.equation.Subst.{Subst}
 use Rattle.lk_types.specs.declared.ty.RowTail.TheVariants.{Closed, Var}
 use Rattle.lk_types.specs.declared.ty.Ty.{Ty}
 use Rattle.lk_types.specs.declared.ty.Ty.TheVariants as ty
+use Rattle.lk_types.specs.declared.ty.TyField.{TyField}
 use Rattle.lk_types.specs.declared.ty.Variable.{Variable}
 use Rattle.lk_types.specs.declared.ty.Variable.TheVariants as variable
-use Rattle.lk_unify.specs.Kinds.{Kind, OfTypes, OfFields, OfEffects, OfUnit, OfNothing}
+use Rattle.lk_unify.specs.Kinds.{Kind, OfTypes, OfFields, OfEffects, OfUnit, OfNothing, AreKinded}
 use Rattle.lk_unify.specs.Loading.{node_for}
 use Rattle.lk_unify.specs.Openings.{OpenRow, OpenEffects, Opening, only_tail, row_type, effects_type}
-use Rattle.lk_unify.specs.Shapes.{shape_at, is_loose_shape}
+use Rattle.lk_unify.specs.Order.{IsRanked}
+use Rattle.lk_unify.specs.Shapes.{shape_at, is_loose_shape, IsArena, IsDistinct, IsPlain}
 use Rattle.lk_unify.specs.Values.{Value, Plain, OfRow}
+use Rattle.lk_unify.specs.declared.arena.Arena.{Arena}
 use Rattle.lk_unify.specs.declared.loader.Loader.{Loader}
+use Rattle.lk_unify.specs.declared.node.Field.{Field}
+use Rattle.lk_unify.specs.declared.node.Head.{Head}
+use Rattle.lk_unify.specs.declared.node.Head.TheVariants as head
 
 abbrev pub type_in : Value → Ty
 type_in (Plain t) = t
@@ -79,3 +87,63 @@ own_variable OfNothing n = variable.Row n
 pub record IsNaming (l : Loader) (kind : ℕ → Kind) (name : ℕ → ℕ) (owner : ℕ → ℕ) : Type 0 where
   pub owned : (i : ℕ) → i < length l.arena.shapes → class_at l.arena.classes i ≡ i → is_loose_shape (shape_at l.arena.shapes i) ≡ true → owner (name i) ≡ i
   pub unused : (i : ℕ) → i < length l.arena.shapes → class_at l.arena.classes i ≡ i → is_loose_shape (shape_at l.arena.shapes i) ≡ true → node_for l (own_variable (kind i) (name i)) ≡ None
+
+-- no variable with this number has a node
+abbrev pub IsUnused : Loader → ℕ → Type 0
+IsUnused l n = (node_for l (variable.Plain n) ≡ None) × (node_for l (variable.Row n) ≡ None) × (node_for l (variable.Effects n) ≡ None)
+
+-- the node names a class of which nothing is known
+abbrev pub is_own_class : Loader → ℕ → Bool
+is_own_class l i = (class_at l.arena.classes i == i) && is_loose_shape (shape_at l.arena.shapes i)
+
+-- the number of a class, or 0
+abbrev pub name_in : List ℕ → ℕ → ℕ
+name_in numbers i = get_or numbers i 0
+
+-- ---- what reading rests on
+
+-- a node of this kind, among nodes whose kinds fit, in a class that stands lower than `fuel`
+pub record CanRead (nodes : Arena) (numbers : List ℕ) (fuel node : ℕ) (k : Kind) : Type 0 where
+  pub arena : IsArena nodes.shapes nodes.classes
+  pub count : length numbers ≡ length nodes.shapes
+  pub below : node < length nodes.shapes
+  pub kind : ℕ → Kind
+  pub kinded : AreKinded nodes.shapes nodes.classes kind
+  pub kind_is : kind node ≡ k
+  pub rank : ℕ → ℕ
+  pub ranked : IsRanked nodes.shapes nodes.classes rank
+  pub room : rank (class_at nodes.classes node) < fuel
+
+-- the parts of a constructor are as many as it takes, of the kinds that it takes
+abbrev pub CanReadParts : Arena → List ℕ → ℕ → Head → List ℕ → Type 0
+CanReadParts nodes numbers fuel head.Int [] = Unit {0}
+CanReadParts nodes numbers fuel head.Bool [] = Unit {0}
+CanReadParts nodes numbers fuel head.Text [] = Unit {0}
+CanReadParts nodes numbers fuel head.List (p ∷ []) = CanRead nodes numbers fuel p OfTypes
+CanReadParts nodes numbers fuel head.Fields (p ∷ []) = CanRead nodes numbers fuel p OfFields
+CanReadParts nodes numbers fuel head.Tags (p ∷ []) = CanRead nodes numbers fuel p OfFields
+CanReadParts nodes numbers fuel head.Fun (p ∷ answer ∷ params) =
+    CanRead nodes numbers fuel p OfEffects × CanRead nodes numbers fuel answer OfTypes × Each (λ q. CanRead nodes numbers fuel q OfTypes) params
+CanReadParts _ _ _ _ _ = ⊥
+
+-- ---- rows, field by field
+
+-- how many fields stand before the first whose label isn't below this one
+abbrev pub place_in : Label → List TyField → ℕ
+place_in l [] = 0
+place_in l (f ∷ fs) = if is_lt (label_order f.label l) then suc (place_in l fs) else 0
+
+-- the row with one field more
+abbrev pub with_entry : OpenRow → Label → Ty → OpenRow
+with_entry m l t = record { fields = fin.insert m.fields l t; tail = m.tail }
+
+-- the row with these fields before it
+abbrev pub with_fields : List Field → (ℕ → Value) → OpenRow → OpenRow
+with_fields [] u m = m
+with_fields (f ∷ fs) u m = with_entry (with_fields fs u m) f.label (type_in (u f.node))
+
+-- they can stand before it, since no label is there twice
+pub record CanStand (fs : List Field) (u : ℕ → Value) (m : OpenRow) : Type 0 where
+  pub plain : Each (λ f. IsPlain (u f.node)) fs
+  pub fresh : Each (λ f. fin.get m.fields f.label ≡ None) fs
+  pub distinct : IsDistinct fs

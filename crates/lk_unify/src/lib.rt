@@ -6,6 +6,7 @@
 #![tactic(auto)]
 
 mod arena;
+mod chain;
 mod clean;
 mod counting;
 mod flat;
@@ -16,7 +17,10 @@ mod load;
 mod loader;
 mod merge;
 mod node;
+mod numbers;
 mod order;
+mod reading;
+mod row_fields;
 mod solve;
 #[cfg(test)]
 mod solve_tests;
@@ -26,4 +30,6 @@ pub use counting::Count;
 pub use load::load_equation;
 pub use loader::Loader;
 pub use node::{Field, Head, Pair, Shape};
+pub use numbers::numbers_for;
+pub use reading::read_all;
 pub use solve::{Loaded, first_unsolvable, is_solvable, load_all};

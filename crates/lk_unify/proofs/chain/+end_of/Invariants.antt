@@ -1,0 +1,4 @@
+use Rattle.lk_unify.proofs.chain.+end_of.Given as goal
+
+abbrev pub decreases-end_of : goal.decreases-end_of
+decreases-end_of l = l.fuel

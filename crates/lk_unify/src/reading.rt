@@ -1,0 +1,210 @@
+//! Types read back of the classes of their nodes.
+
+ghost use Rattle.std.specs.FinMap as fin;
+ghost use Rattle.std.specs.Prelude.{◌≡◌, ℕ, ◌<◌, length, map, IfOk};
+ghost use Rattle.lk_types.specs.Each.{Each};
+ghost use Rattle.lk_unify.specs.Kinds.{Kind, OfTypes, OfFields};
+ghost use Rattle.lk_unify.specs.Loading.{kind_of, IsKinded, IsLoader};
+ghost use Rattle.lk_unify.specs.Models.{IsOwn};
+ghost use Rattle.lk_unify.specs.Openings.{OpenRow, row_type};
+ghost use Rattle.lk_unify.specs.Order.{IsRanked};
+ghost use Rattle.lk_unify.specs.Reading.{image_of, name_in, number_of, row_in, subst_by, type_in, with_fields, CanRead, CanReadParts, CanStand};
+ghost use Rattle.lk_unify.specs.Values.{IsMadeOf, Value};
+
+use crate::arena::Arena;
+use crate::chain::read_effects;
+use crate::loader::Loader;
+use crate::node::{Field, Head, Shape};
+use crate::row_fields::put_field;
+use lk_ast::{Boxed, List, NoMemory};
+use lk_types::{Binding, Image, RowTail, Subst, Ty, TyRow, Variable};
+use std::alloc::Global;
+
+/// The type of a node.
+#[cycle(reading)]
+pub fn read_type(
+    alloc: Global,
+    arena: &Arena,
+    numbers: &[u32],
+    fuel: usize,
+    node: usize,
+) -> Result<Ty, NoMemory>
+    requires { CanRead arena.now numbers.now fuel node OfTypes }
+    ensures { IfOk result (λ t. (u : ℕ → Value) → IsOwn arena.now.shapes arena.now.classes (name_in numbers.now) u → t ≡ type_in (u node)) }
+{
+    let class = arena.class_of(node);
+    match arena.shape_of(class) {
+        Shape::Made(head, parts) => {
+            let ty = read_made(alloc, arena, numbers, fuel - 1, *head, parts.as_slice())?;
+            Ok(ty)
+        }
+        _ => Ok(Ty::Var(numbers[class])),
+    }
+}
+
+/// The type that a constructor makes of the types and rows of these nodes.
+#[cycle(reading)]
+fn read_made(
+    alloc: Global,
+    arena: &Arena,
+    numbers: &[u32],
+    fuel: usize,
+    head: Head,
+    parts: &[usize],
+) -> Result<Ty, NoMemory>
+    requires { CanReadParts arena.now numbers.now fuel head parts.now }
+    ensures { IfOk result (λ t. (u : ℕ → Value) → IsOwn arena.now.shapes arena.now.classes (name_in numbers.now) u → (x : Value) → IsMadeOf head (map u parts.now) x → t ≡ type_in x) }
+{
+    match head {
+        Head::Int => Ok(Ty::Int),
+        Head::Bool => Ok(Ty::Bool),
+        Head::Text => Ok(Ty::Text),
+        Head::List => {
+            let item = read_type(alloc, arena, numbers, fuel, parts[0])?;
+            Ok(Ty::List(Boxed::new(alloc, item)?))
+        }
+        Head::Fields => {
+            let row = read_row(alloc, arena, numbers, fuel, parts[0])?;
+            Ok(Ty::Fields(row))
+        }
+        Head::Tags => {
+            let row = read_row(alloc, arena, numbers, fuel, parts[0])?;
+            Ok(Ty::Tags(row))
+        }
+        Head::Fun => {
+            let effects = read_effects(alloc, arena, numbers, fuel, parts[0])?;
+            let answer = read_type(alloc, arena, numbers, fuel, parts[1])?;
+            let params = read_types(alloc, arena, numbers, fuel, &parts[2..])?;
+            Ok(Ty::Fun(params, effects, Boxed::new(alloc, answer)?))
+        }
+    }
+}
+
+/// The types of nodes.
+#[cycle(reading)]
+fn read_types(
+    alloc: Global,
+    arena: &Arena,
+    numbers: &[u32],
+    fuel: usize,
+    nodes: &[usize],
+) -> Result<List<Ty>, NoMemory>
+    requires { Each (λ p. CanRead arena.now numbers.now fuel p OfTypes) nodes.now }
+    ensures { IfOk result (λ types. (u : ℕ → Value) → IsOwn arena.now.shapes arena.now.classes (name_in numbers.now) u → types ≡ map (λ p. type_in (u p)) nodes.now) }
+{
+    let mut types = List::new(alloc);
+    for node in nodes {
+        let ty = read_type(alloc, arena, numbers, fuel, *node)?;
+        types.push(ty)?;
+    }
+    Ok(types)
+}
+
+/// The row of a node.
+#[cycle(reading)]
+pub fn read_row(
+    alloc: Global,
+    arena: &Arena,
+    numbers: &[u32],
+    fuel: usize,
+    node: usize,
+) -> Result<TyRow, NoMemory>
+    requires { CanRead arena.now numbers.now fuel node OfFields }
+    ensures { IfOk result (λ row. (u : ℕ → Value) → IsOwn arena.now.shapes arena.now.classes (name_in numbers.now) u → row ≡ row_type (row_in (u node))) }
+{
+    let class = arena.class_of(node);
+    match arena.shape_of(class) {
+        Shape::Open => Ok(TyRow {
+            fields: List::new(alloc),
+            tail: RowTail::Var(numbers[class]),
+        }),
+        Shape::Row(own, tail) => {
+            let below = read_row(alloc, arena, numbers, fuel - 1, *tail)?;
+            let row = read_fields(alloc, arena, numbers, fuel - 1, own.as_slice(), below)?;
+            Ok(row)
+        }
+        _ => Ok(TyRow {
+            fields: List::new(alloc),
+            tail: RowTail::Closed,
+        }),
+    }
+}
+
+/// The row with these fields more, whose labels it lacks.
+#[cycle(reading)]
+fn read_fields(
+    alloc: Global,
+    arena: &Arena,
+    numbers: &[u32],
+    fuel: usize,
+    own: &[Field],
+    below: TyRow,
+) -> Result<TyRow, NoMemory>
+    requires { Each (λ f. CanRead arena.now numbers.now fuel f.node OfTypes) own.now }
+    ensures { IfOk result (λ row. (u : ℕ → Value) → IsOwn arena.now.shapes arena.now.classes (name_in numbers.now) u → (m : OpenRow) → below ≡ row_type m → CanStand own.now u m → row ≡ row_type (with_fields own.now u m)) }
+{
+    let mut row = below;
+    for i in (0..own.len()).rev() {
+        let field = &own[i];
+        let ty = read_type(alloc, arena, numbers, fuel, field.node)?;
+        let label = field.label.copy(alloc)?;
+        row = put_field(row, label, ty)?;
+    }
+    Ok(row)
+}
+
+/// The number of a variable.
+fn number_of(variable: Variable) -> u32
+    ensures { result ≡ number_of variable }
+{
+    match variable {
+        Variable::Plain(number) => number,
+        Variable::Row(number) => number,
+        Variable::Effects(number) => number,
+    }
+}
+
+/// What a node stands for, as what is put for this variable.
+pub fn read_image(
+    alloc: Global,
+    arena: &Arena,
+    numbers: &[u32],
+    fuel: usize,
+    variable: Variable,
+    node: usize,
+) -> Result<Image, NoMemory>
+    requires { CanRead arena.now numbers.now fuel node (kind_of variable) }
+    ensures { IfOk result (λ image. (u : ℕ → Value) → IsOwn arena.now.shapes arena.now.classes (name_in numbers.now) u → image ≡ image_of variable (u node)) }
+{
+    match variable {
+        Variable::Plain(_) => Ok(Image::Plain(read_type(alloc, arena, numbers, fuel, node)?)),
+        Variable::Row(_) => Ok(Image::Row(read_row(alloc, arena, numbers, fuel, node)?)),
+        Variable::Effects(_) => Ok(Image::Effects(read_effects(
+            alloc, arena, numbers, fuel, node,
+        )?)),
+    }
+}
+
+/// What is put for each variable that has a node.
+pub fn read_all(
+    alloc: Global,
+    loader: &Loader,
+    numbers: &[u32],
+    fuel: usize,
+) -> Result<Subst, NoMemory>
+    requires whole { IsLoader loader.now }
+    requires kinds { (kind : ℕ → Kind) × IsKinded loader.now kind }
+    requires count { length numbers.now ≡ length loader.now.arena.shapes }
+    requires ranks { (rank : ℕ → ℕ) × IsRanked loader.now.arena.shapes loader.now.arena.classes rank × ((i : ℕ) → i < length loader.now.arena.shapes → rank i < fuel) }
+    ensures { IfOk result (λ s. (u : ℕ → Value) → IsOwn loader.now.arena.shapes loader.now.arena.classes (name_in numbers.now) u → s ≡ subst_by loader.now u) }
+{
+    let mut binds = List::new(alloc);
+    for (variable, node) in loader.names.iter() {
+        let image = read_image(alloc, &loader.arena, numbers, fuel, *variable, *node)?;
+        binds.push(Binding {
+            var: number_of(*variable),
+            is: image,
+        })?;
+    }
+    Ok(Subst { binds })
+}
