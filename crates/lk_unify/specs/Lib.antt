@@ -1,4 +1,5 @@
 pub mod Choices
+pub mod Counting
 pub mod Kinds
 pub mod Loading
 pub mod Measures

@@ -6,6 +6,7 @@
 #![tactic(auto)]
 
 mod arena;
+mod counting;
 mod equations;
 mod flat;
 mod joining;
@@ -23,6 +24,7 @@ mod solve_tests;
 mod tests;
 
 pub use arena::Arena;
+pub use counting::Count;
 pub use equations::equate;
 pub use load::load_equation;
 pub use loader::Loader;
