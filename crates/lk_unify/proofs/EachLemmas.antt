@@ -7,6 +7,10 @@ Each-get_or P [] k d h e = absurd (omega arith)
 Each-get_or P (x ∷ xs) zero d h e = e.0
 Each-get_or P (x ∷ xs) (suc k) d h e = Each-get_or P xs k d (omega arith) e.1
 
+pub Each-of_all : {A : Type 0} (P : A → Type 0) (xs : List A) (d : A) → ((k : ℕ) → k < length xs → P (get_or xs k d)) → Each P xs
+Each-of_all P [] d h = tt
+Each-of_all P (x ∷ xs) d h = (h zero (omega arith), Each-of_all P xs d (λ k l. h (suc k) (omega arith)))
+
 pub Each-map : {A : Type 0} (P Q : A → Type 0) → ((x : A) → P x → Q x) → (xs : List A) → Each P xs → Each Q xs
 Each-map P Q f [] e = tt
 Each-map P Q f (x ∷ xs) e = (f x e.0, Each-map P Q f xs e.1)

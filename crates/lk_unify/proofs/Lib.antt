@@ -23,12 +23,14 @@ pub mod LoadRows
 pub mod LoadSteps
 pub mod LoadTypes
 pub mod LoadVariables
+pub mod Looks
 pub mod Loose
 pub mod Mades
 pub mod Merged
 pub mod NamedEffects
 pub mod Ordered
 pub mod Pairs
+pub mod Ranking
 pub mod Ranks
 pub mod Readings
 pub mod Relabel

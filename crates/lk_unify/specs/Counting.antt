@@ -2,7 +2,7 @@
 -- known count one each, a row one for each field and what the field's type counts, a row of effects one for each effect, the end of
 -- a row one where it is open and `closed` where it is closed. Counts are saturated, since types that share parts may have a great many
 -- nodes.
-use Rattle.std.specs.Prelude.{◌≡◌, ℕ, ◌+◌, ◌<◌, List, [], ◌∷◌, length, map, slice_index_or as get_or, take, if◌then◌else◌, ◌<?◌}
+use Rattle.std.specs.Prelude.{◌≡◌, ℕ, ◌+◌, ◌<◌, List, [], ◌∷◌, length, map, slice_index_or as get_or, take, min}
 use Rattle.lk_classes.specs.Classes.{class_at}
 use Rattle.lk_types.specs.Each.{Each, OneOf}
 use Rattle.lk_types.specs.Sizes.{most_nodes}
@@ -37,7 +37,7 @@ AreCounted closed shapes classes kind count =
 
 -- from the first number that is too many on, only that
 abbrev pub saturated : ℕ → ℕ
-saturated n = if n <? most_nodes + 1 then n else most_nodes + 1
+saturated n = min n (most_nodes + 1)
 
 -- the count of a node of this kind
 abbrev pub IsCountOf : Kind → Count → ℕ → Type 0

@@ -7,6 +7,7 @@
 
 mod arena;
 mod counting;
+mod depth;
 mod equations;
 mod flat;
 mod joining;
