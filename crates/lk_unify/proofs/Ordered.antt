@@ -59,4 +59,3 @@ rank_at-none (suc n) (suc i) = rank_at-none n i
 pub unknown-none : (n : ℕ) → unknown (replicate n None) ≡ n
 unknown-none zero = refl
 unknown-none (suc n) = ap suc (unknown-none n)
-

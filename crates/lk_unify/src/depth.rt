@@ -1,7 +1,7 @@
 //! The nodes in an order in which parts come first, where no class is a part of itself, by a search that goes down from each
 //! node. Only that they are nodes is promised: what ranks them tests each (`order`).
 
-ghost use Rattle.std.specs.Prelude.{ℕ, ◌<◌, length, IfOk, IfSome};
+ghost use Rattle.std.specs.Prelude.{ℕ, ◌+◌, ◌^◌, ◌<◌, length, IfOk, IfSome};
 ghost use Rattle.lk_classes.specs.Classes.{AreClasses};
 ghost use Rattle.lk_unify.specs.Order.{IsSearch};
 ghost use Rattle.lk_unify.specs.Shapes.{parts_of, AllBelow, AreNodes};
@@ -22,6 +22,8 @@ struct Search {
 /// The part of a shape with this number, if it has so many.
 fn part_at(shape: &Shape, k: usize) -> Option<usize>
     ensures below { IfSome result (λ part. k < length (parts_of shape.now)) }
+    ensures range { k < 2 ^ 64 }
+    ensures room { IfSome result (λ part. k + 1 < 2 ^ 64) }
     ensures part { (n : ℕ) → AllBelow n (parts_of shape.now) → IfSome result (λ part. part < n) }
 {
     match shape {
@@ -30,8 +32,11 @@ fn part_at(shape: &Shape, k: usize) -> Option<usize>
             if k == 0 {
                 return Some(*tail);
             }
-            let field = fields.as_slice().get(k - 1)?;
-            Some(field.node)
+            let fields = fields.as_slice();
+            if k > fields.len() {
+                return None;
+            }
+            Some(fields[k - 1].node)
         }
         _ => None,
     }
@@ -62,7 +67,11 @@ fn go_down(shapes: &[Shape], classes: &Classes, search: &mut Search) -> Result<(
 }
 
 /// All nodes, parts first where no class is a part of itself.
-pub fn depth_order(alloc: Global, shapes: &[Shape], classes: &Classes) -> Result<Vec<usize>, NoMemory>
+pub fn depth_order(
+    alloc: Global,
+    shapes: &[Shape],
+    classes: &Classes,
+) -> Result<Vec<usize>, NoMemory>
     requires nodes { AreNodes shapes.now }
     requires classes { AreClasses (length shapes.now) classes.now }
     ensures { IfOk result (λ order. AllBelow (length shapes.now) order.items) }

@@ -209,6 +209,8 @@ pub fn is_ordered(alloc: Global, shapes: &[Shape], classes: &Classes) -> Result<
     ensures ranked { IfOk result (λ ordered. IsTrue ordered → (rank : ℕ → ℕ) × IsRanked shapes.now classes.now rank) }
     ensures never { IfOk result (λ ordered. (ordered ≡ false) → NeverFits shapes.now classes.now) }
 {
-    let found = parts_first(alloc, shapes, classes)?;
-    Ok(found.is_some())
+    match parts_first(alloc, shapes, classes)? {
+        Some(_) => Ok(true),
+        None => Ok(false),
+    }
 }

@@ -1,5 +1,5 @@
-use Rattle.std.proofs.Common.{◌+◌, length}
-use Rattle.lk_unify.proofs.Looks.{unseen}
+use Rattle.std.proofs.Common.{length}
+use Rattle.lk_unify.proofs.Looks.{to_do}
 use Rattle.lk_unify.proofs.depth.go_down.Given as goal
 use Rattle.lk_unify.specs.Order.{IsSearch}
 
@@ -7,4 +7,4 @@ abbrev pub invariant-down : goal.invariant-down
 invariant-down l = IsSearch (length l.shapes) l.search.looks.items l.search.path.items l.search.done.items
 
 abbrev pub decreases-down : goal.decreases-down
-decreases-down l = (unseen l.shapes l.search.looks.items + unseen l.shapes l.search.looks.items) + length l.search.path.items
+decreases-down l = to_do l.shapes l.search.looks.items l.search.path.items
