@@ -65,3 +65,8 @@ pub OneOf-none : {A : Type 0} (P : A → Type 0) → ((x : A) → P x → ⊥) �
 OneOf-none P f [] o = o
 OneOf-none P f (x ∷ xs) (inl p) = f x p
 OneOf-none P f (x ∷ xs) (inr o) = OneOf-none P f xs o
+
+pub OneOf-at : {A : Type 0} (P : A → Type 0) (xs : List A) (d : A) → OneOf P xs → (k : ℕ) × (k < length xs) × P (get_or xs k d)
+OneOf-at P [] d o = absurd o
+OneOf-at P (x ∷ xs) d (inl p) = (zero, omega arith, p)
+OneOf-at P (x ∷ xs) d (inr o) = let r = OneOf-at P xs d o in (suc r.0, (let l = r.1 in omega arith), r.2)

@@ -3,6 +3,7 @@ pub mod Binding
 pub mod ChainFlats
 pub mod Chains
 pub mod Choices
+pub mod Counts
 pub mod Determined
 pub mod Distinct
 pub mod EachLemmas
