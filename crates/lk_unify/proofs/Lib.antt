@@ -47,5 +47,6 @@ pub mod Terms
 pub mod TermsSame
 pub mod Uniting
 pub mod Unmet
+pub mod Ways
 pub mod Weak
 pub mod Weights

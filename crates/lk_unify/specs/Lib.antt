@@ -10,3 +10,4 @@ pub mod Solving
 pub mod Steps
 pub mod Terms
 pub mod Values
+pub mod Ways
