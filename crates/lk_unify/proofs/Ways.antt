@@ -106,6 +106,10 @@ module _ (shapes : List Shape) (classes : List ℕ) where
 
 -- ---- marks
 
+not_both : (b : Bool) → b ≡ true → b ≡ false → ⊥
+not_both true e f = let g : true ≡ false = f in cc
+not_both false e f = let g : false ≡ true = e in cc
+
 -- how many classes aren't marked
 abbrev pub unmarked : List Bool → ℕ
 unmarked [] = 0
@@ -138,3 +142,21 @@ module _ (shapes : List Shape) (classes : List ℕ) where
         ⊎_elim (λ (is : k ≡ i). subst (IsCleanAt shapes classes) (sym is) clean)
         (λ (ne : k ≡ i → ⊥). are.clean k (sym (get_or-set_other marks i k true false ne) ∙ e)) (cases_eq k i);
   }
+
+  -- a class of fields on a clean way, and what is further down
+  here_clean : (way : List ℕ) (at tail : ℕ) → IsWay shapes classes way at tail → is_fields (shape_at shapes tail) ≡ false → Each (IsCleanAt shapes classes) way →
+      is_fields (shape_at shapes at) ≡ true → IsCleanAt shapes classes at
+  here_clean [] at tail is last clean fields = absurd (not_both (is_fields (shape_at shapes at)) fields (ap (λ t. is_fields (shape_at shapes t)) is ∙ last))
+  here_clean (c ∷ way) at tail is last clean fields = subst (IsCleanAt shapes classes) (sym is.0) clean.0
+
+  below_clean : (way : List ℕ) (at tail : ℕ) → IsWay shapes classes way at tail → is_fields (shape_at shapes tail) ≡ false → Each (IsCleanAt shapes classes) way →
+      is_fields (shape_at shapes at) ≡ true → HasCleanWay shapes classes (class_at classes (tail_in (shape_at shapes at)))
+  below_clean [] at tail is last clean fields = absurd (not_both (is_fields (shape_at shapes at)) fields (ap (λ t. is_fields (shape_at shapes t)) is ∙ last))
+  below_clean (c ∷ way) at tail is last clean fields =
+      subst (λ k. HasCleanWay shapes classes (class_at classes (tail_in (shape_at shapes k)))) (sym is.0) (way, tail, is.4, last, clean.1)
+
+  pub clean_here : (at : ℕ) → HasCleanWay shapes classes at → is_fields (shape_at shapes at) ≡ true → IsCleanAt shapes classes at
+  clean_here at has = here_clean has.0 at has.1 has.2 has.3 has.4
+
+  pub clean_below : (at : ℕ) → HasCleanWay shapes classes at → is_fields (shape_at shapes at) ≡ true → HasCleanWay shapes classes (class_at classes (tail_in (shape_at shapes at)))
+  clean_below at has = below_clean has.0 at has.1 has.2 has.3 has.4

@@ -6,6 +6,7 @@
 #![tactic(auto)]
 
 mod arena;
+mod clean;
 mod counting;
 mod depth;
 mod equations;

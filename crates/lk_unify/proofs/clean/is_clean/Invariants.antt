@@ -1,5 +1,5 @@
 use Rattle.std.proofs.Common.{ℕ, ◌<◌}
-use Rattle.lk_unify.proofs.equations.is_clean.Given as goal
+use Rattle.lk_unify.proofs.clean.is_clean.Given as goal
 use Rattle.lk_unify.specs.Shapes.{IsCleanAt}
 
 abbrev pub invariant-loop-i : goal.invariant-loop-i
