@@ -1,5 +1,6 @@
 -- A row without a label twice: no row on the way down has one either.
-use Rattle.std.proofs.Common.{◌≡◌, ◌≢◌, ℕ, zero, suc, ◌+◌, ◌<◌, ⊎_elim, Bool, true, false, List, [], ◌∷◌, ◌++◌, length, set, refl, sym, ◌∙◌, ap, subst, arith, Option, Some, None, append_assoc, append-nil}
+use Rattle.std.proofs.Common.{◌≡◌, ◌≢◌, ℕ, zero, suc, ◌+◌, ◌<◌, ⊎_elim, Bool, true, false, List, [], ◌∷◌, ◌++◌, length, set, refl, sym, ◌∙◌, ap, subst, arith, Option, Some, None}
+use Rattle.std.proofs.Common.{append_assoc, append-nil}
 use Rattle.std.proofs.lemmas.Bool.{cases_eq}
 use Rattle.std.proofs.lemmas.List.{length-set, length-replicate, get_or-set_same, get_or-set_other}
 use Rattle.std.specs.Prelude.{slice_index_or as get_or, replicate}
@@ -55,7 +56,8 @@ module _ (shapes : List Shape) (classes : List ℕ) where
 
   along_more : (way : List ℕ) (c : ℕ) → fields_along shapes (way ++ c ∷ []) ≡ fields_along shapes way ++ fields_in (shape_at shapes c)
   along_more [] c = append-nil (fields_in (shape_at shapes c))
-  along_more (d ∷ way) c = ap (λ fs. fields_in (shape_at shapes d) ++ fs) (along_more way c) ∙ sym (append_assoc (fields_in (shape_at shapes d)) (fields_along shapes way) (fields_in (shape_at shapes c)))
+  along_more (d ∷ way) c =
+      ap (λ fs. fields_in (shape_at shapes d) ++ fs) (along_more way c) ∙ sym (append_assoc (fields_in (shape_at shapes d)) (fields_along shapes way) (fields_in (shape_at shapes c)))
 
   pub way_more :
       (own fields more : List Field) (from tail next : ℕ) → tail < length shapes → class_at classes tail ≡ tail → shape_at shapes tail ≡ shape.Row more next →

@@ -6,7 +6,7 @@ use Rattle.std.specs.Prelude.{◌≡◌, ℕ, ◌+◌, ◌<◌, List, [], ◌∷
 use Rattle.lk_classes.specs.Classes.{class_at}
 use Rattle.lk_types.specs.Each.{Each, OneOf}
 use Rattle.lk_types.specs.Sizes.{most_nodes}
-use Rattle.lk_unify.specs.Kinds.{Kind, OfTypes, OfFields, OfEffects}
+use Rattle.lk_unify.specs.Kinds.{Kind, AreKinded, OfTypes, OfFields, OfEffects}
 use Rattle.lk_unify.specs.Shapes.{shape_at, parts_of}
 use Rattle.lk_unify.specs.declared.counting.Count.{Count}
 use Rattle.lk_unify.specs.declared.node.Field.{Field}
@@ -79,6 +79,11 @@ effect_count closed of Open = 1
 effect_count closed of Empty = closed
 effect_count closed of (shape.Row fs t) = length fs + (of t).as_effects
 effect_count closed of _ = 0
+
+-- the counts of all nodes, each at the number that names its class
+abbrev pub AreCountsOf : ℕ → List Shape → List ℕ → List Count → Type 0
+AreCountsOf closed shapes classes counts =
+    (kind : ℕ → Kind) (f : ℕ → ℕ) → AreKinded shapes classes kind → AreCounted closed shapes classes kind f → (i : ℕ) → i < length shapes → IsCountOf (kind i) (count_at classes counts i) (f i)
 
 -- ---- an order of the nodes in which parts come first
 

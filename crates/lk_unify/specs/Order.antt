@@ -33,10 +33,14 @@ IsPartlyRanked shapes classes ranks next =
     (i r : ℕ) → i < length shapes → rank_at ranks i ≡ Some r →
     (r < next) × Each (λ p. HasRankBelow ranks r (class_at classes p)) (parts_of (shape_at shapes i))
 
+-- it has no rank only if a part has none
+abbrev pub IsStuckAt : List Shape → List ℕ → List (Option ℕ) → ℕ → Type 0
+IsStuckAt shapes classes ranks i = rank_at ranks i ≡ None → OneOf (IsUnknown ranks classes) (parts_of (shape_at shapes i))
+
 -- each class without a rank has a part without one
 abbrev pub IsStuck : List Shape → List ℕ → List (Option ℕ) → Type 0
 IsStuck shapes classes ranks =
-    (i : ℕ) → i < length shapes → class_at classes i ≡ i → rank_at ranks i ≡ None → OneOf (IsUnknown ranks classes) (parts_of (shape_at shapes i))
+    (i : ℕ) → i < length shapes → class_at classes i ≡ i → IsStuckAt shapes classes ranks i
 
 -- how many have no rank
 abbrev pub unknown : List (Option ℕ) → ℕ

@@ -1,10 +1,9 @@
 //! How many nodes there are in what the classes stand for.
 
-ghost use Rattle.std.specs.Prelude.{◌≡◌, ◌<◌, ◌≤◌, ◌+◌, ℕ, length, slice_index_or as get_or, IfOk};
-ghost use Rattle.lk_classes.specs.Classes.{class_at, AreClasses};
+ghost use Rattle.std.specs.Prelude.{◌≡◌, ◌<◌, ◌≤◌, ◌+◌, length, IfOk};
+ghost use Rattle.lk_classes.specs.Classes.{AreClasses};
 ghost use Rattle.lk_types.specs.Each.{Each};
-ghost use Rattle.lk_unify.specs.Counting.{count_at as the_count_at, effect_count, field_sum, no_count, part_sum, saturated, type_count, type_sum, AreCounted, IsCountOf, IsPartsFirst};
-ghost use Rattle.lk_unify.specs.Kinds.{Kind, AreKinded};
+ghost use Rattle.lk_unify.specs.Counting.{count_at as the_count_at, effect_count, field_sum, part_sum, saturated, type_count, type_sum, AreCountsOf, IsPartsFirst};
 ghost use Rattle.lk_unify.specs.Shapes.{parts_of, AllBelow, AreNodes};
 
 use crate::node::{Field, Head, Shape};
@@ -143,7 +142,7 @@ pub fn counts(
     requires order { IsPartsFirst shapes.now classes.now order.now }
     requires closed { closed ≤ 1 }
     ensures count { IfOk result (λ counts. length counts.items ≡ length shapes.now) }
-    ensures counts { IfOk result (λ counts. (kind : ℕ → Kind) (f : ℕ → ℕ) → AreKinded shapes.now classes.now kind → AreCounted closed shapes.now classes.now kind f → (i : ℕ) → i < length shapes.now → IsCountOf (kind i) (get_or counts.items (class_at classes.now i) no_count) (f i)) }
+    ensures counts { IfOk result (λ counts. AreCountsOf closed shapes.now classes.now counts.items) }
 {
     let none = Count {
         as_type: 0,

@@ -5,7 +5,7 @@
 ghost use Rattle.std.specs.Prelude.{◌≡◌, ◌<◌, ◌≤◌, ℕ, length, IfOk, IfSome, IfNone, OnOk, IsTrue, IsSome, None, false};
 ghost use Rattle.lk_types.specs.Each.{Each, OneOf};
 ghost use Rattle.lk_unify.specs.Counting.{IsPartsFirst};
-ghost use Rattle.lk_unify.specs.Order.{rank_at, IsKnown, IsUnknown, IsRanked, IsRanking, IsStuck};
+ghost use Rattle.lk_unify.specs.Order.{rank_at, IsKnown, IsUnknown, IsRanked, IsRanking, IsStuck, IsStuckAt};
 ghost use Rattle.lk_classes.specs.Classes.{class_at, AreClasses};
 ghost use Rattle.lk_unify.specs.Shapes.{shape_at, parts_of, AllBelow, AreNodes, IsDistinct, fields_in, HasFields, NeverFits};
 
@@ -95,7 +95,7 @@ fn rank_node(
     ensures ranking { OnOk result (IsRanking shapes.now classes.now ranking.new.ranks.items ranking.new.order.items) }
     ensures grows { OnOk result (length ranking.old.order.items ≤ length ranking.new.order.items) }
     ensures same { OnOk result (length ranking.new.order.items ≡ length ranking.old.order.items → ranking.new.ranks.items ≡ ranking.old.ranks.items) }
-    ensures stuck { OnOk result (length ranking.new.order.items ≡ length ranking.old.order.items → rank_at ranking.old.ranks.items i ≡ None → OneOf (λ p. IsUnknown ranking.old.ranks.items classes.now p) (parts_of (shape_at shapes.now i))) }
+    ensures stuck { OnOk result (length ranking.new.order.items ≡ length ranking.old.order.items → IsStuckAt shapes.now classes.now ranking.old.ranks.items i) }
 {
     if ranking.ranks[i].is_some() {
         return Ok(());

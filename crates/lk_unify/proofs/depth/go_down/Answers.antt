@@ -9,14 +9,16 @@ use Rattle.lk_unify.specs.declared.node.Shape.TheVariants.{Free}
 
 pub name_of-class-requires : goal.name_of-class-requires
 name_of-class-requires c =
-    let b = node_below (length c.args.shapes.now) c.down.search.looks.items c.pop.new.self.items c.down.search.done.items c.down.search.path.items c.in-Some.node c.in-Some.ensures.items c.down.invariant in
+    let b = node_below (length c.args.shapes.now) c.down.search.looks.items c.pop.new.self.items c.down.search.done.items c.down.search.path.items c.in-Some.node
+    c.in-Some.ensures.items c.down.invariant in
     let shape = get_or_read c.args.shapes.now c.in-Some.node c.index-shapes-node.result b c.index-shapes-node.is Free in
     rw c.requires.classes.count
     (c.in-Some-part_at.ensures.part (length c.args.shapes.now) (rw (sym shape) at (c.requires.nodes c.in-Some.node b)))
 
 pub index-requires : goal.index-requires
 index-requires c =
-    let b = node_below (length c.args.shapes.now) c.down.search.looks.items c.pop.new.self.items c.down.search.done.items c.down.search.path.items c.in-Some.node c.in-Some.ensures.items c.down.invariant in
+    let b = node_below (length c.args.shapes.now) c.down.search.looks.items c.pop.new.self.items c.down.search.done.items c.down.search.path.items c.in-Some.node
+    c.in-Some.ensures.items c.down.invariant in
     let shape = get_or_read c.args.shapes.now c.in-Some.node c.index-shapes-node.result b c.index-shapes-node.is Free in
     let part = c.in-Some-part_at.ensures.part (length c.args.shapes.now) (rw (sym shape) at (c.requires.nodes c.in-Some.node b)) in
     let l : class_at c.args.classes.now c.in-Some-part_at.part < length c.args.shapes.now = c.requires.classes.below c.in-Some-part_at.part part in
@@ -27,18 +29,19 @@ index-requires c =
 
 pub down-preserved-in-Continue-branch-2 : goal.down-preserved-in-Continue-branch-2
 down-preserved-in-Continue-branch-2 c =
-    let b = node_below (length c.args.shapes.now) c.down.search.looks.items c.pop.new.self.items c.down.search.done.items c.down.search.path.items c.in-Some.node c.in-Some.ensures.items c.down.invariant in
+    let b = node_below (length c.args.shapes.now) c.down.search.looks.items c.pop.new.self.items c.down.search.done.items c.down.search.path.items c.in-Some.node
+    c.in-Some.ensures.items c.down.invariant in
     let shape = get_or_read c.args.shapes.now c.in-Some.node c.index-shapes-node.result b c.index-shapes-node.is Free in
     let part = c.in-Some-part_at.ensures.part (length c.args.shapes.now) (rw (sym shape) at (c.requires.nodes c.in-Some.node b)) in
     rw (c.in_ok-push-in-Some-part_at-2.ensures.items, c.in_ok-push-in-Some-part_at.ensures.items, c.name_of-class.ensures.name)
-    (search_more (length c.args.shapes.now) c.down.search.looks.items c.pop.new.self.items c.down.search.done.items c.down.search.path.items c.in-Some.node c.in-Some.ensures.items c.down.invariant
-    c.saturating_add.result _ (c.requires.classes.below c.in-Some-part_at.part part))
+    (search_more (length c.args.shapes.now) c.down.search.looks.items c.pop.new.self.items c.down.search.done.items c.down.search.path.items c.in-Some.node
+    c.in-Some.ensures.items c.down.invariant c.saturating_add.result _ (c.requires.classes.below c.in-Some-part_at.part part))
 
 pub down-preserved : goal.down-preserved
 down-preserved c =
     rw c.in_ok-push-in-None.ensures.items
-    (search_done (length c.args.shapes.now) c.down.search.looks.items c.pop.new.self.items c.down.search.done.items c.down.search.path.items c.in-Some.node c.in-Some.ensures.items c.down.invariant
-    c.saturating_add.result)
+    (search_done (length c.args.shapes.now) c.down.search.looks.items c.pop.new.self.items c.down.search.done.items c.down.search.path.items c.in-Some.node
+    c.in-Some.ensures.items c.down.invariant c.saturating_add.result)
 
 pub down-smaller-in-Continue-branch-2 : goal.down-smaller-in-Continue-branch-2
 down-smaller-in-Continue-branch-2 c =

@@ -12,7 +12,8 @@ returns-then-not-all_classes_known-clause-never c =
 pub returns-clause-ranked : goal.returns-clause-ranked
 returns-clause-ranked c = (
   rank_of c.in_ok-ranking.ranking.ranks.items,
-  IsRanked-from_partly c.args.shapes.now c.args.classes.now c.in_ok-ranking.ranking.ranks.items (length c.in_ok-ranking.ranking.order.items) c.requires.classes.count c.in_ok-ranking.ensures.ranking.ranked
+  IsRanked-from_partly c.args.shapes.now c.args.classes.now c.in_ok-ranking.ranking.ranks.items (length c.in_ok-ranking.ranking.order.items)
+      c.requires.classes.count c.in_ok-ranking.ensures.ranking.ranked
       (rw c.as_slice.ensures.value at (c.all_classes_known.ensures.known c.if-not-all_classes_known.false)),
 )
 
