@@ -2,6 +2,8 @@
 
 ghost use Rattle.std.specs.Prelude.{◌≡◌, [], ◌∷◌, IfOk};
 
+use crate::counting::counts;
+use crate::order::parts_first;
 use crate::{Arena, Field, Head, Shape, equate};
 use lk_ast::{List, NoMemory, Text};
 use std::alloc::Global;
@@ -96,5 +98,29 @@ fn no_label_stands_twice(rt: HostRuntime) -> Result<(), Fail> {
     assert!(rt; itself);
     let equal = equate(alloc, &mut arena, r, row)?;
     assert!(rt; !equal);
+    Ok(())
+}
+
+// A list of an unknown type, and a function with an open row of effects from two integers to such lists.
+#[test]
+fn nodes_are_counted(rt: HostRuntime) -> Result<(), Fail> {
+    let alloc = rt.alloc();
+    let mut arena = Arena::new(alloc);
+    let free = arena.add_node(Shape::Free)?;
+    let list = arena.add_node(Shape::Made(Head::List, one_part(alloc, free)?))?;
+    let effects = arena.add_node(Shape::Open)?;
+    let mut parts = one_part(alloc, effects)?;
+    parts.push(list)?;
+    parts.push(free)?;
+    parts.push(list)?;
+    let function = arena.add_node(Shape::Made(Head::Fun, parts))?;
+    let shapes = arena.shapes.as_slice();
+    let found = parts_first(alloc, shapes, &arena.classes)?;
+    let Some(order) = found else {
+        assert!(rt; false);
+        return Ok(());
+    };
+    let counts = counts(alloc, shapes, &arena.classes, order.as_slice(), 0)?;
+    assert_eq!(rt; counts[function].as_type, 7);
     Ok(())
 }
