@@ -1,13 +1,13 @@
 -- Counts of nodes, worked out one after another in an order in which parts come first.
-use Rattle.std.proofs.Common.{◌≡◌, ℕ, zero, suc, ◌+◌, ◌<◌, ◌≤◌, ⊎_elim, inl, inr, List, [], ◌∷◌, length, take, map, set, refl, sym, ◌∙◌, ap, subst, arith}
+use Rattle.std.proofs.Common.{◌≡◌, ℕ, ◌+◌, ◌<◌, ◌≤◌, ⊎_elim, List, [], ◌∷◌, length, take, map, set, refl, sym, ◌∙◌, ap, subst, arith}
 use Rattle.std.proofs.lemmas.Bool.{cases_eq}
 use Rattle.std.proofs.lemmas.List.{length-take-le, get_or-set_same, get_or-set_other, get_or-take}
 use Rattle.std.specs.Prelude.{slice_index_or as get_or}
 use Rattle.lk_classes.specs.Classes.{class_at, AreClasses}
-use Rattle.lk_types.specs.Each.{Each, OneOf}
+use Rattle.lk_types.specs.Each.{Each}
 use Rattle.lk_unify.proofs.EachLemmas.{Each-from_map, Each-zip, Each-get_or, OneOf-at}
 use Rattle.lk_unify.specs.Counting.{sum_of, counted, saturated, no_count, count_at, type_sum, field_sum, part_sum, type_count, effect_count, AreCounted, IsAmong, IsCountOf, IsPartsFirst}
-use Rattle.lk_unify.specs.Kinds.{Kind, OfTypes, OfFields, OfEffects, OfUnit, OfNothing, TakesKinds, AreFieldsOf, IsEffectName, HasKind, AreKinded}
+use Rattle.lk_unify.specs.Kinds.{Kind, OfTypes, OfFields, OfEffects, OfUnit, OfNothing, TakesKinds, HasKind, AreKinded}
 use Rattle.lk_unify.specs.Shapes.{shape_at, parts_of, AreNodes}
 use Rattle.lk_unify.specs.declared.counting.Count.{Count}
 use Rattle.lk_unify.specs.declared.node.Field.{Field}

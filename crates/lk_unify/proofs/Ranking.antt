@@ -1,5 +1,5 @@
 -- Ranks with the nodes in the order of their ranks, one more, and an order in which parts come first.
-use Rattle.std.proofs.Common.{◌≡◌, ℕ, zero, suc, ◌+◌, ◌<◌, ⊎_elim, List, [], ◌∷◌, ◌++◌, length, set, take, refl, sym, ◌∙◌, ap, subst, arith, Option, Some, None}
+use Rattle.std.proofs.Common.{◌≡◌, ℕ, ◌+◌, ◌<◌, ⊎_elim, List, [], ◌∷◌, ◌++◌, length, set, take, sym, ◌∙◌, ap, arith, Option, Some, None}
 use Rattle.std.proofs.lemmas.Bool.{cases_eq}
 use Rattle.std.proofs.lemmas.List.{length-set, length-append, length-replicate, length-take-le, get_or-set_same, get_or-set_other, get_or_append_left, get_or-take}
 use Rattle.std.proofs.Math.Seq.{get_or-append_seam}
@@ -9,7 +9,7 @@ use Rattle.lk_unify.proofs.EachLemmas.{Each-zip, Each-of_all, OneOf-get_or}
 use Rattle.lk_unify.proofs.Ordered.{rank_at-none, unknown-none}
 use Rattle.lk_unify.proofs.Ranks.{some_of, unknown-set, ranked_more}
 use Rattle.lk_unify.specs.Counting.{IsAmong, IsPartsFirst}
-use Rattle.lk_unify.specs.Order.{rank_at, HasRankBelow, IsRanking, unknown}
+use Rattle.lk_unify.specs.Order.{rank_at, HasRankBelow, IsRanking}
 use Rattle.lk_classes.specs.Classes.{class_at, AreClasses}
 use Rattle.lk_unify.specs.Shapes.{shape_at, parts_of, AreNodes}
 use Rattle.lk_unify.specs.declared.node.Shape.{Shape}

@@ -1,14 +1,13 @@
 -- A row without a label twice: no row on the way down has one either.
-use Rattle.std.proofs.Common.{◌≡◌, ◌≢◌, ℕ, zero, suc, ◌+◌, ◌<◌, ⊎_elim, Bool, true, false, List, [], ◌∷◌, ◌++◌, length, set, refl, sym, ◌∙◌, ap, subst, arith, Option, Some, None}
+use Rattle.std.proofs.Common.{◌≡◌, ◌≢◌, ℕ, zero, suc, ◌<◌, ⊎_elim, Bool, true, false, List, [], ◌∷◌, ◌++◌, length, set, refl, sym, ◌∙◌, ap, subst, arith, Option, Some, None}
 use Rattle.std.proofs.Common.{append_assoc, append-nil}
 use Rattle.std.proofs.lemmas.Bool.{cases_eq}
-use Rattle.std.proofs.lemmas.List.{length-set, length-replicate, get_or-set_same, get_or-set_other}
+use Rattle.std.proofs.lemmas.List.{length-set, length-replicate, get_or-set_other}
 use Rattle.std.specs.Prelude.{slice_index_or as get_or, replicate}
 use Rattle.lk_classes.specs.Classes.{class_at}
 use Rattle.lk_types.specs.Each.{Each}
 use Rattle.lk_unify.proofs.ChainFlats.{apart_turned}
 use Rattle.lk_unify.proofs.Chains.{or_found, found_at-append}
-use Rattle.lk_unify.proofs.EachLemmas.{Each-map, Each-append_left}
 use Rattle.lk_unify.proofs.RowAlgebra.{found_same}
 use Rattle.lk_unify.proofs.Weak.{but_start, but_more, distinct_apart}
 use Rattle.lk_unify.specs.Shapes.{shape_at, found_at, fields_in, is_fields, is_row_shape, HasFields, IsArena, IsCleanAt, IsDistinct, IsFlatBut}
@@ -82,10 +81,10 @@ module _ (shapes : List Shape) (classes : List ℕ) where
           let whole : IsDistinct ((fields ++ more) ++ fields_along shapes way) = rw append_assoc d in
           let lacks : Each (λ f. found_at fields f.label ≡ None) more = apart_turned fields more (distinct_apart fields more (distinct_left (fields ++ more) (fields_along shapes way) whole)) in
           let apart : from ≢ c = λ same.
-              (let own_is : shape.Row flat.own flat.first ≡ shape.Row more next = sym flat.shape_is ∙ ap (shape_at shapes) (sym same) ∙ here in
-              let mine : flat.own ≡ more = ap fields_in own_is in
-              own_twice flat.own flat.rest flat.first (subst HasFields flat.shape_is (arena.filled c flat.row_below))
-              (subst (λ fs. Each (λ f. found_at fs f.label ≡ None) flat.own) flat.fields_is (subst (λ gs. Each (λ f. found_at fields f.label ≡ None) gs) (sym mine) lacks))) in
+          (let own_is : shape.Row flat.own flat.first ≡ shape.Row more next = sym flat.shape_is ∙ ap (shape_at shapes) (sym same) ∙ here in
+          let mine : flat.own ≡ more = ap fields_in own_is in
+          own_twice flat.own flat.rest flat.first (subst HasFields flat.shape_is (arena.filled c flat.row_below))
+          (subst (λ fs. Each (λ f. found_at fs f.label ≡ None) flat.own) flat.fields_is (subst (λ gs. Each (λ f. found_at fields f.label ≡ None) gs) (sym mine) lacks))) in
           rw (sym (append_assoc fields more (fields_along shapes way)))
           (flat_along way (fields ++ more) (class_at classes next) tail (but_more c shapes classes arena c fields from flat more next here apart lacks) is.4 whole)
 

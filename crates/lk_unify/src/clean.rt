@@ -35,7 +35,12 @@ fn mark_down(arena: &Arena, from: usize, marks: &mut Vec<bool>)
 }
 
 /// Marks a class of fields and those further down, if no label stands twice.
-fn mark_row(alloc: Global, arena: &Arena, node: usize, marks: &mut Vec<bool>) -> Result<(), NoMemory>
+fn mark_row(
+    alloc: Global,
+    arena: &Arena,
+    node: usize,
+    marks: &mut Vec<bool>,
+) -> Result<(), NoMemory>
     requires arena { IsArena arena.now.shapes arena.now.classes }
     requires node { node < length arena.now.shapes }
     requires marked { AreMarked arena.now.shapes arena.now.classes marks.old.items }

@@ -1,4 +1,4 @@
-use Rattle.std.proofs.Common.{◌≡◌, ◌<◌, length, true, sym, ◌∙◌, ap, subst, arith}
+use Rattle.std.proofs.Common.{◌<◌, length, true, sym, ◌∙◌, ap, subst, arith}
 use Rattle.std.proofs.lemmas.List.{get_or_read}
 use Rattle.lk_classes.specs.Classes.{class_at}
 use Rattle.lk_unify.proofs.Ways.{clean_below, clean_here, marks_more, unmarked-set}

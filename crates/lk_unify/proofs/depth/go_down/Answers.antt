@@ -1,10 +1,9 @@
-use Rattle.std.proofs.Common.{◌≡◌, ℕ, ◌<◌, length, refl, sym, ◌∙◌, arith}
+use Rattle.std.proofs.Common.{◌≡◌, ◌<◌, length, refl, sym, arith}
 use Rattle.std.proofs.lemmas.List.{get_or_read}
 use Rattle.std.specs.Prelude.{slice_index_or as get_or}
 use Rattle.lk_unify.proofs.Looks.{node_below, search_done, search_more, less_done, less_same, less_more}
 use Rattle.lk_unify.proofs.depth.go_down.Goals as goal
 use Rattle.lk_classes.specs.Classes.{class_at}
-use Rattle.lk_unify.specs.Shapes.{shape_at, parts_of}
 use Rattle.lk_unify.specs.declared.node.Shape.TheVariants.{Free}
 
 pub name_of-class-requires : goal.name_of-class-requires

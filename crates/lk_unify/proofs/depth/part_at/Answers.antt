@@ -1,5 +1,4 @@
-use Rattle.std.proofs.Common.{ℕ, ◌<◌, ◌-◌, ◌≤◌, subst, arith, length}
-use Rattle.lk_types.specs.Each.{Each}
+use Rattle.std.proofs.Common.{◌<◌, ◌-◌, ◌≤◌, subst, arith, length}
 use Rattle.lk_unify.proofs.EachLemmas.{Each-from_map, Each-get_or}
 use Rattle.lk_unify.proofs.depth.part_at.Goals as goal
 use Rattle.lk_unify.specs.Shapes.{AllBelow, parts_of}

@@ -1,4 +1,4 @@
-use Rattle.std.proofs.Common.{refl, length}
+use Rattle.std.proofs.Common.{length}
 use Rattle.lk_unify.proofs.Ordered.{rank_of, IsRanked-from_partly, NeverFits-from_stuck}
 use Rattle.lk_unify.proofs.Ranking.{parts_first_of}
 use Rattle.lk_unify.proofs.order.parts_first.Goals as goal
