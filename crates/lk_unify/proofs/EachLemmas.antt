@@ -7,6 +7,10 @@ Each-get_or P [] k d h e = absurd (omega arith)
 Each-get_or P (x ∷ xs) zero d h e = e.0
 Each-get_or P (x ∷ xs) (suc k) d h e = Each-get_or P xs k d (omega arith) e.1
 
+pub Each-of_all : {A : Type 0} (P : A → Type 0) (xs : List A) (d : A) → ((k : ℕ) → k < length xs → P (get_or xs k d)) → Each P xs
+Each-of_all P [] d h = tt
+Each-of_all P (x ∷ xs) d h = (h zero (omega arith), Each-of_all P xs d (λ k l. h (suc k) (omega arith)))
+
 pub Each-map : {A : Type 0} (P Q : A → Type 0) → ((x : A) → P x → Q x) → (xs : List A) → Each P xs → Each Q xs
 Each-map P Q f [] e = tt
 Each-map P Q f (x ∷ xs) e = (f x e.0, Each-map P Q f xs e.1)
@@ -61,3 +65,8 @@ pub OneOf-none : {A : Type 0} (P : A → Type 0) → ((x : A) → P x → ⊥) �
 OneOf-none P f [] o = o
 OneOf-none P f (x ∷ xs) (inl p) = f x p
 OneOf-none P f (x ∷ xs) (inr o) = OneOf-none P f xs o
+
+pub OneOf-at : {A : Type 0} (P : A → Type 0) (xs : List A) (d : A) → OneOf P xs → (k : ℕ) × (k < length xs) × P (get_or xs k d)
+OneOf-at P [] d o = absurd o
+OneOf-at P (x ∷ xs) d (inl p) = (zero, omega arith, p)
+OneOf-at P (x ∷ xs) d (inr o) = let r = OneOf-at P xs d o in (suc r.0, (let l = r.1 in omega arith), r.2)

@@ -2,6 +2,7 @@ pub mod Adding
 pub mod Binding
 pub mod Bindings
 pub mod Chains
+pub mod Counts
 pub mod Decided
 pub mod Distinct
 pub mod EachLemmas
@@ -31,6 +32,7 @@ pub mod LoadSteps
 pub mod LoadTypes
 pub mod LoadVariables
 pub mod Loadeds
+pub mod Looks
 pub mod Loose
 pub mod Mades
 pub mod Merged
@@ -54,6 +56,7 @@ pub mod Ordered
 pub mod OwnModel
 pub mod Pairs
 pub mod Placing
+pub mod Ranking
 pub mod Ranks
 pub mod ReadMade
 pub mod ReadParts
@@ -74,5 +77,6 @@ pub mod Uniting
 pub mod Unmet
 pub mod ValueCounts
 pub mod ValueKinds
+pub mod Ways
 pub mod Weak
 pub mod Weights

@@ -1,6 +1,5 @@
 -- What ranks of all classes say. A class without a rank that no sweep can rank has no value: a type would be a part of itself.
-use Rattle.std.proofs.Common.{◌≡◌, ℕ, zero, suc, ◌<◌, List, [], ◌++◌, length, take, drop, refl, ap, arith, Option, None}
-use Rattle.std.proofs.lemmas.List.{drop_all, take_all, append-nil}
+use Rattle.std.proofs.Common.{◌≡◌, ℕ, zero, suc, ◌<◌, List, length, refl, ap, arith, Option, None}
 use Rattle.std.specs.Prelude.{IsSome, unwrap_or, replicate}
 use Rattle.lk_unify.proofs.EachLemmas.{Each-map, Each-zip, OneOf-with, OneOf-none}
 use Rattle.lk_unify.proofs.Ranks.{some_of}
@@ -60,9 +59,3 @@ rank_at-none (suc n) (suc i) = rank_at-none n i
 pub unknown-none : (n : ℕ) → unknown (replicate n None) ≡ n
 unknown-none zero = refl
 unknown-none (suc n) = ap suc (unknown-none n)
-
--- a vector after a write to all of it as a slice
-pub written_back : {A : Type 0} (new items : List A) (n : ℕ) → length new ≡ length items → n ≡ length items → take n (new ++ drop (length new) items) ≡ new
-written_back new items n l e =
-    let d : drop (length new) items ≡ [] = drop_all (length new) items (omega arith) in
-    rw d (rw append-nil (take_all n new (omega arith)))

@@ -6,10 +6,12 @@ use Rattle.std.specs.Prelude.{◌≡◌, ℕ, ◌+◌, ◌<◌, List, [], ◌∷
 use Rattle.lk_classes.specs.Classes.{class_at}
 use Rattle.lk_types.specs.Each.{Each, OneOf}
 use Rattle.lk_types.specs.Sizes.{most_nodes}
-use Rattle.lk_unify.specs.Kinds.{Kind, OfTypes, OfFields, OfEffects}
+use Rattle.lk_unify.specs.Kinds.{Kind, AreKinded, OfTypes, OfFields, OfEffects}
 use Rattle.lk_unify.specs.Shapes.{shape_at, parts_of}
 use Rattle.lk_unify.specs.declared.counting.Count.{Count}
 use Rattle.lk_unify.specs.declared.node.Field.{Field}
+use Rattle.lk_unify.specs.declared.node.Head.{Head}
+use Rattle.lk_unify.specs.declared.node.Head.TheVariants as head
 use Rattle.lk_unify.specs.declared.node.Shape.{Shape}
 use Rattle.lk_unify.specs.declared.node.Shape.TheVariants.{Free, Open, Empty, Made}
 use Rattle.lk_unify.specs.declared.node.Shape.TheVariants as shape
@@ -45,6 +47,43 @@ IsCountOf OfTypes c n = c.as_type ≡ saturated n
 IsCountOf OfFields c n = c.as_type ≡ saturated n
 IsCountOf OfEffects c n = c.as_effects ≡ saturated n
 IsCountOf _ c n = Unit {0}
+
+-- ---- the count of a node, as it follows from those of the classes of its parts
+
+abbrev pub no_count : Count
+no_count = record { as_type = 0; as_effects = 0 }
+
+abbrev pub count_at : List ℕ → List Count → ℕ → Count
+count_at classes counts p = get_or counts (class_at classes p) no_count
+
+abbrev pub type_sum : (ℕ → Count) → List ℕ → ℕ
+type_sum of ps = sum_of (map (λ p. (of p).as_type) ps)
+
+abbrev pub field_sum : (ℕ → Count) → List Field → ℕ
+field_sum of fs = sum_of (map (λ f. 1 + (of f.node).as_type) fs)
+
+-- the first part of a function is a row of effects
+abbrev pub part_sum : (ℕ → Count) → Head → List ℕ → ℕ
+part_sum of head.Fun (p ∷ ps) = (of p).as_effects + type_sum of ps
+part_sum of _ ps = type_sum of ps
+
+abbrev pub type_count : ℕ → (ℕ → Count) → Shape → ℕ
+type_count closed of Free = 1
+type_count closed of Open = 1
+type_count closed of Empty = closed
+type_count closed of (Made h ps) = 1 + part_sum of h ps
+type_count closed of (shape.Row fs t) = field_sum of fs + (of t).as_type
+
+abbrev pub effect_count : ℕ → (ℕ → Count) → Shape → ℕ
+effect_count closed of Open = 1
+effect_count closed of Empty = closed
+effect_count closed of (shape.Row fs t) = length fs + (of t).as_effects
+effect_count closed of _ = 0
+
+-- the counts of all nodes, each at the number that names its class
+abbrev pub AreCountsOf : ℕ → List Shape → List ℕ → List Count → Type 0
+AreCountsOf closed shapes classes counts =
+    (kind : ℕ → Kind) (f : ℕ → ℕ) → AreKinded shapes classes kind → AreCounted closed shapes classes kind f → (i : ℕ) → i < length shapes → IsCountOf (kind i) (count_at classes counts i) (f i)
 
 -- ---- an order of the nodes in which parts come first
 

@@ -11,3 +11,4 @@ pub mod Shapes
 pub mod Solving
 pub mod Steps
 pub mod Values
+pub mod Ways

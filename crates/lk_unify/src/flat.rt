@@ -1,8 +1,10 @@
 //! The fields of a row and of the rows that its tails stand for.
 
 ghost use Rattle.std.specs.Prelude.{◌≡◌, ◌<◌, length, IfOk, IfSome, IfNone};
+ghost use Rattle.lk_classes.specs.Classes.{class_at};
 ghost use Rattle.lk_unify.specs.Kinds.{IsFlatKinded};
 ghost use Rattle.lk_unify.specs.Shapes.{shape_at, IsArena, IsEnd, IsFlatBut, NeverSame};
+ghost use Rattle.lk_unify.specs.Ways.{HasWay};
 
 use crate::arena::Arena;
 use crate::kind::is_row;
@@ -34,6 +36,7 @@ pub fn flat_row(
     requires shape { shape_at arena.now.shapes row ≡ Shape.Row own.now first }
     ensures flat { IfOk result (λ found. IfSome found (λ flat. (flat.row ≡ row) × IsFlatBut hole arena.now.shapes arena.now.classes row flat.fields flat.tail × IsEnd hole arena.now.shapes flat.tail)) }
     ensures kinds { IfOk result (λ found. IfSome found (λ flat. IsFlatKinded arena.now.shapes arena.now.classes row flat.fields flat.tail)) }
+    ensures way { IfOk result (λ found. IfSome found (λ flat. HasWay arena.now.shapes arena.now.classes own.now (class_at arena.now.classes first) flat.fields flat.tail)) }
     ensures none { IfOk result (λ found. IfNone found (NeverSame arena.now.shapes arena.now.classes row hole)) }
 {
     let mut fields = List::new(alloc);

@@ -9,6 +9,7 @@ mod arena;
 mod chain;
 mod clean;
 mod counting;
+mod depth;
 mod flat;
 mod joining;
 mod kind;

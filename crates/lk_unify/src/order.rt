@@ -1,12 +1,15 @@
-//! Ranks of the classes, by which each comes after its parts: nodes are ranked as soon as their parts are, in sweeps, until a
-//! sweep ranks none. A class that is left then is a part of itself through others.
+//! An order of the nodes in which parts come first: nodes are ranked as soon as their parts are, first along the order that a
+//! search makes (`depth`), then in sweeps, until a sweep ranks none. The search leaves nothing to do for more than one sweep that
+//! ranks, but nothing rests on that. A class that is left is a part of itself through others.
 
-ghost use Rattle.std.specs.Prelude.{◌≡◌, ◌<◌, ◌≤◌, ◌+◌, ℕ, length, IfOk, IsTrue, IsSome, None, false};
+ghost use Rattle.std.specs.Prelude.{◌≡◌, ◌<◌, ◌≤◌, ℕ, length, IfOk, IfSome, IfNone, OnOk, IsTrue, IsSome, None, false};
 ghost use Rattle.lk_types.specs.Each.{Each, OneOf};
-ghost use Rattle.lk_unify.specs.Order.{rank_at, IsKnown, IsUnknown, IsRanked, IsPartlyRanked, IsStuck, unknown};
+ghost use Rattle.lk_unify.specs.Counting.{IsPartsFirst};
+ghost use Rattle.lk_unify.specs.Order.{rank_at, IsKnown, IsUnknown, IsRanked, IsRanking, IsStuck, IsStuckAt};
 ghost use Rattle.lk_classes.specs.Classes.{class_at, AreClasses};
 ghost use Rattle.lk_unify.specs.Shapes.{shape_at, parts_of, AllBelow, AreNodes, IsDistinct, fields_in, HasFields, NeverFits};
 
+use crate::depth::depth_order;
 use crate::node::{Field, Shape};
 use lk_ast::NoMemory;
 use lk_classes::Classes;
@@ -71,53 +74,95 @@ fn all_known(shape: &Shape, classes: &Classes, ranks: &[Option<usize>]) -> bool
     }
 }
 
-/// Gives a node the next rank, if it has none and its parts have theirs. The answer is whether it did.
+/// The ranks of the nodes that have one, and these nodes in the order of their ranks.
+#[derive(Debug, Drop)]
+struct Ranking {
+    ranks: Vec<Option<usize>>,
+    order: Vec<usize>,
+}
+
+/// Gives a node the next rank, if it has none and its parts have theirs.
 fn rank_node(
     shapes: &[Shape],
     classes: &Classes,
-    ranks: &mut [Option<usize>],
+    ranking: &mut Ranking,
     i: usize,
-    next: usize,
-) -> bool
+) -> Result<(), NoMemory>
     requires nodes { AreNodes shapes.now }
     requires classes { AreClasses (length shapes.now) classes.now }
-    requires count { length ranks.old ≡ length shapes.now }
     requires at { i < length shapes.now }
-    requires ranked { IsPartlyRanked shapes.now classes.now ranks.old next }
-    ensures ranked { IsTrue result → IsPartlyRanked shapes.now classes.now ranks.new (next + 1) }
-    ensures fewer { IsTrue result → unknown ranks.new + 1 ≡ unknown ranks.old }
-    ensures same { (result ≡ false) → ranks.new ≡ ranks.old }
-    ensures stuck { (result ≡ false) → rank_at ranks.old i ≡ None → OneOf (λ p. IsUnknown ranks.old classes.now p) (parts_of (shape_at shapes.now i)) }
+    requires ranking { IsRanking shapes.now classes.now ranking.old.ranks.items ranking.old.order.items }
+    ensures ranking { OnOk result (IsRanking shapes.now classes.now ranking.new.ranks.items ranking.new.order.items) }
+    ensures grows { OnOk result (length ranking.old.order.items ≤ length ranking.new.order.items) }
+    ensures same { OnOk result (length ranking.new.order.items ≡ length ranking.old.order.items → ranking.new.ranks.items ≡ ranking.old.ranks.items) }
+    ensures stuck { OnOk result (length ranking.new.order.items ≡ length ranking.old.order.items → IsStuckAt shapes.now classes.now ranking.old.ranks.items i) }
 {
-    if ranks[i].is_some() {
-        return false;
+    if ranking.ranks[i].is_some() {
+        return Ok(());
     }
-    if !all_known(&shapes[i], classes, ranks) {
-        return false;
+    if !all_known(&shapes[i], classes, ranking.ranks.as_slice()) {
+        return Ok(());
     }
-    ranks[i] = Some(next);
-    true
+    let next = ranking.order.len();
+    ranking.order.push(i)?;
+    ranking.ranks[i] = Some(next);
+    Ok(())
 }
 
-/// Gives the next ranks to the nodes whose parts all have one. The answer is the rank after them.
-fn sweep(shapes: &[Shape], classes: &Classes, ranks: &mut [Option<usize>], first: usize) -> usize
+/// Gives the next ranks to those of these nodes whose parts all have one.
+fn rank_along(
+    shapes: &[Shape],
+    classes: &Classes,
+    ranking: &mut Ranking,
+    along: &[usize],
+) -> Result<(), NoMemory>
     requires nodes { AreNodes shapes.now }
     requires classes { AreClasses (length shapes.now) classes.now }
-    requires count { length ranks.old ≡ length shapes.now }
-    requires ranked { IsPartlyRanked shapes.now classes.now ranks.old first }
-    requires room { first + unknown ranks.old ≤ length shapes.now }
-    ensures ranked { IsPartlyRanked shapes.now classes.now ranks.new result }
-    ensures room { result + unknown ranks.new ≤ length shapes.now }
-    ensures grows { first ≤ result }
-    ensures stuck { result ≡ first → IsStuck shapes.now classes.now ranks.new }
+    requires along { AllBelow (length shapes.now) along.now }
+    requires ranking { IsRanking shapes.now classes.now ranking.old.ranks.items ranking.old.order.items }
+    ensures { OnOk result (IsRanking shapes.now classes.now ranking.new.ranks.items ranking.new.order.items) }
 {
-    let mut next = first;
+    for node in along {
+        rank_node(shapes, classes, ranking, *node)?;
+    }
+    Ok(())
+}
+
+/// Gives the next ranks to the nodes whose parts all have one.
+fn sweep(shapes: &[Shape], classes: &Classes, ranking: &mut Ranking) -> Result<(), NoMemory>
+    requires nodes { AreNodes shapes.now }
+    requires classes { AreClasses (length shapes.now) classes.now }
+    requires ranking { IsRanking shapes.now classes.now ranking.old.ranks.items ranking.old.order.items }
+    ensures ranking { OnOk result (IsRanking shapes.now classes.now ranking.new.ranks.items ranking.new.order.items) }
+    ensures grows { OnOk result (length ranking.old.order.items ≤ length ranking.new.order.items) }
+    ensures stuck { OnOk result (length ranking.new.order.items ≡ length ranking.old.order.items → IsStuck shapes.now classes.now ranking.new.ranks.items) }
+{
     for i in 0..shapes.len() {
-        if rank_node(shapes, classes, ranks, i, next) {
-            next += 1;
+        rank_node(shapes, classes, ranking, i)?;
+    }
+    Ok(())
+}
+
+/// Ranks of all nodes but those that have a part without one, or are parts of themselves.
+fn rank_nodes(alloc: Global, shapes: &[Shape], classes: &Classes) -> Result<Ranking, NoMemory>
+    requires nodes { AreNodes shapes.now }
+    requires classes { AreClasses (length shapes.now) classes.now }
+    ensures ranking { IfOk result (λ ranking. IsRanking shapes.now classes.now ranking.ranks.items ranking.order.items) }
+    ensures stuck { IfOk result (λ ranking. IsStuck shapes.now classes.now ranking.ranks.items) }
+{
+    let along = depth_order(alloc, shapes, classes)?;
+    let mut ranking = Ranking {
+        ranks: vec![in alloc; None; shapes.len()]?,
+        order: Vec::new(alloc),
+    };
+    rank_along(shapes, classes, &mut ranking, along.as_slice())?;
+    'sweeps: loop {
+        let before = ranking.order.len();
+        sweep(shapes, classes, &mut ranking)?;
+        if ranking.order.len() == before {
+            return Ok(ranking);
         }
     }
-    next
 }
 
 /// Whether each class has a rank.
@@ -134,6 +179,27 @@ fn all_classes_known(classes: &Classes, ranks: &[Option<usize>]) -> bool
     true
 }
 
+/// The nodes in an order in which each class comes after those of its parts. Where there is none, no values fit.
+pub fn parts_first(
+    alloc: Global,
+    shapes: &[Shape],
+    classes: &Classes,
+) -> Result<Option<Vec<usize>>, NoMemory>
+    requires nodes { AreNodes shapes.now }
+    requires classes { AreClasses (length shapes.now) classes.now }
+    requires distinct { (i : ℕ) → i < length shapes.now → IsDistinct (fields_in (shape_at shapes.now i)) }
+    requires fields { (i : ℕ) → i < length shapes.now → HasFields (shape_at shapes.now i) }
+    ensures ranked { IfOk result (λ found. IfSome found (λ order. (rank : ℕ → ℕ) × IsRanked shapes.now classes.now rank)) }
+    ensures order { IfOk result (λ found. IfSome found (λ order. IsPartsFirst shapes.now classes.now order.items)) }
+    ensures never { IfOk result (λ found. IfNone found (NeverFits shapes.now classes.now)) }
+{
+    let ranking = rank_nodes(alloc, shapes, classes)?;
+    if !all_classes_known(classes, ranking.ranks.as_slice()) {
+        return Ok(None);
+    }
+    Ok(Some(ranking.order))
+}
+
 /// Whether each class comes after those of its parts in some order. Where there is none, no values fit.
 pub fn is_ordered(alloc: Global, shapes: &[Shape], classes: &Classes) -> Result<bool, NoMemory>
     requires nodes { AreNodes shapes.now }
@@ -143,14 +209,8 @@ pub fn is_ordered(alloc: Global, shapes: &[Shape], classes: &Classes) -> Result<
     ensures ranked { IfOk result (λ ordered. IsTrue ordered → (rank : ℕ → ℕ) × IsRanked shapes.now classes.now rank) }
     ensures never { IfOk result (λ ordered. (ordered ≡ false) → NeverFits shapes.now classes.now) }
 {
-    let mut ranks = vec![in alloc; None; shapes.len()]?;
-    let mut next = 0;
-    loop {
-        let after = sweep(shapes, classes, ranks.as_mut_slice(), next);
-        if after == next {
-            break;
-        }
-        next = after;
+    match parts_first(alloc, shapes, classes)? {
+        Some(_) => Ok(true),
+        None => Ok(false),
     }
-    Ok(all_classes_known(classes, ranks.as_slice()))
 }

@@ -1,6 +1,8 @@
 use Rattle.std.proofs.Common.{◌++◌, refl, sym, ◌∙◌, ap, subst}
+use Rattle.lk_classes.specs.Classes.{class_at}
 use Rattle.lk_unify.proofs.Kinded.{kinds_start, kinds_more}
 use Rattle.lk_unify.proofs.Unmet.{unmet-lt}
+use Rattle.lk_unify.proofs.Ways.{way_start, way_more}
 use Rattle.lk_unify.proofs.Weak.{but_start, but_hit, but_kind, but_clash, but_more}
 use Rattle.lk_unify.proofs.flat.flat_row.Goals as goal
 use Rattle.lk_unify.specs.Shapes.{HasFields, is_row_shape}
@@ -13,6 +15,7 @@ loop-tail-init c =
     (record {
       flat = but_start c.args.hole ss cs c.requires.arena c.args.row c.args.own.now c.args.first c.requires.row c.requires.shape;
       kinds = kinds_start ss cs c.requires.arena c.args.row c.args.own.now c.args.first c.requires.row c.requires.shape;
+      way = way_start ss cs c.args.own.now (class_at cs c.args.first);
     })
 
 pub returns-then-tail-hole-clause-none : goal.returns-then-tail-hole-clause-none
@@ -41,6 +44,7 @@ loop-tail-preserved c =
       flat = but_more c.args.hole ss cs c.requires.arena c.args.row c.loop-tail.fields c.loop-tail.tail flat c.in-Row.more c.in-Row.next is c.if-tail-hole.false
           (rw (c.as_slice.ensures, c.as_slice-in-Row.ensures) at (c.if-not-lacks_all.ensures.lacks refl));
       kinds = kinds_more ss cs c.requires.arena c.args.row c.loop-tail.fields c.loop-tail.tail c.in-Row.more c.in-Row.next flat.below is c.loop-tail.invariant.kinds;
+      way = way_more ss cs c.args.own.now c.loop-tail.fields c.in-Row.more (class_at cs c.args.first) c.loop-tail.tail c.in-Row.next flat.below flat.named is c.loop-tail.invariant.way;
     })
 
 -- the row's labels are new, so it doesn't come again
