@@ -19,7 +19,7 @@ use Rattle.lk_types.specs.declared.ty.Variable.TheVariants as variable
 use Rattle.lk_unify.specs.Kinds.{Kind}
 use Rattle.lk_unify.specs.Loading.{node_for, kind_of, IsLoader, IsKinded}
 use Rattle.lk_unify.specs.Order.{IsRanked}
-use Rattle.lk_unify.specs.Reading.{CanRead, image_of, number_of}
+use Rattle.lk_unify.specs.Reading.{CanRead, image_of, number_of, binding_by}
 use Rattle.lk_unify.specs.Values.{Value}
 use Rattle.lk_unify.specs.declared.loader.Loader.{Loader}
 
@@ -34,6 +34,13 @@ binds_more u old new es rest e number image all step pushed n is before =
     ∙ append_assoc old (binding_of u e ∷ []) (map (binding_of u) rest)
     ∙ ap (λ es. old ++ map (binding_of u) es) (sym step)
     ∙ before
+
+-- each binding where its variable is looked up
+pub by_nodes : (l : Loader) (u : ℕ → Value) (es : List (Variable × ℕ)) → Each (λ e. node_for l e.0 ≡ Some e.1) es → map (binding_of u) es ≡ flat_map (λ e. binding_by e.0 u (node_for l e.0)) es
+by_nodes l u [] all = refl
+by_nodes l u (e ∷ es) all =
+    ap (λ bs. binding_of u e ∷ bs) (by_nodes l u es all.1)
+    ∙ ap (λ o. binding_by e.0 u o ++ flat_map (λ e. binding_by e.0 u (node_for l e.0)) es) (sym all.0)
 
 -- ---- each entry is found by its variable
 

@@ -6,9 +6,10 @@ use Rattle.std.proofs.lemmas.List.{length-set, length-replicate, get_or-set_othe
 use Rattle.std.specs.Prelude.{slice_index_or as get_or, replicate}
 use Rattle.lk_classes.specs.Classes.{class_at}
 use Rattle.lk_types.specs.Each.{Each}
-use Rattle.lk_unify.proofs.ChainFlats.{apart_turned}
+use Rattle.lk_types.specs.Rows.{Label}
 use Rattle.lk_unify.proofs.Chains.{or_found, found_at-append}
-use Rattle.lk_unify.proofs.RowAlgebra.{found_same}
+use Rattle.lk_unify.proofs.EachLemmas.{Each-zip}
+use Rattle.lk_unify.proofs.RowAlgebra.{found_same, found_other, lacks_less}
 use Rattle.lk_unify.proofs.Weak.{but_start, but_more, distinct_apart}
 use Rattle.lk_unify.specs.Shapes.{shape_at, found_at, fields_in, is_fields, is_row_shape, HasFields, IsArena, IsCleanAt, IsDistinct, IsFlatBut}
 use Rattle.lk_unify.specs.Ways.{tail_in, IsWay, fields_along, HasWay, HasCleanWay, AreMarked}
@@ -16,6 +17,27 @@ use Rattle.lk_unify.specs.declared.node.Field.{Field}
 use Rattle.lk_unify.specs.declared.node.Shape.{Shape}
 use Rattle.lk_unify.specs.declared.node.Shape.TheVariants.{Free, Open, Empty, Made}
 use Rattle.lk_unify.specs.declared.node.Shape.TheVariants as shape
+
+-- ---- labels apart, either way
+
+no_none : (f : Field) (fs : List Field) (l : Label) → l ≡ f.label → found_at (f ∷ fs) l ≡ None → ⊥
+no_none f fs l e none = let wrong = sym (found_same f fs l e) ∙ none in cc
+
+others : (x : Field) (ys : List Field) → found_at ys x.label ≡ None → Each (λ y. y.label ≡ x.label → ⊥) ys
+others x [] e = tt
+others x (y ∷ ys) e = ((λ same. no_none y ys x.label (sym same) e), others x ys (lacks_less y ys x.label e))
+
+pub apart_turned : (xs ys : List Field) → Each (λ x. found_at ys x.label ≡ None) xs → Each (λ y. found_at xs y.label ≡ None) ys
+apart_turned [] ys e = all_none ys
+  where
+    all_none : (ys : List Field) → Each (λ y. found_at [] y.label ≡ None) ys
+    all_none [] = tt
+    all_none (y ∷ ys) = (refl, all_none ys)
+apart_turned (x ∷ xs) ys e =
+    Each-zip (λ y. y.label ≡ x.label → ⊥) (λ y. found_at xs y.label ≡ None) (λ y. found_at (x ∷ xs) y.label ≡ None) (λ y n g. found_other x xs y.label n ∙ g) ys
+    (others x ys e.0) (apart_turned xs ys e.1)
+
+-- ---- the way
 
 -- a shape of fields is one
 pub fields_shape : (s : Shape) → is_fields s ≡ true → s ≡ shape.Row (fields_in s) (tail_in s)

@@ -8,6 +8,7 @@ pub mod Openings
 pub mod Order
 pub mod Reading
 pub mod Shapes
+pub mod Small
 pub mod Solving
 pub mod Steps
 pub mod Values

@@ -1,9 +1,10 @@
 use Rattle.std.proofs.Common.{◌≡◌, ℕ, List, ◌++◌, append-nil, map, sym, ◌∙◌, ap, subst, Some}
 use Rattle.lk_types.specs.Each.{Each}
 use Rattle.lk_types.specs.declared.ty.Variable.{Variable}
-use Rattle.lk_unify.proofs.ReadVariables.{named_can, entries_named, binding_of, binds_more}
+use Rattle.lk_unify.proofs.ReadVariables.{named_can, entries_named, by_nodes, binding_of, binds_more}
 use Rattle.lk_unify.proofs.reading.read_all.Goals as goal
 use Rattle.lk_unify.specs.Loading.{node_for}
+use Rattle.lk_unify.specs.Reading.{subst_by}
 use Rattle.lk_unify.specs.declared.loader.Loader.{Loader}
 
 abbrev are_named : Loader → List (Variable × ℕ) → Type 0
@@ -14,7 +15,8 @@ loop-variable-init c =
     let all = c.into_iter-variable-iterator.ensures.into_iter_gives ∙ c.iter-variable-items.ensures.rest in
     record {
       named = subst (are_named c.args.loader.now) (sym all) (entries_named c.args.loader.now c.iter-variable-items.ensures.ordered);
-      binds = λ u own i. c.new-binds.ensures i ++ map (binding_of u) (all i);
+      binds = λ u own.
+          (λ i. c.new-binds.ensures i ++ map (binding_of u) (all i)) ∙ by_nodes c.args.loader.now u c.args.loader.now.names.entries (entries_named c.args.loader.now c.iter-variable-items.ensures.ordered);
     }
 
 pub read_image-requires : goal.read_image-requires
@@ -27,7 +29,7 @@ loop-variable-preserved c = record {
   named = (subst (are_named c.args.loader.now) c.in-Some.ensures.steps c.loop-variable.invariant.named).1;
   binds = λ u own.
       binds_more u c.loop-variable.binds c.push.new.self c.loop-variable.variable-iterator c.next.new.self (c.in-Some.variable.now, c.in-Some.node.now) c.number_of.result c.in_ok-image.image
-      (map (binding_of u) c.args.loader.now.names.entries) c.in-Some.ensures.steps c.in_ok-push.ensures.ok c.number_of.ensures (c.in_ok-image.ensures u own) (c.loop-variable.invariant.binds u own);
+      (subst_by c.args.loader.now u).binds c.in-Some.ensures.steps c.in_ok-push.ensures.ok c.number_of.ensures (c.in_ok-image.ensures u own) (c.loop-variable.invariant.binds u own);
 }
 
 pub returns : goal.returns
