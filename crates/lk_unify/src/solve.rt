@@ -119,7 +119,7 @@ pub fn first_unsolvable(alloc: Global, equations: &[Equation]) -> Result<Option<
     }
     let mut low = 0;
     let mut high = equations.len();
-    while high - low > 1 {
+    'halving: while high - low > 1 {
         let middle = low + (high - low) / 2;
         if is_solvable(alloc, &equations[..middle])? {
             low = middle;
