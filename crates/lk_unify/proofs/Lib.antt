@@ -80,3 +80,4 @@ pub mod ValueKinds
 pub mod Ways
 pub mod Weak
 pub mod Weights
+pub mod Within
