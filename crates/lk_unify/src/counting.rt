@@ -30,7 +30,7 @@ fn add(m: usize, n: usize) -> usize
 }
 
 /// The count of a node's class.
-fn count_at(node: usize, classes: &Classes, counts: &[Count]) -> Count
+pub fn count_at(node: usize, classes: &Classes, counts: &[Count]) -> Count
     requires node { node < length classes.now }
     requires classes { AreClasses (length counts.now) classes.now }
     ensures { result ≡ the_count_at classes.now counts.now node }

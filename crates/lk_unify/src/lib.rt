@@ -22,9 +22,11 @@ mod numbers;
 mod order;
 mod reading;
 mod row_fields;
+mod small;
 mod solve;
 #[cfg(test)]
 mod solve_tests;
+mod unify;
 
 pub use arena::Arena;
 pub use counting::Count;
@@ -33,4 +35,6 @@ pub use loader::Loader;
 pub use node::{Field, Head, Pair, Shape};
 pub use numbers::numbers_for;
 pub use reading::read_all;
+pub use small::MOST_NODES;
 pub use solve::{Loaded, first_unsolvable, is_solvable, load_all};
+pub use unify::{UnifyError, unify};

@@ -1,0 +1,69 @@
+//! Unification: the most general solution of equations, or which of them is the first with which there is none or a type is too
+//! large.
+
+ghost use Rattle.lk_types.specs.Sizes.{AreSmall, IsFirstTooLarge, IsFirstUnsolvable, IsSolution};
+ghost use Rattle.lk_types.specs.Solutions.{HasSolution};
+ghost use Rattle.lk_unify.specs.declared.unify.UnifyError.TheVariants as errors;
+ghost use Rattle.std.specs.Prelude.{◌≡◌, ℕ, Err, IfOk};
+
+use crate::numbers::numbers_for;
+use crate::reading::read_all;
+use crate::small::{first_too_large, load_ordered};
+use crate::solve::first_unsolvable;
+use lk_ast::NoMemory;
+use lk_types::{Equation, Subst};
+use std::alloc::Global;
+use thiserror::Error;
+
+/// Why equations have no small solution.
+#[derive(Clone, Copy, Debug, PartialEq, Eq, Error)]
+pub enum UnifyError {
+    /// With this equation, those up to it have no solution. Those before it are small.
+    #[error("the equations up to number {0} have no solution")]
+    NoSolution(u64),
+    /// With this equation, a side of one of those up to it has too many nodes under their most general solution. Those before it
+    /// are small.
+    #[error("a type of the equations up to number {0} is too large")]
+    TypeTooLarge(u64),
+    #[error("out of memory")]
+    NoMemory,
+}
+
+impl From<NoMemory> for UnifyError {
+    ghost from_gives = { λ _ error. error ≡ errors.NoMemory };
+
+    fn from(_error: NoMemory) -> UnifyError {
+        UnifyError::NoMemory
+    }
+}
+
+/// The most general solution of equations that have one.
+fn solution(alloc: Global, equations: &[Equation]) -> Result<Subst, NoMemory>
+    requires { HasSolution equations.now }
+    ensures { IfOk result (λ s. IsSolution s equations.now) }
+{
+    let nodes = load_ordered(alloc, equations)?;
+    let loader = &nodes.all.loader;
+    let numbers = numbers_for(alloc, loader)?;
+    let subst = read_all(alloc, loader, numbers.as_slice(), nodes.order.len())?;
+    Ok(subst)
+}
+
+/// Solves equations in a most general way, where each first part of them is small.
+pub fn unify(alloc: Global, equations: &[Equation]) -> Result<Subst, UnifyError>
+    ensures solution { IfOk result (λ s. IsSolution s equations.now) }
+    ensures small { IfOk result (λ s. AreSmall equations.now) }
+    ensures unsolvable { (k : ℕ) → result ≡ Err (errors.NoSolution k) → IsFirstUnsolvable equations.now k }
+    ensures large { (k : ℕ) → result ≡ Err (errors.TypeTooLarge k) → IsFirstTooLarge equations.now k }
+{
+    match first_unsolvable(alloc, equations)? {
+        None => match first_too_large(alloc, equations)? {
+            None => Ok(solution(alloc, equations)?),
+            Some(k) => Err(UnifyError::TypeTooLarge(k as u64)),
+        },
+        Some(k) => match first_too_large(alloc, &equations[..k])? {
+            None => Err(UnifyError::NoSolution(k as u64)),
+            Some(j) => Err(UnifyError::TypeTooLarge(j as u64)),
+        },
+    }
+}
