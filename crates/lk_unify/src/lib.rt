@@ -26,7 +26,7 @@ mod small;
 mod solve;
 #[cfg(test)]
 mod solve_tests;
-mod unify;
+mod unifying;
 
 pub use arena::Arena;
 pub use counting::Count;
@@ -37,4 +37,4 @@ pub use numbers::numbers_for;
 pub use reading::read_all;
 pub use small::MOST_NODES;
 pub use solve::{Loaded, first_unsolvable, is_solvable, load_all};
-pub use unify::{UnifyError, unify};
+pub use unifying::{UnifyError, unify};

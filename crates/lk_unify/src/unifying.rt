@@ -3,7 +3,7 @@
 
 ghost use Rattle.lk_types.specs.Sizes.{AreSmall, IsFirstTooLarge, IsFirstUnsolvable, IsSolution};
 ghost use Rattle.lk_types.specs.Solutions.{HasSolution};
-ghost use Rattle.lk_unify.specs.declared.unify.UnifyError.TheVariants as errors;
+ghost use Rattle.lk_unify.specs.declared.unifying.UnifyError.TheVariants as errors;
 ghost use Rattle.std.specs.Prelude.{◌≡◌, ℕ, Err, IfOk};
 
 use crate::numbers::numbers_for;
