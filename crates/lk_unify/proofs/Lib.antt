@@ -8,6 +8,8 @@ pub mod Distinct
 pub mod EachLemmas
 pub mod EffectRows
 pub mod EffectSets
+pub mod Fine
+pub mod Firsts
 pub mod Flats
 pub mod Generality
 pub mod GroundInduction
@@ -55,6 +57,7 @@ pub mod OpenVariables
 pub mod Ordered
 pub mod OwnModel
 pub mod Pairs
+pub mod Placed
 pub mod Placing
 pub mod Ranking
 pub mod Ranks

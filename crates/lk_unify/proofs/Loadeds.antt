@@ -41,7 +41,7 @@ taken xs i x below is = take_more xs i x below ∙ ap (λ y. take i xs ++ y ∷ 
 
 -- ---- the sides
 
-sides_below : (l : Loader) (es : List Equation) (sides : List ℕ) → AreSides l es sides → Each (λ n. n < length l.arena.shapes) sides
+pub sides_below : (l : Loader) (es : List Equation) (sides : List ℕ) → AreSides l es sides → Each (λ n. n < length l.arena.shapes) sides
 sides_below l [] [] all = tt
 sides_below l (e ∷ es) (n ∷ ns) all = (all.0.below, sides_below l es ns all.1)
 sides_below l [] (n ∷ ns) all = absurd all

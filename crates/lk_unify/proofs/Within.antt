@@ -2,9 +2,13 @@
 -- these values put for the variables agrees with them.
 use Rattle.std.proofs.Common.{◌≡◌, ℕ, zero, suc, ◌+◌, ◌<◌, ◌≤◌, Bool, true, false, ◌⊎◌, inl, inr, ⊎_elim, List, [], ◌∷◌, length, Option, Some, None, refl, sym, ◌∙◌, ap, subst, arith}
 use Rattle.std.proofs.lemmas.Bool.{eqb-true}
+use Rattle.std.proofs.lemmas.List.{take_all}
 use Rattle.std.specs.Map.{lookup}
+use Rattle.std.specs.Option.{option_map}
 use Rattle.std.specs.Prelude.{◌==◌, cond}
 use Rattle.lk_classes.specs.Classes.{class_at}
+use Rattle.lk_types.specs.Each.{Each, OneOf}
+use Rattle.lk_types.specs.Sizes.{most_nodes}
 use Rattle.lk_types.specs.Solutions.{HasSolution}
 use Rattle.lk_types.specs.Variables.{same_variable, equation_variables}
 use Rattle.lk_types.specs.declared.equation.Equation.{Equation}
@@ -16,19 +20,24 @@ use Rattle.lk_types.specs.declared.ty.Variable.TheVariants as variable
 use Rattle.lk_unify.proofs.Decided.{says_all}
 use Rattle.lk_unify.proofs.EffectRows.{IsEffectRow, its_effects}
 use Rattle.lk_unify.proofs.Grounded.{open_solves}
+use Rattle.lk_unify.proofs.Loadeds as loadeds
 use Rattle.lk_unify.proofs.OwnModel.{own_exists, ranks_exist}
 use Rattle.lk_unify.proofs.Shaping.{HasValue}
 use Rattle.lk_unify.proofs.ValueKinds.{own_kinds}
+use Rattle.lk_unify.proofs.ValueCounts.{own_counted}
+use Rattle.lk_unify.specs.Counting.{saturated, count_at, AreCountsOf, IsCountOf}
 use Rattle.lk_unify.specs.Kinds.{Kind, OfTypes, OfFields, OfEffects, OfUnit, OfNothing}
 use Rattle.lk_unify.specs.Loading.{node_for, value_of, kind_of, Agrees, IsKinded}
 use Rattle.lk_unify.specs.Models.{IsOwn}
-use Rattle.lk_unify.specs.Openings.{OpenRow, Opening, as_opening, only_tail}
+use Rattle.lk_unify.specs.Nodes.{count, value_count}
+use Rattle.lk_unify.specs.Openings.{OpenRow, Opening, as_opening, only_tail, opened}
 use Rattle.lk_unify.specs.Order.{IsRanked}
 use Rattle.lk_unify.specs.Reading.{type_in, row_in, effects_in, value_or, opening_by, own_variable, number_of, IsNaming}
 use Rattle.lk_unify.specs.Shapes.{FitsNodes, WeakNodes}
-use Rattle.lk_unify.specs.Small.{OwnNodes}
-use Rattle.lk_unify.specs.Solving.{Says, HasNodes, AreBound, AreLoaded}
+use Rattle.lk_unify.specs.Small.{OwnNodes, IsSideOf, AreWithin, HasBeyond}
+use Rattle.lk_unify.specs.Solving.{Says, HasNodes, AreBound, AreLoaded, AreSides, IsSide}
 use Rattle.lk_unify.specs.Values.{Value, Plain, OfRow, effect_row}
+use Rattle.lk_unify.specs.declared.counting.Count.{Count}
 use Rattle.lk_unify.specs.declared.loader.Loader.{Loader}
 
 -- ---- numbers that no variable has: those from a base on
@@ -159,3 +168,65 @@ own_agrees o = record {
       (subst (λ k. HasValue k (o.values n)) (o.kinded.named x n is)
       (own_kinds o.loader.arena.shapes o.loader.arena.classes o.kind o.rank o.says.whole.arena o.kinded.nodes o.ranked o.name o.values o.own n (o.says.whole.named x n is)));
 }
+
+-- ---- how large the sides are, by the counts of the classes
+
+module _ (closed : ℕ) {es : List Equation} (o : OwnNodes es) (counts : List Count) (counted : AreCountsOf closed o.loader.arena.shapes o.loader.arena.classes counts) where
+  abbrev pub side_count : ℕ → ℕ
+  side_count n = (count_at o.loader.arena.classes counts n).as_type
+
+  IsSideWith : Equation → ℕ → Type 0
+  IsSideWith e n = (t : Ty) × (opened (opening_by o.loader o.values) e.left ≡ Some t) × (side_count n ≡ saturated (count closed t))
+
+  of_plain : (s : Option Ty) (x : Value) → option_map Plain s ≡ Some x → (t : Ty) × (s ≡ Some t) × (x ≡ Plain t)
+  of_plain None x e = let f : None ≡ Some x = e in cc
+  of_plain (Some t) x e = (t, refl, (let f : Some (Plain t) ≡ Some x = e in cc))
+
+  of_types : (k : Kind) (c : Count) (x : Value) (t : Ty) → k ≡ OfTypes → x ≡ Plain t → IsCountOf k c (value_count closed k x) → c.as_type ≡ saturated (count closed t)
+  of_types k c x t kind is counts = subst (λ x. IsCountOf OfTypes c (value_count closed OfTypes x)) is (subst (λ k. IsCountOf k c (value_count closed k x)) kind counts)
+
+  its_count : (e : Equation) (n : ℕ) → IsSide o.loader e n → o.kind n ≡ OfTypes → IsSideWith e n
+  unfolding IsSideWith
+  its_count e n side kind =
+      let t = of_plain (opened (opening_by o.loader o.values) e.left) (o.values n) (side.meaning o.values (opening_by o.loader o.values) o.own.fits (own_agrees o)) in
+      let counts_are =
+          counted o.kind (λ i. value_count closed (o.kind i) (o.values i)) o.kinded.nodes
+          (own_counted o.loader.arena.shapes o.loader.arena.classes o.kind o.says.whole.arena o.kinded.nodes o.name o.values o.own closed) n side.below in
+      (t.0, t.1, of_types (o.kind n) (count_at o.loader.arena.classes counts n) (o.values n) t.0 kind t.2 counts_are)
+
+  within_at : (e : Equation) (n : ℕ) → IsSideWith e n → side_count n ≤ most_nodes → IsSideOf o closed (λ n. n ≤ most_nodes) e
+  unfolding IsSideWith
+  within_at e n side h = (side.0, side.1, (let is = side.2 in omega arith))
+
+  beyond_at : (e : Equation) (n : ℕ) → IsSideWith e n → most_nodes < side_count n → IsSideOf o closed (λ n. most_nodes < n) e
+  unfolding IsSideWith
+  beyond_at e n side h = (side.0, side.1, (let is = side.2 in omega arith))
+
+  pub all_within : (xs : List Equation) (sides : List ℕ) → AreSides o.loader xs sides → Each (λ n. o.kind n ≡ OfTypes) sides → Each (λ n. side_count n ≤ most_nodes) sides →
+      Each (IsSideOf o closed (λ n. n ≤ most_nodes)) xs
+  all_within [] [] sides types all = tt
+  all_within (e ∷ xs) (n ∷ ns) sides types all = (within_at e n (its_count e n sides.0 types.0) all.0, all_within xs ns sides.1 types.1 all.1)
+  all_within [] (n ∷ ns) sides types all = absurd sides
+  all_within (e ∷ xs) [] sides types all = absurd sides
+
+  pub one_beyond : (xs : List Equation) (sides : List ℕ) → AreSides o.loader xs sides → Each (λ n. o.kind n ≡ OfTypes) sides → OneOf (λ n. most_nodes < side_count n) sides →
+      OneOf (IsSideOf o closed (λ n. most_nodes < n)) xs
+  one_beyond [] [] sides types one = absurd one
+  one_beyond (e ∷ xs) (n ∷ ns) sides types (inl h) = inl (beyond_at e n (its_count e n sides.0 types.0) h)
+  one_beyond (e ∷ xs) (n ∷ ns) sides types (inr one) = inr (one_beyond xs ns sides.1 types.1 one)
+  one_beyond [] (n ∷ ns) sides types one = absurd sides
+  one_beyond (e ∷ xs) [] sides types one = absurd sides
+
+module _ (closed : ℕ) (l : Loader) (sides : List ℕ) (es : List Equation) (loaded : AreLoaded l sides es (length es)) (solution : HasSolution es) (counts : List Count)
+    (counted : AreCountsOf closed l.arena.shapes l.arena.classes counts) where
+  whole_sides : AreSides l es sides
+  whole_sides = subst (λ xs. AreSides l xs sides) (take_all (length es) es (omega arith)) loaded.sides_are
+
+  pub sides_below : Each (λ n. n < length l.arena.shapes) sides
+  sides_below = loadeds.sides_below l es sides whole_sides
+
+  pub are_within : Each (λ n. (count_at l.arena.classes counts n).as_type ≤ most_nodes) sides → AreWithin closed es
+  are_within all = (own_nodes l sides es loaded solution, all_within closed (own_nodes l sides es loaded solution) counts counted es sides whole_sides loaded.types all)
+
+  pub has_beyond : OneOf (λ n. most_nodes < (count_at l.arena.classes counts n).as_type) sides → HasBeyond closed es
+  has_beyond one = (own_nodes l sides es loaded solution, one_beyond closed (own_nodes l sides es loaded solution) counts counted es sides whole_sides loaded.types one)
