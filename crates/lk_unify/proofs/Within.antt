@@ -20,7 +20,7 @@ use Rattle.lk_types.specs.declared.ty.Variable.TheVariants as variable
 use Rattle.lk_unify.proofs.Decided.{says_all}
 use Rattle.lk_unify.proofs.EffectRows.{IsEffectRow, its_effects}
 use Rattle.lk_unify.proofs.Grounded.{open_solves}
-use Rattle.lk_unify.proofs.Loadeds as loadeds
+use Rattle.lk_unify.proofs.Loadeds.{sides_below}
 use Rattle.lk_unify.proofs.OwnModel.{own_exists, ranks_exist}
 use Rattle.lk_unify.proofs.Shaping.{HasValue}
 use Rattle.lk_unify.proofs.ValueKinds.{own_kinds}
@@ -217,16 +217,16 @@ module _ (closed : ℕ) {es : List Equation} (o : OwnNodes es) (counts : List Co
   one_beyond [] (n ∷ ns) sides types one = absurd sides
   one_beyond (e ∷ xs) [] sides types one = absurd sides
 
-module _ (closed : ℕ) (l : Loader) (sides : List ℕ) (es : List Equation) (loaded : AreLoaded l sides es (length es)) (solution : HasSolution es) (counts : List Count)
-    (counted : AreCountsOf closed l.arena.shapes l.arena.classes counts) where
+module _ (l : Loader) (sides : List ℕ) (es : List Equation) (loaded : AreLoaded l sides es (length es)) where
   whole_sides : AreSides l es sides
   whole_sides = subst (λ xs. AreSides l xs sides) (take_all (length es) es (omega arith)) loaded.sides_are
 
-  pub sides_below : Each (λ n. n < length l.arena.shapes) sides
-  sides_below = loadeds.sides_below l es sides whole_sides
+  pub sides_in_classes : Each (λ n. n < length l.arena.classes) sides
+  sides_in_classes = subst (λ k. Each (λ n. n < k) sides) (sym loaded.says.whole.arena.named.count) (sides_below l es sides whole_sides)
 
-  pub are_within : Each (λ n. (count_at l.arena.classes counts n).as_type ≤ most_nodes) sides → AreWithin closed es
-  are_within all = (own_nodes l sides es loaded solution, all_within closed (own_nodes l sides es loaded solution) counts counted es sides whole_sides loaded.types all)
+  module _ (solution : HasSolution es) (closed : ℕ) (counts : List Count) (counted : AreCountsOf closed l.arena.shapes l.arena.classes counts) where
+    pub are_within : Each (λ n. (count_at l.arena.classes counts n).as_type ≤ most_nodes) sides → AreWithin closed es
+    are_within all = (own_nodes l sides es loaded solution, all_within closed (own_nodes l sides es loaded solution) counts counted es sides whole_sides loaded.types all)
 
-  pub has_beyond : OneOf (λ n. most_nodes < (count_at l.arena.classes counts n).as_type) sides → HasBeyond closed es
-  has_beyond one = (own_nodes l sides es loaded solution, one_beyond closed (own_nodes l sides es loaded solution) counts counted es sides whole_sides loaded.types one)
+    pub has_beyond : OneOf (λ n. most_nodes < (count_at l.arena.classes counts n).as_type) sides → HasBeyond closed es
+    has_beyond one = (own_nodes l sides es loaded solution, one_beyond closed (own_nodes l sides es loaded solution) counts counted es sides whole_sides loaded.types one)
