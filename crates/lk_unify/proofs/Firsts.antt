@@ -50,7 +50,7 @@ some_small es n within solution nodes = all_small (take n es) within (solution_f
 pub whole_small : (es : List Equation) → AreWithin 1 es → HasSolution es → ((j : ℕ) → j ≤ length es → HasNodes (take j es)) → AreSmall (take (length es) es)
 whole_small es within solution nodes = subst AreSmall (sym (take_all (length es) es (omega arith))) (all_small es within solution nodes)
 
-pub all_are_small : (es : List Equation) (k : ℕ) → k ≤ length es → (k < length es → ⊥) → AreSmall (take k es) → AreSmall es
+pub all_are_small : (es : List Equation) (k : ℕ) → k ≤ length es → length es ≤ k → AreSmall (take k es) → AreSmall es
 all_are_small es k within end small =
     subst AreSmall (take_all (length es) es (omega arith)) (subst (λ n. AreSmall (take n es)) (let same : k ≡ length es = omega arith in same) small)
 

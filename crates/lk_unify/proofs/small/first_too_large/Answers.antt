@@ -14,4 +14,4 @@ loop-k-preserved c =
     more_small c.args.equations.now c.loop-k.k c.loop-k-test.true c.requires c.loop-k.invariant (c.in_ok-is_within.ensures.within c.if-not-branch.false)
 
 pub returns-clause-small : goal.returns-clause-small
-returns-clause-small c = all_are_small c.args.equations.now c.loop-k.k ? c.loop-k-test.false c.loop-k.invariant
+returns-clause-small c = all_are_small c.args.equations.now c.loop-k.k (c.loop-k.auto.k-end c.in_ok-start.ensures.bound) c.loop-k-test.false c.loop-k.invariant
