@@ -64,6 +64,7 @@ pub mod Ranks
 pub mod ReadMade
 pub mod ReadParts
 pub mod ReadRows
+pub mod ReadSolution
 pub mod ReadVariables
 pub mod Relabel
 pub mod RowAlgebra

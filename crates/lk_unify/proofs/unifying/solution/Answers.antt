@@ -1,13 +1,15 @@
-use Rattle.std.proofs.Common.{rules, ◌≡◌, ℕ, Err, IfOk, ◌+◌, ◌-◌, ◌*◌, ◌<◌, ◌≤◌, length, ◌/◌, ◌%◌, Bool, true, false, nat_eq, nat_lt, List, [], ◌∷◌, ◌++◌, slice_index_or, slice_set, bit_and, bit_or, Fits, w8, w32, w64, Bor, MutBor}
-use Rattle.lk_types.specs.Sizes.{AreSmall, IsFirstTooLarge, IsFirstUnsolvable, IsSolution}
-use Rattle.lk_types.specs.Solutions.{HasSolution}
-use Rattle.lk_unify.specs.declared.unifying.UnifyError.TheVariants as errors
+use Rattle.lk_unify.proofs.Placed.{places}
+use Rattle.lk_unify.proofs.ReadSolution.{read_solution}
 use Rattle.lk_unify.proofs.unifying.solution.Goals as goal
+use Rattle.lk_unify.specs.Reading.{name_in}
 
--- src/unifying.rt:48:17
 pub read_all-requires-clause-ranks : goal.read_all-requires-clause-ranks
-read_all-requires-clause-ranks c = ?
+read_all-requires-clause-ranks c =
+    rw c.len.ensures
+    (places c.in_ok-nodes.nodes.all.loader.arena.shapes c.in_ok-nodes.nodes.all.loader.arena.classes c.in_ok-nodes.nodes.order.items c.in_ok-nodes.ensures.loaded.says.whole.arena
+    c.in_ok-nodes.ensures.order)
 
--- src/unifying.rt:41:1
 pub returns : goal.returns
-returns c = ?
+returns c =
+    read_solution c.in_ok-nodes.nodes.all.loader c.in_ok-nodes.nodes.all.sides c.args.equations.now (name_in c.in_ok-numbers.numbers.items) c.in_ok-subst.subst c.in_ok-nodes.ensures.loaded
+    c.requires c.in_ok-numbers.ensures.naming (rw c.as_slice.ensures.value at c.in_ok-subst.ensures)
