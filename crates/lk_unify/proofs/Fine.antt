@@ -1,11 +1,13 @@
--- What is read back of the nodes is a most general solution in solved form, and how large the sides are under it.
-use Rattle.std.proofs.Common.{◌≡◌, ℕ, ◌+◌, ◌<◌, ◌≤◌, true, List, [], ◌∷◌, ◌++◌, ◌⊎◌, inl, inr, length, take, flat_map, Option, Some, None, refl, sym, ◌∙◌, ap, subst, arith}
-use Rattle.lk_classes.specs.Classes.{class_at}
+-- How large the sides of equations are under what is read back of the nodes. Where each end of a row counts one no side gets smaller
+-- by more equations, so that one look at the whole list can be enough.
+use Rattle.std.proofs.Common.{◌≡◌, ℕ, ◌+◌, ◌<◌, ◌≤◌, List, [], ◌∷◌, inl, inr, length, map, take, Option, Some, refl, sym, ◌∙◌, ap, subst, arith}
+use Rattle.std.specs.FinMap as fin
+use Rattle.std.specs.Option.{option_map}
+use Rattle.lk_types.proofs.Unfold.{nodes_variable}
 use Rattle.lk_types.specs.Each.{Each, OneOf}
-use Rattle.lk_types.specs.Sizes.{nodes, row_nodes_with, effects_nodes, nodes_with, one, size_of_image, image_size, size_under, most_nodes, IsWithin, IsBeyond, IsSolution, IsFine, IsTooLarge, AreSmall}
-use Rattle.lk_types.specs.Solutions.{HasSolution, Solves, IsMostGeneral, IsSolvedForm, IsUnbound, plain_image, row_image, effects_image}
-use Rattle.lk_types.specs.Variables.{variables_of, variables_of_row, effects_variables, image_variables, equation_variables}
-use Rattle.lk_types.specs.declared.equation.Binding.{Binding}
+use Rattle.lk_types.specs.Rows.{Label}
+use Rattle.lk_types.specs.Sizes.{nodes, row_nodes_with, effects_nodes, nodes_with, one, size_of_image, image_size, size_under, most_nodes, IsWithin, IsBeyond, IsFine, IsTooLarge, AreSmall}
+use Rattle.lk_types.specs.Solutions.{HasSolution, IsMet}
 use Rattle.lk_types.specs.declared.equation.Equation.{Equation}
 use Rattle.lk_types.specs.declared.equation.Subst.{Subst}
 use Rattle.lk_types.specs.declared.ty.RowTail.TheVariants.{Var}
@@ -13,103 +15,132 @@ use Rattle.lk_types.specs.declared.ty.Ty.{Ty}
 use Rattle.lk_types.specs.declared.ty.Ty.TheVariants as ty
 use Rattle.lk_types.specs.declared.ty.Variable.{Variable}
 use Rattle.lk_types.specs.declared.ty.Variable.TheVariants as variable
-use Rattle.lk_unify.proofs.Bindings.{puts_at, unbound}
-use Rattle.lk_unify.proofs.EachLemmas.{Each-append, Each-zip, OneOf-with}
-use Rattle.lk_unify.proofs.Generality.{instance_by, opens_all}
-use Rattle.lk_unify.proofs.Instances.{PutsAt, instance_solves, instance_all}
-use Rattle.lk_unify.proofs.OpenCounts.{count_nodes}
-use Rattle.lk_unify.proofs.OpenEffects.{effects_in_row}
+use Rattle.lk_unify.proofs.Bindings.{puts_at}
+use Rattle.lk_unify.proofs.EachLemmas.{Each-zip, OneOf-with}
+use Rattle.lk_unify.proofs.Instances.{PutsAt}
+use Rattle.lk_unify.proofs.Loadeds.{each_first}
+use Rattle.lk_unify.proofs.OpenCounts.{count_nodes, row_count_nodes, count_below}
 use Rattle.lk_unify.proofs.OpenSizes.{opening_size, opened_nodes}
-use Rattle.lk_unify.proofs.OpenVariables.{IsGivenOfNames, own_type_variables, own_row_variables, own_effects_variables}
-use Rattle.lk_unify.proofs.Within.{own_agrees}
-use Rattle.lk_unify.specs.Kinds.{Kind, OfTypes, OfFields, OfEffects, OfUnit, OfNothing, HasKind}
-use Rattle.lk_unify.specs.Loading.{node_for, kind_of, value_of}
-use Rattle.lk_unify.specs.Nodes.{count}
-use Rattle.lk_unify.specs.Openings.{Opening, OpenSolves, IsOpenMet, opened, only_tail, only_effects_tail, row_type, effects_type}
-use Rattle.lk_unify.specs.Reading.{type_in, row_in, effects_in, opening_by, image_of, number_of, binding_by, subst_by, own_variable}
-use Rattle.lk_unify.specs.Shapes.{shape_at, is_loose_shape}
+use Rattle.lk_unify.proofs.OpenUnfold.{count_rolled}
+use Rattle.lk_unify.proofs.Sizes.{no_entries}
+use Rattle.lk_unify.proofs.SolvedForm.{own_solves, solution_of}
+use Rattle.lk_unify.proofs.ValueCounts.{own_least}
+use Rattle.lk_unify.proofs.Within.{own_agrees, own_of_nodes}
+use Rattle.lk_unify.specs.Counting.{sum_of}
+use Rattle.lk_unify.specs.Kinds.{Kind, OfTypes}
+use Rattle.lk_unify.specs.Loading.{Agrees}
+use Rattle.lk_unify.specs.Nodes.{count, value_count}
+use Rattle.lk_unify.specs.Openings.{Opening, OpenSolves, IsOpenMet, opened, only_tail, row_type, effects_type, field_type}
+use Rattle.lk_unify.specs.Reading.{opening_by, subst_by}
+use Rattle.lk_unify.specs.Shapes.{FitsNodes, WeakNodes}
 use Rattle.lk_unify.specs.Small.{OwnNodes, IsSideOf, AreWithin, HasBeyond}
-use Rattle.lk_unify.specs.Values.{Value, Plain, OfRow, effect_row}
-use Rattle.lk_unify.specs.declared.loader.Loader.{Loader}
-use Rattle.lk_unify.specs.declared.node.Shape.{Shape}
-use Rattle.lk_unify.specs.declared.node.Shape.TheVariants.{Free, Open, Empty, Made}
-use Rattle.lk_unify.specs.declared.node.Shape.TheVariants as shape
+use Rattle.lk_unify.specs.Solving.{HasNodes, AreSides, IsSide}
+use Rattle.lk_unify.specs.Values.{Value, Plain}
 
--- a class of which nothing is known is of types or of rows
-free_kind : (kind : ℕ → Kind) (k : Kind) → HasKind kind k Free → k ≡ OfTypes
-free_kind kind OfTypes h = refl
-free_kind kind OfFields h = absurd h
-free_kind kind OfEffects h = absurd h
-free_kind kind OfUnit h = absurd h
-free_kind kind OfNothing h = absurd h
+some_once : {A : Type 0} (a b : A) → Some a ≡ Some b → a ≡ b
+some_once a b e = cc
+
+-- ---- how large the sides are
+
+one_row : (n : ℕ) → row_nodes_with one (row_type (only_tail (Var n))) ≡ 1
+one_row n = sym (row_count_nodes (row_type (only_tail (Var n)))) ∙ count_rolled 0 (map field_type (fin.entries (only_tail (Var n)).fields)) (Var n) ∙ ap (λ (xs : List (Label × Ty)). sum_of (map (λ f. 1 + count 0 f.ty) (map field_type xs)) + 1) no_entries
+
+module _ (s : Subst) (ρ : Opening) where
+  same_size : (x : Variable) → PutsAt s ρ x → image_size s x ≡ opening_size ρ x
+  same_size (variable.Plain n) (inl p) = ap (size_of_image nodes) p.0 ∙ sym (ap nodes p.1 ∙ nodes_variable one n)
+  same_size (variable.Plain n) (inr p) = ap (size_of_image nodes) p
+  same_size (variable.Row n) (inl p) = ap (size_of_image (row_nodes_with one)) p.0 ∙ sym (ap (λ r. row_nodes_with one (row_type r)) p.1 ∙ one_row n)
+  same_size (variable.Row n) (inr p) = ap (size_of_image (row_nodes_with one)) p
+  same_size (variable.Effects n) (inl p) = ap (size_of_image (effects_nodes one)) p.0 ∙ sym (ap (λ e. effects_nodes one (effects_type e)) p.1)
+  same_size (variable.Effects n) (inr p) = ap (size_of_image (effects_nodes one)) p
+
+  -- under the substitution a side is as large as what it becomes
+  size_is : ((x : Variable) → PutsAt s ρ x) → (t u : Ty) → opened ρ t ≡ Some u → size_under s t ≡ count 0 u
+  size_is puts t u is = (λ i. nodes_with (λ x. same_size x (puts x) i) t) ∙ sym (opened_nodes ρ t u is) ∙ sym (count_nodes u)
 
 module _ (es : List Equation) (o : OwnNodes es) where
-  abbrev l : Loader
-  l = o.loader
+  sizes_are : (e : Equation) (t : Ty) → IsOpenMet (opening_by o.loader o.values) e → opened (opening_by o.loader o.values) e.left ≡ Some t →
+      (size_under (subst_by o.loader o.values) e.left ≡ count 0 t) × (size_under (subst_by o.loader o.values) e.right ≡ count 0 t)
+  sizes_are e t met is =
+      let same : met.0 ≡ t = (let f : Some met.0 ≡ Some t = sym met.1 ∙ is in some_once met.0 t f) in (
+        size_is (subst_by o.loader o.values) (opening_by o.loader o.values) (puts_at o.loader o.values) e.left t is,
+        size_is (subst_by o.loader o.values) (opening_by o.loader o.values) (puts_at o.loader o.values) e.right t (met.2 ∙ ap Some same),
+      )
 
-  abbrev u : ℕ → Value
-  u = o.values
+  its_within : (e : Equation) → IsSideOf o 0 (λ n. n ≤ most_nodes) e → IsOpenMet (opening_by o.loader o.values) e → IsWithin (subst_by o.loader o.values) e
+  its_within e side met =
+      let sizes = sizes_are e side.0 met side.1 in
+      (subst (λ n. n ≤ most_nodes) (sym sizes.0) side.2, subst (λ n. n ≤ most_nodes) (sym sizes.1) side.2)
 
-  abbrev s : Subst
-  s = subst_by o.loader o.values
+  its_beyond : (e : Equation) → IsSideOf o 0 (λ n. most_nodes < n) e → IsOpenMet (opening_by o.loader o.values) e → IsBeyond (subst_by o.loader o.values) e
+  its_beyond e side met = inl (subst (λ n. most_nodes < n) (sym (sizes_are e side.0 met side.1).0) side.2)
+
+pub fine : (es : List Equation) → AreWithin 0 es → HasSolution es → IsFine es
+fine es within solution =
+    let o = within.0 in (
+      subst_by o.loader o.values,
+      solution_of es o solution,
+      Each-zip (IsSideOf o 0 (λ n. n ≤ most_nodes)) (IsOpenMet (opening_by o.loader o.values)) (IsWithin (subst_by o.loader o.values)) (its_within es o) es within.1 (own_solves es o),
+    )
+
+pub too_large : (es : List Equation) → HasBeyond 0 es → HasSolution es → IsTooLarge es
+too_large es beyond solution =
+    let o = beyond.0 in (
+      subst_by o.loader o.values,
+      solution_of es o solution,
+      OneOf-with (IsSideOf o 0 (λ n. most_nodes < n)) (IsOpenMet (opening_by o.loader o.values)) (IsBeyond (subst_by o.loader o.values)) (its_beyond es o) es beyond.1 (own_solves es o),
+    )
+
+-- ---- the first equations
+
+first_solution : (k : ℕ) (es : List Equation) → HasSolution es → HasSolution (take k es)
+first_solution k es solution = (solution.0, each_first (IsMet solution.0) k es solution.1)
+
+module _ (es : List Equation) (o : OwnNodes es) (k : ℕ) (part : HasNodes (take k es)) (solution : HasSolution (take k es)) where
+  abbrev p : OwnNodes (take k es)
+  p = own_of_nodes part solution
 
   abbrev ρ : Opening
   ρ = opening_by o.loader o.values
 
-  pub own_solves : OpenSolves (opening_by o.loader o.values) es
-  own_solves = o.says.back o.values ρ o.own.fits (own_agrees o)
+  -- what all equations put for the variables gives values of the nodes of the first ones
+  values : (v : ℕ → Value) × FitsNodes part.loader.arena.shapes part.loader.arena.classes v × Agrees part.loader ρ v
+  values = part.says.forth ρ (each_first (IsOpenMet ρ) k es (own_solves es o))
 
-  -- ---- solved form
+  weak_values : WeakNodes part.loader.arena.shapes part.loader.arena.classes values.0
+  weak_values = record { builds = λ i b named. values.1.builds i b; respects = values.1.respects }
 
-  given : IsGivenOfNames (IsUnbound s) o.loader.arena.shapes o.loader.arena.classes o.kind o.name
-  given = record {
-    types = λ i b named is.
-        let k : o.kind i ≡ OfTypes = free_kind o.kind (o.kind i) (subst (HasKind o.kind (o.kind i)) is (o.kinded.nodes i b).1) in
-        unbound l u (variable.Plain (o.name i)) (ap (λ k. node_for l (own_variable k (o.name i))) (sym k) ∙ o.naming.unused i b named (ap is_loose_shape is));
-    rows = λ i b named k is. unbound l u (variable.Row (o.name i)) (ap (λ k. node_for l (own_variable k (o.name i))) (sym k) ∙ o.naming.unused i b named (ap is_loose_shape is));
-    effects = λ i b named k is. unbound l u (variable.Effects (o.name i)) (ap (λ k. node_for l (own_variable k (o.name i))) (sym k) ∙ o.naming.unused i b named (ap is_loose_shape is));
-  }
+  side_value : (v : ℕ → Value) (ρ : Opening) (e : Equation) (n : ℕ) (t : Ty) → IsSide part.loader e n → WeakNodes part.loader.arena.shapes part.loader.arena.classes v → Agrees part.loader ρ v →
+      opened ρ e.left ≡ Some t → v n ≡ Plain t
+  side_value v ρ e n t side fits agrees is = sym (some_once (Plain t) (v n) (sym (ap (option_map Plain) is) ∙ side.meaning v ρ fits agrees))
 
-  image_solved : (x : Variable) (n : ℕ) → node_for o.loader x ≡ Some n → Each (IsUnbound s) (image_variables (image_of x (o.values n)))
-  image_solved (variable.Plain m) n is =
-      let at = (own_agrees o).at (variable.Plain m) n is in
-      subst (λ t. Each (IsUnbound s) (variables_of t)) (sym (ap type_in at))
-      (own_type_variables (IsUnbound s) o.loader.arena.shapes o.loader.arena.classes o.kind o.rank o.name o.values o.says.whole.arena o.kinded.nodes o.ranked o.own given n
-      (o.says.whole.named (variable.Plain m) n is) (o.kinded.named (variable.Plain m) n is) (ρ.plain m) at)
-  image_solved (variable.Row m) n is =
-      let at = (own_agrees o).at (variable.Row m) n is in
-      subst (λ r. Each (IsUnbound s) (variables_of_row (row_type r))) (sym (ap row_in at))
-      (own_row_variables (IsUnbound s) o.loader.arena.shapes o.loader.arena.classes o.kind o.rank o.name o.values o.says.whole.arena o.kinded.nodes o.ranked o.own given n
-      (o.says.whole.named (variable.Row m) n is) (o.kinded.named (variable.Row m) n is) (ρ.rows m) at)
-  image_solved (variable.Effects m) n is =
-      let at = (own_agrees o).at (variable.Effects m) n is in
-      subst (λ e. Each (IsUnbound s) (effects_variables (effects_type e))) (sym (ap (λ x. effects_in (row_in x)) at ∙ effects_in_row (ρ.effects m)))
-      (own_effects_variables (IsUnbound s) o.loader.arena.shapes o.loader.arena.classes o.kind o.rank o.name o.values o.says.whole.arena o.kinded.nodes o.ranked o.own given n
-      (o.says.whole.named (variable.Effects m) n is) (o.kinded.named (variable.Effects m) n is) (ρ.effects m) at)
+  -- a side counts no more than under all equations
+  side_below : (e : Equation) (n : ℕ) (t u : Ty) → IsSide part.loader e n → part.kind n ≡ OfTypes → opened (opening_by p.loader p.values) e.left ≡ Some t → opened ρ e.left ≡ Some u → count 0 t ≤ count 1 u
+  side_below e n t u side types is whole =
+      let least : value_count 1 (part.kind n) (p.values n) ≤ value_count 1 (part.kind n) (values.0 n) =
+      own_least part.loader.arena.shapes part.loader.arena.classes part.kind p.rank p.name p.values values.0 part.says.whole.arena part.kinded.nodes p.ranked p.own weak_values n side.below in
+      let at_types : value_count 1 OfTypes (p.values n) ≤ value_count 1 OfTypes (values.0 n) = subst (λ k. value_count 1 k (p.values n) ≤ value_count 1 k (values.0 n)) types least in
+      let ours : value_count 1 OfTypes (p.values n) ≡ count 1 t = ap (value_count 1 OfTypes) (side_value p.values (opening_by p.loader p.values) e n t side p.own.fits (own_agrees p) is) in
+      let theirs : value_count 1 OfTypes (values.0 n) ≡ count 1 u = ap (value_count 1 OfTypes) (side_value values.0 ρ e n u side weak_values values.2 whole) in
+      let open_ends = count_below t in
+      omega arith
 
-  abbrev IsSolved : Binding → Type 0
-  IsSolved b = Each (IsUnbound s) (image_variables b.is)
+  within_first : (xs : List Equation) (ns : List ℕ) → AreSides part.loader xs ns → Each (λ n. part.kind n ≡ OfTypes) ns → Each (IsSideOf o 1 (λ n. n ≤ most_nodes)) xs →
+      Each (IsOpenMet (opening_by p.loader p.values)) xs → Each (IsSideOf p 0 (λ n. n ≤ most_nodes)) xs
+  within_first [] [] sides types within met = tt
+  within_first (e ∷ xs) (n ∷ ns) sides types within met =
+      let below = side_below e n met.0.0 within.0.0 sides.0 types.0 met.0.1 within.0.1 in
+      let bound = within.0.2 in
+      ((met.0.0, met.0.1, omega arith), within_first xs ns sides.1 types.1 within.1 met.1)
+  within_first [] (n ∷ ns) sides types within met = absurd sides
+  within_first (e ∷ xs) [] sides types within met = absurd sides
 
-  binding_solved : (x : Variable) (n : Option ℕ) → node_for o.loader x ≡ n → Each IsSolved (binding_by x o.values n)
-  binding_solved x None is = tt
-  binding_solved x (Some n) is = (image_solved x n is, tt)
+  pub first_within : Each (IsSideOf o 1 (λ n. n ≤ most_nodes)) es → AreWithin 0 (take k es)
+  first_within within = (
+      p,
+      within_first (take k es) part.sides part.sides_are part.types (each_first (IsSideOf o 1 (λ n. n ≤ most_nodes)) k es within) (own_solves (take k es) p))
 
-  bindings_solved : (xs : List (Variable × ℕ)) → Each IsSolved (flat_map (λ e. binding_by e.0 o.values (node_for o.loader e.0)) xs)
-  bindings_solved [] = tt
-  bindings_solved (e ∷ xs) =
-      Each-append IsSolved (binding_by e.0 o.values (node_for o.loader e.0)) (flat_map (λ e. binding_by e.0 o.values (node_for o.loader e.0)) xs)
-      (binding_solved e.0 (node_for o.loader e.0) refl) (bindings_solved xs)
-
-  -- ---- most general
-
-  most_general : IsMostGeneral s es
-  most_general = record {
-    sound = λ σ τ at sides. instance_solves σ s τ ρ (puts_at l u) es own_solves at sides;
-    general = λ σ solves. (
-        instance_by l o.kind o.kinded o.rank o.ranked o.name o.owner o.naming o.values o.own es o.says σ solves,
-        instance_all σ s (instance_by l o.kind o.kinded o.rank o.ranked o.name o.owner o.naming o.values o.own es o.says σ solves) ρ (puts_at l u) (equation_variables es)
-            (opens_all l o.kind o.kinded o.rank o.ranked o.name o.owner o.naming o.values o.own es o.says σ solves (equation_variables es) o.bound));
-  }
-
-  pub solution_of : HasSolution es → IsSolution (subst_by o.loader o.values) es
-  solution_of solution = (solution, most_general, bindings_solved o.loader.names.entries)
+-- where no side is too large though each end counts one, all first parts are small
+pub all_small : (es : List Equation) → AreWithin 1 es → HasSolution es → ((j : ℕ) → j ≤ length es → HasNodes (take j es)) → AreSmall es
+all_small es within solution nodes k h =
+    fine (take k es) (first_within es within.0 k (nodes k h) (first_solution k es solution) within.1) (first_solution k es solution)
