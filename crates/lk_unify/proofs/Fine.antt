@@ -1,20 +1,146 @@
--- Solutions read back of the classes, and how large the sides are under them.
-use Rattle.std.proofs.Common.{ℕ, ◌≤◌, List, length, take}
-use Rattle.lk_types.specs.Sizes.{IsSolution, IsFine, IsTooLarge, AreSmall}
-use Rattle.lk_types.specs.Solutions.{HasSolution}
+-- How large the sides of equations are under what is read back of the nodes. Where each end of a row counts one no side gets smaller
+-- by more equations, so that one look at the whole list can be enough.
+use Rattle.std.proofs.Common.{◌≡◌, ℕ, ◌+◌, ◌<◌, ◌≤◌, List, [], ◌∷◌, inl, inr, length, map, take, Option, Some, refl, sym, ◌∙◌, ap, subst, arith}
+use Rattle.std.specs.FinMap as fin
+use Rattle.std.specs.Option.{option_map}
+use Rattle.lk_types.proofs.Unfold.{nodes_variable}
+use Rattle.lk_types.specs.Each.{Each, OneOf}
+use Rattle.lk_types.specs.Rows.{Label}
+use Rattle.lk_types.specs.Sizes.{nodes, row_nodes_with, effects_nodes, nodes_with, one, size_of_image, image_size, size_under, most_nodes, IsWithin, IsBeyond, IsFine, IsTooLarge, AreSmall}
+use Rattle.lk_types.specs.Solutions.{HasSolution, IsMet}
 use Rattle.lk_types.specs.declared.equation.Equation.{Equation}
-use Rattle.lk_unify.specs.Reading.{subst_by}
-use Rattle.lk_unify.specs.Small.{OwnNodes, AreWithin, HasBeyond}
-use Rattle.lk_unify.specs.Solving.{HasNodes}
+use Rattle.lk_types.specs.declared.equation.Subst.{Subst}
+use Rattle.lk_types.specs.declared.ty.RowTail.TheVariants.{Var}
+use Rattle.lk_types.specs.declared.ty.Ty.{Ty}
+use Rattle.lk_types.specs.declared.ty.Ty.TheVariants as ty
+use Rattle.lk_types.specs.declared.ty.Variable.{Variable}
+use Rattle.lk_types.specs.declared.ty.Variable.TheVariants as variable
+use Rattle.lk_unify.proofs.Bindings.{puts_at}
+use Rattle.lk_unify.proofs.EachLemmas.{Each-zip, OneOf-with}
+use Rattle.lk_unify.proofs.Instances.{PutsAt}
+use Rattle.lk_unify.proofs.Loadeds.{each_first}
+use Rattle.lk_unify.proofs.OpenCounts.{count_nodes, row_count_nodes, count_below}
+use Rattle.lk_unify.proofs.OpenSizes.{opening_size, opened_nodes}
+use Rattle.lk_unify.proofs.OpenUnfold.{count_rolled}
+use Rattle.lk_unify.proofs.Sizes.{no_entries}
+use Rattle.lk_unify.proofs.SolvedForm.{own_solves, solution_of}
+use Rattle.lk_unify.proofs.ValueCounts.{own_least}
+use Rattle.lk_unify.proofs.Within.{own_agrees, own_of_nodes}
+use Rattle.lk_unify.specs.Counting.{sum_of}
+use Rattle.lk_unify.specs.Kinds.{Kind, OfTypes}
+use Rattle.lk_unify.specs.Loading.{Agrees}
+use Rattle.lk_unify.specs.Nodes.{count, value_count}
+use Rattle.lk_unify.specs.Openings.{Opening, OpenSolves, IsOpenMet, opened, only_tail, row_type, effects_type, field_type}
+use Rattle.lk_unify.specs.Reading.{opening_by, subst_by}
+use Rattle.lk_unify.specs.Shapes.{FitsNodes, WeakNodes}
+use Rattle.lk_unify.specs.Small.{OwnNodes, IsSideOf, AreWithin, HasBeyond}
+use Rattle.lk_unify.specs.Solving.{HasNodes, AreSides, IsSide}
+use Rattle.lk_unify.specs.Values.{Value, Plain}
 
-pub solution_of : {es : List Equation} (o : OwnNodes es) → HasSolution es → IsSolution (subst_by o.loader o.values) es
-solution_of o solution = ?
+some_once : {A : Type 0} (a b : A) → Some a ≡ Some b → a ≡ b
+some_once a b e = cc
+
+-- ---- how large the sides are
+
+one_row : (n : ℕ) → row_nodes_with one (row_type (only_tail (Var n))) ≡ 1
+one_row n = sym (row_count_nodes (row_type (only_tail (Var n)))) ∙ count_rolled 0 (map field_type (fin.entries (only_tail (Var n)).fields)) (Var n) ∙ ap (λ (xs : List (Label × Ty)). sum_of (map (λ f. 1 + count 0 f.ty) (map field_type xs)) + 1) no_entries
+
+module _ (s : Subst) (ρ : Opening) where
+  same_size : (x : Variable) → PutsAt s ρ x → image_size s x ≡ opening_size ρ x
+  same_size (variable.Plain n) (inl p) = ap (size_of_image nodes) p.0 ∙ sym (ap nodes p.1 ∙ nodes_variable one n)
+  same_size (variable.Plain n) (inr p) = ap (size_of_image nodes) p
+  same_size (variable.Row n) (inl p) = ap (size_of_image (row_nodes_with one)) p.0 ∙ sym (ap (λ r. row_nodes_with one (row_type r)) p.1 ∙ one_row n)
+  same_size (variable.Row n) (inr p) = ap (size_of_image (row_nodes_with one)) p
+  same_size (variable.Effects n) (inl p) = ap (size_of_image (effects_nodes one)) p.0 ∙ sym (ap (λ e. effects_nodes one (effects_type e)) p.1)
+  same_size (variable.Effects n) (inr p) = ap (size_of_image (effects_nodes one)) p
+
+  -- under the substitution a side is as large as what it becomes
+  size_is : ((x : Variable) → PutsAt s ρ x) → (t u : Ty) → opened ρ t ≡ Some u → size_under s t ≡ count 0 u
+  size_is puts t u is = (λ i. nodes_with (λ x. same_size x (puts x) i) t) ∙ sym (opened_nodes ρ t u is) ∙ sym (count_nodes u)
+
+module _ (es : List Equation) (o : OwnNodes es) where
+  sizes_are : (e : Equation) (t : Ty) → IsOpenMet (opening_by o.loader o.values) e → opened (opening_by o.loader o.values) e.left ≡ Some t →
+      (size_under (subst_by o.loader o.values) e.left ≡ count 0 t) × (size_under (subst_by o.loader o.values) e.right ≡ count 0 t)
+  sizes_are e t met is =
+      let same : met.0 ≡ t = (let f : Some met.0 ≡ Some t = sym met.1 ∙ is in some_once met.0 t f) in (
+        size_is (subst_by o.loader o.values) (opening_by o.loader o.values) (puts_at o.loader o.values) e.left t is,
+        size_is (subst_by o.loader o.values) (opening_by o.loader o.values) (puts_at o.loader o.values) e.right t (met.2 ∙ ap Some same),
+      )
+
+  its_within : (e : Equation) → IsSideOf o 0 (λ n. n ≤ most_nodes) e → IsOpenMet (opening_by o.loader o.values) e → IsWithin (subst_by o.loader o.values) e
+  its_within e side met =
+      let sizes = sizes_are e side.0 met side.1 in
+      (subst (λ n. n ≤ most_nodes) (sym sizes.0) side.2, subst (λ n. n ≤ most_nodes) (sym sizes.1) side.2)
+
+  its_beyond : (e : Equation) → IsSideOf o 0 (λ n. most_nodes < n) e → IsOpenMet (opening_by o.loader o.values) e → IsBeyond (subst_by o.loader o.values) e
+  its_beyond e side met = inl (subst (λ n. most_nodes < n) (sym (sizes_are e side.0 met side.1).0) side.2)
 
 pub fine : (es : List Equation) → AreWithin 0 es → HasSolution es → IsFine es
-fine es within solution = ?
+fine es within solution =
+    let o = within.0 in (
+      subst_by o.loader o.values,
+      solution_of es o solution,
+      Each-zip (IsSideOf o 0 (λ n. n ≤ most_nodes)) (IsOpenMet (opening_by o.loader o.values)) (IsWithin (subst_by o.loader o.values)) (its_within es o) es within.1 (own_solves es o),
+    )
 
 pub too_large : (es : List Equation) → HasBeyond 0 es → HasSolution es → IsTooLarge es
-too_large es beyond solution = ?
+too_large es beyond solution =
+    let o = beyond.0 in (
+      subst_by o.loader o.values,
+      solution_of es o solution,
+      OneOf-with (IsSideOf o 0 (λ n. most_nodes < n)) (IsOpenMet (opening_by o.loader o.values)) (IsBeyond (subst_by o.loader o.values)) (its_beyond es o) es beyond.1 (own_solves es o),
+    )
 
+-- ---- the first equations
+
+first_solution : (k : ℕ) (es : List Equation) → HasSolution es → HasSolution (take k es)
+first_solution k es solution = (solution.0, each_first (IsMet solution.0) k es solution.1)
+
+module _ (es : List Equation) (o : OwnNodes es) (k : ℕ) (part : HasNodes (take k es)) (solution : HasSolution (take k es)) where
+  abbrev p : OwnNodes (take k es)
+  p = own_of_nodes part solution
+
+  abbrev ρ : Opening
+  ρ = opening_by o.loader o.values
+
+  -- what all equations put for the variables gives values of the nodes of the first ones
+  values : (v : ℕ → Value) × FitsNodes part.loader.arena.shapes part.loader.arena.classes v × Agrees part.loader ρ v
+  values = part.says.forth ρ (each_first (IsOpenMet ρ) k es (own_solves es o))
+
+  weak_values : WeakNodes part.loader.arena.shapes part.loader.arena.classes values.0
+  weak_values = record { builds = λ i b named. values.1.builds i b; respects = values.1.respects }
+
+  side_value : (v : ℕ → Value) (ρ : Opening) (e : Equation) (n : ℕ) (t : Ty) → IsSide part.loader e n → WeakNodes part.loader.arena.shapes part.loader.arena.classes v → Agrees part.loader ρ v →
+      opened ρ e.left ≡ Some t → v n ≡ Plain t
+  side_value v ρ e n t side fits agrees is = sym (some_once (Plain t) (v n) (sym (ap (option_map Plain) is) ∙ side.meaning v ρ fits agrees))
+
+  -- a side counts no more than under all equations
+  side_below : (e : Equation) (n : ℕ) (t u : Ty) → IsSide part.loader e n → part.kind n ≡ OfTypes → opened (opening_by p.loader p.values) e.left ≡ Some t → opened ρ e.left ≡ Some u → count 0 t ≤ count 1 u
+  side_below e n t u side types is whole =
+      let least : value_count 1 (part.kind n) (p.values n) ≤ value_count 1 (part.kind n) (values.0 n) =
+      own_least part.loader.arena.shapes part.loader.arena.classes part.kind p.rank p.name p.values values.0 part.says.whole.arena part.kinded.nodes p.ranked p.own weak_values n side.below in
+      let at_types : value_count 1 OfTypes (p.values n) ≤ value_count 1 OfTypes (values.0 n) = subst (λ k. value_count 1 k (p.values n) ≤ value_count 1 k (values.0 n)) types least in
+      let ours : value_count 1 OfTypes (p.values n) ≡ count 1 t = ap (value_count 1 OfTypes) (side_value p.values (opening_by p.loader p.values) e n t side p.own.fits (own_agrees p) is) in
+      let theirs : value_count 1 OfTypes (values.0 n) ≡ count 1 u = ap (value_count 1 OfTypes) (side_value values.0 ρ e n u side weak_values values.2 whole) in
+      let open_ends = count_below t in
+      omega arith
+
+  within_first : (xs : List Equation) (ns : List ℕ) → AreSides part.loader xs ns → Each (λ n. part.kind n ≡ OfTypes) ns → Each (IsSideOf o 1 (λ n. n ≤ most_nodes)) xs →
+      Each (IsOpenMet (opening_by p.loader p.values)) xs → Each (IsSideOf p 0 (λ n. n ≤ most_nodes)) xs
+  within_first [] [] sides types within met = tt
+  within_first (e ∷ xs) (n ∷ ns) sides types within met =
+      let below = side_below e n met.0.0 within.0.0 sides.0 types.0 met.0.1 within.0.1 in
+      let bound = within.0.2 in
+      ((met.0.0, met.0.1, omega arith), within_first xs ns sides.1 types.1 within.1 met.1)
+  within_first [] (n ∷ ns) sides types within met = absurd sides
+  within_first (e ∷ xs) [] sides types within met = absurd sides
+
+  pub first_within : Each (IsSideOf o 1 (λ n. n ≤ most_nodes)) es → AreWithin 0 (take k es)
+  first_within within = (
+      p,
+      within_first (take k es) part.sides part.sides_are part.types (each_first (IsSideOf o 1 (λ n. n ≤ most_nodes)) k es within) (own_solves (take k es) p))
+
+-- where no side is too large though each end counts one, all first parts are small
 pub all_small : (es : List Equation) → AreWithin 1 es → HasSolution es → ((j : ℕ) → j ≤ length es → HasNodes (take j es)) → AreSmall es
-all_small es within solution nodes = ?
+all_small es within solution nodes k h =
+    fine (take k es) (first_within es within.0 k (nodes k h) (first_solution k es solution) within.1) (first_solution k es solution)

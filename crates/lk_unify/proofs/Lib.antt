@@ -73,6 +73,7 @@ pub mod RowsBefore
 pub mod Shaping
 pub mod Sizes
 pub mod Solved
+pub mod SolvedForm
 pub mod Solving
 pub mod Steps
 pub mod Tails
