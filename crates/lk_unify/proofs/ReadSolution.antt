@@ -5,7 +5,7 @@ use Rattle.lk_types.specs.Solutions.{HasSolution}
 use Rattle.lk_types.specs.declared.equation.Equation.{Equation}
 use Rattle.lk_types.specs.declared.equation.Subst.{Subst}
 use Rattle.lk_unify.proofs.Decided.{says_all}
-use Rattle.lk_unify.proofs.Fine.{solution_of}
+use Rattle.lk_unify.proofs.SolvedForm.{solution_of}
 use Rattle.lk_unify.proofs.Within.{own_by_names}
 use Rattle.lk_unify.specs.Kinds.{Kind}
 use Rattle.lk_unify.specs.Loading.{IsKinded}
@@ -22,4 +22,4 @@ pub read_solution : (l : Loader) (sides : List ℕ) (es : List Equation) (name :
 read_solution l sides es name s loaded solution names read =
     let naming : (owner : ℕ → ℕ) × IsNaming l loaded.kind name owner = names loaded.kind loaded.kinded in
     let o : OwnNodes es = own_by_names l es (says_all l sides es loaded) solution loaded.bound loaded.kind loaded.kinded name naming.0 naming.1 in
-    subst (λ s. IsSolution s es) (sym (read o.values o.own)) (solution_of o solution)
+    subst (λ s. IsSolution s es) (sym (read o.values o.own)) (solution_of es o solution)

@@ -5,7 +5,7 @@ use Rattle.lk_unify.specs.Reading.{name_in}
 
 pub read_all-requires-clause-ranks : goal.read_all-requires-clause-ranks
 read_all-requires-clause-ranks c =
-    rw c.len.ensures
+    rw (c.len.ensures, c.in_ok-nodes.nodes.order.ok.0)
     (places c.in_ok-nodes.nodes.all.loader.arena.shapes c.in_ok-nodes.nodes.all.loader.arena.classes c.in_ok-nodes.nodes.order.items c.in_ok-nodes.ensures.loaded.says.whole.arena
     c.in_ok-nodes.ensures.order)
 
