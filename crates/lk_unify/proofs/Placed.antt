@@ -1,8 +1,8 @@
 -- Where parts come first in an order, a class has its place in it as a rank.
-use Rattle.std.proofs.Common.{◌≡◌, ℕ, zero, suc, ◌+◌, ◌<◌, ◌≤◌, Bool, true, false, ◌⊎◌, inl, inr, ⊎_elim, List, [], ◌∷◌, length, take, get_or, refl, sym, ◌∙◌, ap, subst, arith}
-use Rattle.std.proofs.lemmas.Bool.{cases_eq, eqb-true, eq-eqb}
+use Rattle.std.proofs.Common.{◌≡◌, ℕ, zero, suc, ◌<◌, Bool, true, false, ◌⊎◌, inl, inr, ⊎_elim, List, [], ◌∷◌, length, take, get_or, refl, sym, ◌∙◌, ap, subst, arith}
+use Rattle.std.proofs.lemmas.Bool.{eqb-true, eq-eqb}
 use Rattle.std.specs.Prelude.{◌==◌, cond}
-use Rattle.lk_classes.specs.Classes.{class_at, AreClasses}
+use Rattle.lk_classes.specs.Classes.{class_at}
 use Rattle.lk_types.specs.Each.{Each, OneOf}
 use Rattle.lk_unify.proofs.EachLemmas.{Each-zip}
 use Rattle.lk_unify.specs.Counting.{IsAmong, IsPartsFirst}

@@ -1,24 +1,23 @@
 -- Nodes that say equations with a solution have values where each class of which nothing is known is a variable of its own; what
--- these values put for the variables agrees with them.
-use Rattle.std.proofs.Common.{◌≡◌, ℕ, zero, suc, ◌+◌, ◌<◌, ◌≤◌, Bool, true, false, ◌⊎◌, inl, inr, ⊎_elim, List, [], ◌∷◌, length, Option, Some, None, refl, sym, ◌∙◌, ap, subst, arith}
+-- these values put for the variables agrees with them, and the counts of the classes tell how large the sides become.
+use Rattle.std.proofs.Common.{◌≡◌, ℕ, zero, suc, ◌+◌, ◌<◌, ◌≤◌, Bool, true, false, ◌⊎◌, inl, inr, List, [], ◌∷◌, length, Option, Some, None, refl, sym, ◌∙◌, ap, subst, arith}
 use Rattle.std.proofs.lemmas.Bool.{eqb-true}
 use Rattle.std.proofs.lemmas.List.{take_all}
 use Rattle.std.specs.Map.{lookup}
 use Rattle.std.specs.Option.{option_map}
-use Rattle.std.specs.Prelude.{◌==◌, cond}
-use Rattle.lk_classes.specs.Classes.{class_at}
+use Rattle.std.specs.Prelude.{cond}
 use Rattle.lk_types.specs.Each.{Each, OneOf}
 use Rattle.lk_types.specs.Sizes.{most_nodes}
 use Rattle.lk_types.specs.Solutions.{HasSolution}
 use Rattle.lk_types.specs.Variables.{same_variable, equation_variables}
 use Rattle.lk_types.specs.declared.equation.Equation.{Equation}
-use Rattle.lk_types.specs.declared.ty.RowTail.TheVariants.{Closed, Var}
+use Rattle.lk_types.specs.declared.ty.RowTail.TheVariants.{Var}
 use Rattle.lk_types.specs.declared.ty.Ty.{Ty}
 use Rattle.lk_types.specs.declared.ty.Ty.TheVariants as ty
 use Rattle.lk_types.specs.declared.ty.Variable.{Variable}
 use Rattle.lk_types.specs.declared.ty.Variable.TheVariants as variable
 use Rattle.lk_unify.proofs.Decided.{says_all}
-use Rattle.lk_unify.proofs.EffectRows.{IsEffectRow, its_effects}
+use Rattle.lk_unify.proofs.EffectRows.{its_effects}
 use Rattle.lk_unify.proofs.Grounded.{open_solves}
 use Rattle.lk_unify.proofs.Loadeds.{sides_below}
 use Rattle.lk_unify.proofs.OwnModel.{own_exists, ranks_exist}
@@ -30,7 +29,7 @@ use Rattle.lk_unify.specs.Kinds.{Kind, OfTypes, OfFields, OfEffects, OfUnit, OfN
 use Rattle.lk_unify.specs.Loading.{node_for, value_of, kind_of, Agrees, IsKinded}
 use Rattle.lk_unify.specs.Models.{IsOwn}
 use Rattle.lk_unify.specs.Nodes.{count, value_count}
-use Rattle.lk_unify.specs.Openings.{OpenRow, Opening, as_opening, only_tail, opened}
+use Rattle.lk_unify.specs.Openings.{as_opening, only_tail, opened}
 use Rattle.lk_unify.specs.Order.{IsRanked}
 use Rattle.lk_unify.specs.Reading.{type_in, row_in, effects_in, value_or, opening_by, own_variable, number_of, IsNaming}
 use Rattle.lk_unify.specs.Shapes.{FitsNodes, WeakNodes}

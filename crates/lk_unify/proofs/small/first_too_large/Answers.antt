@@ -1,4 +1,4 @@
-use Rattle.std.proofs.Common.{◌+◌, arith}
+use Rattle.std.proofs.Common.{◌+◌}
 use Rattle.lk_unify.proofs.Firsts.{solution_first, all_are_small, more_small, first_large}
 use Rattle.lk_unify.proofs.small.first_too_large.Goals as goal
 

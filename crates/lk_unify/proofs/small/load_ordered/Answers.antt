@@ -1,8 +1,7 @@
 use Rattle.std.proofs.Common.{length, subst}
-use Rattle.std.specs.Prelude.{IfNone, IfSome}
+use Rattle.std.specs.Prelude.{IfSome}
 use Rattle.lk_unify.proofs.Decided.{never_fitting}
 use Rattle.lk_unify.proofs.small.load_ordered.Goals as goal
-use Rattle.lk_unify.specs.Shapes.{NeverFits}
 use Rattle.lk_unify.specs.Solving.{AreLoaded}
 
 pub unreachable-requires-in_default-2 : goal.unreachable-requires-in_default-2
