@@ -275,7 +275,7 @@ fn add_effects(words: &mut BTreeSet<&'static str>, effects: &[Effect]) -> Result
     Ok(())
 }
 
-fn effect_word(effect: Effect) -> &'static str {
+pub fn effect_word(effect: Effect) -> &'static str {
     match effect {
         Effect::Local => "local",
         Effect::Move => "move",
@@ -296,7 +296,7 @@ fn effects_text(alloc: Global, words: &BTreeSet<&'static str>) -> Result<String,
 }
 
 /// Adds a part, behind a comma where it isn't the first.
-fn add_part(text: &mut String, part: &str) -> Result<(), NoValue> {
+pub fn add_part(text: &mut String, part: &str) -> Result<(), NoValue> {
     if !text.is_empty() {
         text.push_str(",")?;
     }
