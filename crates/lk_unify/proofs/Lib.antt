@@ -8,6 +8,7 @@ pub mod Distinct
 pub mod EachLemmas
 pub mod EffectRows
 pub mod EffectSets
+pub mod Fine
 pub mod Flats
 pub mod Generality
 pub mod GroundInduction
@@ -80,3 +81,4 @@ pub mod ValueKinds
 pub mod Ways
 pub mod Weak
 pub mod Weights
+pub mod Within

@@ -94,8 +94,17 @@ last_or_before j k h = ⊎_elim (λ l. inl (omega arith)) (λ e. ⊎_elim (λ sa
     order (suc m) (suc n) = ⊎_elim (λ l. inl (omega arith)) (λ e. ⊎_elim (λ same. inr (inl (ap suc same))) (λ more. inr (inr (omega arith))) e) (order m n)
 
 module _ (l : Loader) (all : List Equation) (bound : AreBound l (equation_variables all)) (kind : ℕ → Kind) (kinded : IsKinded l kind) where
-  nodes_of : (k : ℕ) → Says l (take k all) → HasNodes (take k all)
-  nodes_of k says = record { loader = l; says = says; bound = variables_first (λ x. IsSome (node_for l x)) k all bound; kind = kind; kinded = kinded }
+  nodes_of : (k : ℕ) → Says l (take k all) → (sides : List ℕ) → AreSides l (take k all) sides → Each (λ n. kind n ≡ OfTypes) sides → HasNodes (take k all)
+  nodes_of k says sides are types = record {
+    loader = l;
+    says = says;
+    bound = variables_first (λ x. IsSome (node_for l x)) k all bound;
+    kind = kind;
+    kinded = kinded;
+    sides = sides;
+    sides_are = are;
+    types = types;
+  }
 
 pub loaded_none : (l : Loader) (es : List Equation) → IsStart l → AreBound l (equation_variables es) → AreLoaded l [] es 0
 loaded_none l es start bound = record {
@@ -105,7 +114,7 @@ loaded_none l es start bound = record {
   kind = start.kind;
   kinded = start.kinded;
   types = tt;
-  before = λ j h. subst (λ j. HasNodes (take j es)) (sym (zero_only j h)) (nodes_of l es bound start.kind start.kinded 0 says);
+  before = λ j h. subst (λ j. HasNodes (take j es)) (sym (zero_only j h)) (nodes_of l es bound start.kind start.kinded 0 says [] tt tt);
 }
   where
     says : Says l (take 0 es)
@@ -116,12 +125,12 @@ pub loaded_more : (old new : Loader) (sides : List ℕ) (es : List Equation) (k 
 loaded_more old new sides es k e node below at loaded adds = record {
   says = says;
   bound = bound;
-  sides_are = subst (λ first. AreSides new first (sides ++ node ∷ [])) (sym first) (sides_more old new e node adds (take k es) sides loaded.sides_are);
+  sides_are = are;
   kind = kinds.0;
   kinded = kinds.2;
-  types = types_more old new e node adds loaded.kind kinds.0 kinds.1 kinds.3 sides (sides_below old (take k es) sides loaded.sides_are) loaded.types;
+  types = types;
   before = λ j h.
-      ⊎_elim (λ l. loaded.before j l) (λ same. subst (λ j. HasNodes (take j es)) (sym same) (nodes_of new es bound kinds.0 kinds.2 (k + 1) says)) (last_or_before j k h);
+      ⊎_elim (λ l. loaded.before j l) (λ same. subst (λ j. HasNodes (take j es)) (sym same) (nodes_of new es bound kinds.0 kinds.2 (k + 1) says (sides ++ node ∷ []) are types)) (last_or_before j k h);
 }
   where
     first : take (k + 1) es ≡ take k es ++ e ∷ []
@@ -135,6 +144,12 @@ loaded_more old new sides es k e node below at loaded adds = record {
 
     kinds : (j : ℕ → Kind) × SameKinds (length old.arena.shapes) loaded.kind j × IsKinded new j × (j node ≡ OfTypes)
     kinds = adds.kinds loaded.kind loaded.kinded
+
+    are : AreSides new (take (k + 1) es) (sides ++ node ∷ [])
+    are = subst (λ first. AreSides new first (sides ++ node ∷ [])) (sym first) (sides_more old new e node adds (take k es) sides loaded.sides_are)
+
+    types : Each (λ n. kinds.0 n ≡ OfTypes) (sides ++ node ∷ [])
+    types = types_more old new e node adds loaded.kind kinds.0 kinds.1 kinds.3 sides (sides_below old (take k es) sides loaded.sides_are) loaded.types
 
 -- an equation that what fits doesn't meet leaves no solution
 pub loaded_never : (l : Loader) (sides : List ℕ) (es : List Equation) (k : ℕ) (e : Equation) → k < length es → e ≡ get_or es k e → AreLoaded l sides es k → NeverMeets l e → HasSolution es → ⊥

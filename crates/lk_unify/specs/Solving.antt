@@ -23,13 +23,28 @@ pub record Says (l : Loader) (equations : List Equation) : Type 0 where
 abbrev pub AreBound : Loader → List Variable → Type 0
 AreBound l xs = Each (λ x. IsSome (node_for l x)) xs
 
--- there are nodes that say just this, with one for each variable
+-- ---- the sides of equations
+
+-- the node stands for what the sides of the equation become
+pub record IsSide (l : Loader) (e : Equation) (node : ℕ) : Type 0 where
+  pub below : node < length l.arena.shapes
+  pub meaning : (v : ℕ → Value) (ρ : Opening) → WeakNodes l.arena.shapes l.arena.classes v → Agrees l ρ v → type_meaning e.left ρ ≡ Some (v node)
+
+abbrev pub AreSides : Loader → List Equation → List ℕ → Type 0
+AreSides l [] [] = Unit {0}
+AreSides l (e ∷ es) (n ∷ ns) = IsSide l e n × AreSides l es ns
+AreSides l _ _ = ⊥
+
+-- there are nodes that say just this, with one for each variable and one for the sides of each equation
 pub record HasNodes (equations : List Equation) : Type 0 where
   pub loader : Loader
   pub says : Says loader equations
   pub bound : AreBound loader (equation_variables equations)
   pub kind : ℕ → Kind
   pub kinded : IsKinded loader kind
+  pub sides : List ℕ
+  pub sides_are : AreSides loader equations sides
+  pub types : Each (λ n. kind n ≡ OfTypes) sides
 
 -- nothing is said: whatever is put for the variables, values fit with it
 pub record IsStart (l : Loader) : Type 0 where
@@ -57,16 +72,6 @@ abbrev pub NeverMeets : Loader → Equation → Type 0
 NeverMeets l e = (v : ℕ → Value) (ρ : Opening) → FitsNodes l.arena.shapes l.arena.classes v → Agrees l ρ v → IsOpenMet ρ e → ⊥
 
 -- ---- a list of equations
-
--- the node stands for what the sides of the equation become
-pub record IsSide (l : Loader) (e : Equation) (node : ℕ) : Type 0 where
-  pub below : node < length l.arena.shapes
-  pub meaning : (v : ℕ → Value) (ρ : Opening) → WeakNodes l.arena.shapes l.arena.classes v → Agrees l ρ v → type_meaning e.left ρ ≡ Some (v node)
-
-abbrev pub AreSides : Loader → List Equation → List ℕ → Type 0
-AreSides l [] [] = Unit {0}
-AreSides l (e ∷ es) (n ∷ ns) = IsSide l e n × AreSides l es ns
-AreSides l _ _ = ⊥
 
 -- The first k equations are nodes, with one for the sides of each, and all variables have nodes. The equations before were nodes too.
 pub record AreLoaded (l : Loader) (sides : List ℕ) (equations : List Equation) (k : ℕ) : Type 0 where

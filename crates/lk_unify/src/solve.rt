@@ -101,11 +101,14 @@ pub fn is_solvable(alloc: Global, equations: &[Equation]) -> Result<bool, NoMemo
     let Some(all) = load_all(alloc, equations)? else {
         return Ok(false);
     };
-    let arena = &all.loader.arena;
-    if !is_clean(alloc, arena)? {
+    if !is_clean(alloc, &all.loader.arena)? {
         return Ok(false);
     }
-    let ordered = is_ordered(alloc, arena.shapes.as_slice(), &arena.classes)?;
+    let ordered = is_ordered(
+        alloc,
+        all.loader.arena.shapes.as_slice(),
+        &all.loader.arena.classes,
+    )?;
     Ok(ordered)
 }
 
@@ -119,7 +122,7 @@ pub fn first_unsolvable(alloc: Global, equations: &[Equation]) -> Result<Option<
     }
     let mut low = 0;
     let mut high = equations.len();
-    while high - low > 1 {
+    'halving: while high - low > 1 {
         let middle = low + (high - low) / 2;
         if is_solvable(alloc, &equations[..middle])? {
             low = middle;

@@ -1,0 +1,161 @@
+-- Nodes that say equations with a solution have values where each class of which nothing is known is a variable of its own; what
+-- these values put for the variables agrees with them.
+use Rattle.std.proofs.Common.{◌≡◌, ℕ, zero, suc, ◌+◌, ◌<◌, ◌≤◌, Bool, true, false, ◌⊎◌, inl, inr, ⊎_elim, List, [], ◌∷◌, length, Option, Some, None, refl, sym, ◌∙◌, ap, subst, arith}
+use Rattle.std.proofs.lemmas.Bool.{eqb-true}
+use Rattle.std.specs.Map.{lookup}
+use Rattle.std.specs.Prelude.{◌==◌, cond}
+use Rattle.lk_classes.specs.Classes.{class_at}
+use Rattle.lk_types.specs.Solutions.{HasSolution}
+use Rattle.lk_types.specs.Variables.{same_variable, equation_variables}
+use Rattle.lk_types.specs.declared.equation.Equation.{Equation}
+use Rattle.lk_types.specs.declared.ty.RowTail.TheVariants.{Closed, Var}
+use Rattle.lk_types.specs.declared.ty.Ty.{Ty}
+use Rattle.lk_types.specs.declared.ty.Ty.TheVariants as ty
+use Rattle.lk_types.specs.declared.ty.Variable.{Variable}
+use Rattle.lk_types.specs.declared.ty.Variable.TheVariants as variable
+use Rattle.lk_unify.proofs.Decided.{says_all}
+use Rattle.lk_unify.proofs.EffectRows.{IsEffectRow, its_effects}
+use Rattle.lk_unify.proofs.Grounded.{open_solves}
+use Rattle.lk_unify.proofs.OwnModel.{own_exists, ranks_exist}
+use Rattle.lk_unify.proofs.Shaping.{HasValue}
+use Rattle.lk_unify.proofs.ValueKinds.{own_kinds}
+use Rattle.lk_unify.specs.Kinds.{Kind, OfTypes, OfFields, OfEffects, OfUnit, OfNothing}
+use Rattle.lk_unify.specs.Loading.{node_for, value_of, kind_of, Agrees, IsKinded}
+use Rattle.lk_unify.specs.Models.{IsOwn}
+use Rattle.lk_unify.specs.Openings.{OpenRow, Opening, as_opening, only_tail}
+use Rattle.lk_unify.specs.Order.{IsRanked}
+use Rattle.lk_unify.specs.Reading.{type_in, row_in, effects_in, value_or, opening_by, own_variable, number_of, IsNaming}
+use Rattle.lk_unify.specs.Shapes.{FitsNodes, WeakNodes}
+use Rattle.lk_unify.specs.Small.{OwnNodes}
+use Rattle.lk_unify.specs.Solving.{Says, HasNodes, AreBound, AreLoaded}
+use Rattle.lk_unify.specs.Values.{Value, Plain, OfRow, effect_row}
+use Rattle.lk_unify.specs.declared.loader.Loader.{Loader}
+
+-- ---- numbers that no variable has: those from a base on
+
+abbrev plus : ℕ → ℕ → ℕ
+plus zero i = i
+plus (suc b) i = suc (plus b i)
+
+abbrev minus : ℕ → ℕ → ℕ
+minus zero n = n
+minus (suc b) zero = 0
+minus (suc b) (suc n) = minus b n
+
+minus-plus : (b i : ℕ) → minus b (plus b i) ≡ i
+minus-plus zero i = refl
+minus-plus (suc b) i = minus-plus b i
+
+plus-above : (b i : ℕ) → b ≤ plus b i
+plus-above zero i = omega arith
+plus-above (suc b) i = let ih = plus-above b i in omega arith
+
+-- above the numbers of all these variables
+abbrev above : List (Variable × ℕ) → ℕ
+above [] = 0
+above (e ∷ es) = number_of e.0 + (1 + above es)
+
+apart : (x y : Variable) → number_of y < number_of x → (same_variable x y ≡ true) ⊎ (same_variable x y ≡ false) → same_variable x y ≡ false
+apart x y less (inr e) = e
+apart (variable.Plain m) (variable.Plain n) less (inl e) = let s : m ≡ n = eqb-true m n e in absurd (omega arith)
+apart (variable.Row m) (variable.Row n) less (inl e) = let s : m ≡ n = eqb-true m n e in absurd (omega arith)
+apart (variable.Effects m) (variable.Effects n) less (inl e) = let s : m ≡ n = eqb-true m n e in absurd (omega arith)
+apart (variable.Plain m) (variable.Row n) less (inl e) = refl
+apart (variable.Plain m) (variable.Effects n) less (inl e) = refl
+apart (variable.Row m) (variable.Plain n) less (inl e) = refl
+apart (variable.Row m) (variable.Effects n) less (inl e) = refl
+apart (variable.Effects m) (variable.Plain n) less (inl e) = refl
+apart (variable.Effects m) (variable.Row n) less (inl e) = refl
+
+is_or_not : (b : Bool) → (b ≡ true) ⊎ (b ≡ false)
+is_or_not true = inl refl
+is_or_not false = inr refl
+
+not_found : (x : Variable) (es : List (Variable × ℕ)) → above es ≤ number_of x → lookup (same_variable x) es ≡ None
+not_found x [] h = refl
+not_found x (e ∷ es) h =
+    ap (λ b. cond b (Some e.1) (lookup (same_variable x) es)) (apart x e.0 (omega arith) (is_or_not (same_variable x e.0))) ∙ not_found x es (omega arith)
+
+abbrev pub base : Loader → ℕ
+base l = above l.names.entries
+
+number_own : (k : Kind) (n : ℕ) → number_of (own_variable k n) ≡ n
+number_own OfTypes n = refl
+number_own OfFields n = refl
+number_own OfEffects n = refl
+number_own OfUnit n = refl
+number_own OfNothing n = refl
+
+pub named_above : (l : Loader) (kind : ℕ → Kind) → IsNaming l kind (plus (base l)) (minus (base l))
+named_above l kind = record {
+  owned = λ i h c s. minus-plus (base l) i;
+  unused = λ i h c s.
+      (let above = plus-above (base l) i in
+      let is = number_own (kind i) (plus (base l) i) in
+      not_found (own_variable (kind i) (plus (base l) i)) l.names.entries (omega arith));
+}
+
+-- ---- values of one's own
+
+weak : (l : Loader) (v : ℕ → Value) → FitsNodes l.arena.shapes l.arena.classes v → WeakNodes l.arena.shapes l.arena.classes v
+weak l v fits = record { builds = λ i b n. fits.builds i b; respects = fits.respects }
+
+-- values that fit
+module _ (l : Loader) (es : List Equation) (says : Says l es) (solution : HasSolution es) where
+  pub fitting : (v : ℕ → Value) × WeakNodes l.arena.shapes l.arena.classes v
+  fitting = let v = says.forth (as_opening solution.0) (open_solves solution.0 es solution.1) in (v.0, weak l v.0 v.1)
+
+  pub ranking : (rank : ℕ → ℕ) × IsRanked l.arena.shapes l.arena.classes rank
+  ranking = ranks_exist l.arena.shapes l.arena.classes fitting.0 says.whole.arena fitting.1
+
+  -- by these names
+  pub own_values : (kind : ℕ → Kind) → IsKinded l kind → (name : ℕ → ℕ) → (u : ℕ → Value) × IsOwn l.arena.shapes l.arena.classes name u
+  own_values kind kinded name = own_exists l.arena.shapes l.arena.classes kind ranking.0 name fitting.0 says.whole.arena kinded.nodes ranking.1 fitting.1
+
+  abbrev pub own_by_names : AreBound l (equation_variables es) → (kind : ℕ → Kind) → IsKinded l kind → (name owner : ℕ → ℕ) → IsNaming l kind name owner → OwnNodes es
+  own_by_names bound kind kinded name owner naming = record {
+    loader = l;
+    says = says;
+    bound = bound;
+    kind = kind;
+    kinded = kinded;
+    rank = ranking.0;
+    ranked = ranking.1;
+    name = name;
+    owner = owner;
+    naming = naming;
+    values = (own_values kind kinded name).0;
+    own = (own_values kind kinded name).1;
+  }
+
+  abbrev pub own_by : AreBound l (equation_variables es) → (kind : ℕ → Kind) → IsKinded l kind → OwnNodes es
+  own_by bound kind kinded = own_by_names bound kind kinded (plus (base l)) (minus (base l)) (named_above l kind)
+
+abbrev pub own_nodes : (l : Loader) (sides : List ℕ) (es : List Equation) → AreLoaded l sides es (length es) → HasSolution es → OwnNodes es
+own_nodes l sides es loaded solution = own_by l es (says_all l sides es loaded) solution loaded.bound loaded.kind loaded.kinded
+
+abbrev pub own_of_nodes : {es : List Equation} → HasNodes es → HasSolution es → OwnNodes es
+own_of_nodes {es} nodes solution = own_by nodes.loader es nodes.says solution nodes.bound nodes.kind nodes.kinded
+
+-- ---- what they put for the variables
+
+module _ (l : Loader) (u : ℕ → Value) where
+  agrees_at : (x : Variable) (n : ℕ) → node_for l x ≡ Some n → HasValue (kind_of x) (u n) → u n ≡ value_of (opening_by l u) x
+  agrees_at (variable.Plain m) n is value =
+      let e : u n ≡ Plain (type_in (u n)) = value.1 ∙ ap (λ x. Plain (type_in x)) (sym value.1) in
+      e ∙ ap (λ o. Plain (type_in (value_or o u (Plain (ty.Var m))))) (sym is)
+  agrees_at (variable.Row m) n is value =
+      let e : u n ≡ OfRow (row_in (u n)) = value.1 ∙ ap (λ x. OfRow (row_in x)) (sym value.1) in
+      e ∙ ap (λ o. OfRow (row_in (value_or o u (OfRow (only_tail (Var m)))))) (sym is)
+  agrees_at (variable.Effects m) n is value =
+      let e : u n ≡ OfRow (effect_row (effects_in (row_in (u n)))) =
+      value.1 ∙ ap OfRow (its_effects value.0 value.2) ∙ ap (λ x. OfRow (effect_row (effects_in (row_in x)))) (sym value.1) in
+      e ∙ ap (λ o. OfRow (effect_row (effects_in (row_in (value_or o u (OfRow (only_tail (Var m)))))))) (sym is)
+
+pub own_agrees : {es : List Equation} (o : OwnNodes es) → Agrees o.loader (opening_by o.loader o.values) o.values
+own_agrees o = record {
+  at = λ x n is.
+      agrees_at o.loader o.values x n is
+      (subst (λ k. HasValue k (o.values n)) (o.kinded.named x n is)
+      (own_kinds o.loader.arena.shapes o.loader.arena.classes o.kind o.rank o.says.whole.arena o.kinded.nodes o.ranked o.name o.values o.own n (o.says.whole.named x n is)));
+}
