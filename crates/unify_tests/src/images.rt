@@ -38,7 +38,13 @@ impl Images {
         }
     }
 
-    fn put(&mut self, alloc: Global, none: &Images, number: u32, image: &Image) -> Result<(), NoValue> {
+    fn put(
+        &mut self,
+        alloc: Global,
+        none: &Images,
+        number: u32,
+        image: &Image,
+    ) -> Result<(), NoValue> {
         match image {
             Image::Plain(ty) => {
                 let text = type_under(alloc, none, ty)?;
@@ -192,7 +198,11 @@ fn row_text(alloc: Global, row: &RowText) -> Result<String, NoValue> {
 
 // ---- rows of effects
 
-fn effects_under(alloc: Global, images: &Images, effects: &Effects) -> Result<EffectsText, NoValue> {
+fn effects_under(
+    alloc: Global,
+    images: &Images,
+    effects: &Effects,
+) -> Result<EffectsText, NoValue> {
     let mut found = effects_tail_under(alloc, images, effects.tail)?;
     add_effects(&mut found, effects.labels.as_slice())?;
     Ok(found)

@@ -16,50 +16,118 @@ const PLAIN: Rows = &[
     (&[], "(t1) -> t1", "(t1) -> t1"),
     (&["Int = Int"], "t1", "t1"),
     (&["t1 = Int", "t1 = Int"], "t1", "Int"),
-    (&["t1 = Int", "t1 = Int", "t1 = Bool"], "t1", "no solution 2"),
+    (
+        &["t1 = Int", "t1 = Int", "t1 = Bool"],
+        "t1",
+        "no solution 2",
+    ),
     (&["Int = Bool"], "t1", "no solution 0"),
     (&["String = [t1]"], "t1", "no solution 0"),
     // nothing is known of the class of three
     (&["t1 = t2", "t2 = t3"], "(t1,t2) -> t3", "(t1,t1) -> t1"),
     (&["t1 = t1", "t2 = t2"], "(t1) -> t2", "(t1) -> t2"),
-    (&["[t1] = [[t2]]", "t3 = t1"], "(t1,t2) -> t3", "([t1],t1) -> [t1]"),
+    (
+        &["[t1] = [[t2]]", "t3 = t1"],
+        "(t1,t2) -> t3",
+        "([t1],t1) -> [t1]",
+    ),
     (&["t1 = [t2]", "t2 = Int", "t3 = t1"], "t3", "[Int]"),
-    (&["t1 = t2", "t2 = t3", "t3 = Int", "t1 = Bool"], "t1", "no solution 3"),
+    (
+        &["t1 = t2", "t2 = t3", "t3 = Int", "t1 = Bool"],
+        "t1",
+        "no solution 3",
+    ),
     // a type, a row and effects of one number have nothing to do with each other
-    (&["t1 = Int", "(|t1) = (a:Bool)", "() {|t1}-> () = () {trap}-> ()"], "(t1,(|t1)) {|t1}-> ()", "(Int,(a:Bool)) {trap}-> ()"),
+    (
+        &[
+            "t1 = Int",
+            "(|t1) = (a:Bool)",
+            "() {|t1}-> () = () {trap}-> ()",
+        ],
+        "(t1,(|t1)) {|t1}-> ()",
+        "(Int,(a:Bool)) {trap}-> ()",
+    ),
 ];
 
 const RECORDS: Rows = &[
-    (&["(a:Int|t1) = (b:Int|t2)"], "((|t1),(|t2)) -> ()", "((b:Int|t1),(a:Int|t1)) -> ()"),
-    (&["(a:Int|t1) = (b:Int|t2)"], "(a:Int|t1)", "(a:Int,b:Int|t1)"),
+    (
+        &["(a:Int|t1) = (b:Int|t2)"],
+        "((|t1),(|t2)) -> ()",
+        "((b:Int|t1),(a:Int|t1)) -> ()",
+    ),
+    (
+        &["(a:Int|t1) = (b:Int|t2)"],
+        "(a:Int|t1)",
+        "(a:Int,b:Int|t1)",
+    ),
     (&["(a:Int|t1) = (b:Int|t1)"], "t1", "no solution 0"),
-    (&["(b:Int,a:Bool) = (a:t1,b:t2)"], "(t1) -> t2", "(Bool) -> Int"),
+    (
+        &["(b:Int,a:Bool) = (a:t1,b:t2)"],
+        "(t1) -> t2",
+        "(Bool) -> Int",
+    ),
     (&["(a:Int) = (a:Int,b:Int)"], "t1", "no solution 0"),
     (&["() = (a:Int)"], "t1", "no solution 0"),
     (&["(|t1) = ()"], "(|t1)", "()"),
     (&["(|t1) = (|t2)"], "((|t1)) -> (|t2)", "((|t1)) -> (|t1)"),
     // what is at the label is one type
-    (&["(a:t1|t1) = (a:[t2]|t2)", "t2 = Bool"], "(t1,(|t1)) -> (|t2)", "([Bool],(|t1)) -> (|t1)"),
-    (&["(a:Int|t1) = (b:t1,a:t2)"], "(t2) -> (|t1)", "(Int) -> (b:t1)"),
+    (
+        &["(a:t1|t1) = (a:[t2]|t2)", "t2 = Bool"],
+        "(t1,(|t1)) -> (|t2)",
+        "([Bool],(|t1)) -> (|t1)",
+    ),
+    (
+        &["(a:Int|t1) = (b:t1,a:t2)"],
+        "(t2) -> (|t1)",
+        "(Int) -> (b:t1)",
+    ),
     // three rows that share their fields
     (
         &["(a:Int|t1) = (b:Int|t2)", "(|t2) = (c:Bool|t3)"],
         "((|t1),(|t2)) -> (|t3)",
         "((b:Int,c:Bool|t1),(a:Int,c:Bool|t1)) -> (a:Int|t1)",
     ),
-    (&["(a:Int|t1) = (b:Int|t2)", "(|t2) = ()"], "t1", "no solution 1"),
+    (
+        &["(a:Int|t1) = (b:Int|t2)", "(|t2) = ()"],
+        "t1",
+        "no solution 1",
+    ),
     // no label twice
-    (&["(x:()|t1) = (x:()|t1)", "(|t1) = (x:Int)"], "t1", "no solution 1"),
-    (&["(x:()|t1) = (x:()|t1)", "(|t1) = (y:Int)"], "(x:()|t1)", "(x:(),y:Int)"),
+    (
+        &["(x:()|t1) = (x:()|t1)", "(|t1) = (x:Int)"],
+        "t1",
+        "no solution 1",
+    ),
+    (
+        &["(x:()|t1) = (x:()|t1)", "(|t1) = (y:Int)"],
+        "(x:()|t1)",
+        "(x:(),y:Int)",
+    ),
     (&["(a:Int,a:Int) = (a:Int,a:Int)"], "t1", "no solution 0"),
     // by t1 = (a:Int,b:Int|t4), which comes from two equations
-    (&["t1 = (a:Int|t2)", "t1 = (b:Int|t3)"], "t1", "(a:Int,b:Int|t1)"),
-    (&["t1 = (a:Int|t2)", "t1 = (b:Int|t3)", "t1 = (a:Int)"], "t1", "no solution 2"),
+    (
+        &["t1 = (a:Int|t2)", "t1 = (b:Int|t3)"],
+        "t1",
+        "(a:Int,b:Int|t1)",
+    ),
+    (
+        &["t1 = (a:Int|t2)", "t1 = (b:Int|t3)", "t1 = (a:Int)"],
+        "t1",
+        "no solution 2",
+    ),
 ];
 
 const VARIANTS: Rows = &[
-    (&["[|A:Int|t1|] = [|B:Bool|t2|]"], "([||t1|]) -> [||t2|]", "([|B:Bool|t1|]) -> [|A:Int|t1|]"),
-    (&["[|A:Int,B:t1|] = [|B:(),A:t2|]"], "(t1) -> t2", "(()) -> Int"),
+    (
+        &["[|A:Int|t1|] = [|B:Bool|t2|]"],
+        "([||t1|]) -> [||t2|]",
+        "([|B:Bool|t1|]) -> [|A:Int|t1|]",
+    ),
+    (
+        &["[|A:Int,B:t1|] = [|B:(),A:t2|]"],
+        "(t1) -> t2",
+        "(()) -> Int",
+    ),
     // a record and a variant may have one row
     (&["[||t1|] = [|A:Int|]"], "(|t1)", "(A:Int)"),
     (&["[|A:Int|] = (A:Int)"], "t1", "no solution 0"),
@@ -71,38 +139,95 @@ const INSIDE: Rows = &[
     (&["t1 = [t1]"], "t1", "no solution 0"),
     (&["t1 = [t2]", "t2 = [t1]"], "t1", "no solution 1"),
     (&["t1 = (a:t1)"], "t1", "no solution 0"),
-    (&["t1 = (a:t2)", "t2 = [|A:t3|]", "t3 = t1"], "t1", "no solution 2"),
+    (
+        &["t1 = (a:t2)", "t2 = [|A:t3|]", "t3 = t1"],
+        "t1",
+        "no solution 2",
+    ),
     (&["t1 = (t1) -> Int"], "t1", "no solution 0"),
-    (&["t1 = () -> t2", "(t2) -> t2 = (t1) -> t1"], "t1", "no solution 1"),
+    (
+        &["t1 = () -> t2", "(t2) -> t2 = (t1) -> t1"],
+        "t1",
+        "no solution 1",
+    ),
     (&["(|t1) = (a:(|t1))"], "t1", "no solution 0"),
     (&["(|t1) = (a:Int|t1)"], "t1", "no solution 0"),
     (&["(|t1) = (a:t2|t3)", "t2 = (|t1)"], "t1", "no solution 1"),
-    (&["(a:t1|t1) = (b:t2|t2)", "t1 = (|t2)"], "t1", "no solution 1"),
+    (
+        &["(a:t1|t1) = (b:t2|t2)", "t1 = (|t2)"],
+        "t1",
+        "no solution 1",
+    ),
     // a function's effects have no types in them, so here is none inside itself
     (&["t1 = () {|t1}-> ()"], "t1", "() {|t1}-> ()"),
-    (&["() {|t1}-> () = () {print|t1}-> ()"], "t1", "no solution 0"),
+    (
+        &["() {|t1}-> () = () {print|t1}-> ()"],
+        "t1",
+        "no solution 0",
+    ),
 ];
 
 const FUNCTIONS: Rows = &[
     (&["(t1) -> t1 = (Int) -> t2"], "(t1) -> t2", "(Int) -> Int"),
-    (&["(t1,t2) -> Int = (t2,Bool) -> t3"], "(t1,t2) -> t3", "(Bool,Bool) -> Int"),
+    (
+        &["(t1,t2) -> Int = (t2,Bool) -> t3"],
+        "(t1,t2) -> t3",
+        "(Bool,Bool) -> Int",
+    ),
     (&["(t1) -> t1 = () -> t1"], "t1", "no solution 0"),
     (&["(Int) -> t1 = (Bool) -> t1"], "t1", "no solution 0"),
     (&["() -> () = ()"], "t1", "no solution 0"),
-    (&["() {print|t1}-> () = () {scan|t2}-> ()"], "(() {|t1}-> ()) {|t2}-> ()", "(() {scan|t1}-> ()) {print|t1}-> ()"),
-    (&["() {print|t1}-> () = () {scan|t2}-> ()"], "() {print|t1}-> ()", "() {print,scan|t1}-> ()"),
-    (&["() {trap,print}-> () = () {print|t1}-> ()"], "() {|t1}-> ()", "() {trap}-> ()"),
+    (
+        &["() {print|t1}-> () = () {scan|t2}-> ()"],
+        "(() {|t1}-> ()) {|t2}-> ()",
+        "(() {scan|t1}-> ()) {print|t1}-> ()",
+    ),
+    (
+        &["() {print|t1}-> () = () {scan|t2}-> ()"],
+        "() {print|t1}-> ()",
+        "() {print,scan|t1}-> ()",
+    ),
+    (
+        &["() {trap,print}-> () = () {print|t1}-> ()"],
+        "() {|t1}-> ()",
+        "() {trap}-> ()",
+    ),
     (&["() {print,trap}-> () = () {trap,print}-> ()"], "t1", "t1"),
     (&["() {|t1}-> () = () -> ()"], "() {|t1}-> ()", "() -> ()"),
     (&["() {print}-> () = () {scan}-> ()"], "t1", "no solution 0"),
     (&["() {print}-> () = () -> ()"], "t1", "no solution 0"),
-    (&["() {print|t1}-> () = () {trap|t1}-> ()"], "t1", "no solution 0"),
-    (&["() {print|t1}-> () = () {|t2}-> ()", "() {|t2}-> () = () {trap}-> ()"], "t1", "no solution 1"),
-    (&["() {print|t1}-> () = () {print|t1}-> ()", "() {|t1}-> () = () {print}-> ()"], "t1", "no solution 1"),
-    (&["() {print,print|t1}-> () = () {print,print|t1}-> ()"], "t1", "no solution 0"),
+    (
+        &["() {print|t1}-> () = () {trap|t1}-> ()"],
+        "t1",
+        "no solution 0",
+    ),
+    (
+        &[
+            "() {print|t1}-> () = () {|t2}-> ()",
+            "() {|t2}-> () = () {trap}-> ()",
+        ],
+        "t1",
+        "no solution 1",
+    ),
+    (
+        &[
+            "() {print|t1}-> () = () {print|t1}-> ()",
+            "() {|t1}-> () = () {print}-> ()",
+        ],
+        "t1",
+        "no solution 1",
+    ),
+    (
+        &["() {print,print|t1}-> () = () {print,print|t1}-> ()"],
+        "t1",
+        "no solution 0",
+    ),
     // parameters, effects and result at once
     (
-        &["((a:Int|t1)) {print|t1}-> t1 = (t2) {|t2}-> [t3]", "(|t1) = (b:t3)"],
+        &[
+            "((a:Int|t1)) {print|t1}-> t1 = (t2) {|t2}-> [t3]",
+            "(|t1) = (b:t3)",
+        ],
         "(t1,t2) {|t2}-> ()",
         "([t1],(a:Int,b:t1)) {print|t2}-> ()",
     ),
@@ -135,7 +260,11 @@ pub fn images_of(alloc: Global, subst: &Subst) -> Result<Images, Fail> {
 }
 
 /// What a type becomes under a solution, or why there is none.
-pub fn answer(alloc: Global, solution: &Result<Subst, UnifyError>, ty: &Ty) -> Result<String, Fail> {
+pub fn answer(
+    alloc: Global,
+    solution: &Result<Subst, UnifyError>,
+    ty: &Ty,
+) -> Result<String, Fail> {
     match solution {
         Ok(subst) => {
             let images = images_of(alloc, subst)?;

@@ -96,12 +96,27 @@ fn a_deep_type_is_read_back(rt: HostRuntime) -> Result<(), Fail> {
 #[test]
 fn records_have_as_many_fields_as_types_may(rt: HostRuntime) -> Result<(), Fail> {
     let alloc = rt.alloc();
-    check_one(&rt, alloc, wide(alloc, 2046, Ty::Int, RowTail::Var(9))?, FINE)?;
+    check_one(
+        &rt,
+        alloc,
+        wide(alloc, 2046, Ty::Int, RowTail::Var(9))?,
+        FINE,
+    )?;
     let list = nested(alloc, 1, Ty::Int)?;
     check_one(&rt, alloc, wide(alloc, 2046, list, RowTail::Closed)?, FINE)?;
     let list = nested(alloc, 1, Ty::Int)?;
-    check_one(&rt, alloc, wide(alloc, 2046, list, RowTail::Var(9))?, "too large 0")?;
-    check_one(&rt, alloc, wide(alloc, 2047, Ty::Int, RowTail::Closed)?, "too large 0")
+    check_one(
+        &rt,
+        alloc,
+        wide(alloc, 2046, list, RowTail::Var(9))?,
+        "too large 0",
+    )?;
+    check_one(
+        &rt,
+        alloc,
+        wide(alloc, 2047, Ty::Int, RowTail::Closed)?,
+        "too large 0",
+    )
 }
 
 // The function counts 1, and so do each parameter, each effect, an open tail and the result.
@@ -109,11 +124,26 @@ fn records_have_as_many_fields_as_types_may(rt: HostRuntime) -> Result<(), Fail>
 fn functions_have_as_many_parameters_as_types_may(rt: HostRuntime) -> Result<(), Fail> {
     let alloc = rt.alloc();
     let closed = RowTail::Closed;
-    check_one(&rt, alloc, taking(alloc, 4094, List::new(alloc), closed)?, FINE)?;
+    check_one(
+        &rt,
+        alloc,
+        taking(alloc, 4094, List::new(alloc), closed)?,
+        FINE,
+    )?;
     let print = List::from_vec(vec![in alloc; Effect::Print]?);
-    check_one(&rt, alloc, taking(alloc, 4094, print, closed)?, "too large 0")?;
+    check_one(
+        &rt,
+        alloc,
+        taking(alloc, 4094, print, closed)?,
+        "too large 0",
+    )?;
     let open = RowTail::Var(1);
-    check_one(&rt, alloc, taking(alloc, 4094, List::new(alloc), open)?, "too large 0")?;
+    check_one(
+        &rt,
+        alloc,
+        taking(alloc, 4094, List::new(alloc), open)?,
+        "too large 0",
+    )?;
     let print = List::from_vec(vec![in alloc; Effect::Print]?);
     check_one(&rt, alloc, taking(alloc, 4092, print, open)?, FINE)?;
     let print = List::from_vec(vec![in alloc; Effect::Print]?);
@@ -125,11 +155,17 @@ fn functions_have_as_many_parameters_as_types_may(rt: HostRuntime) -> Result<(),
 fn a_closed_tail_makes_a_type_smaller(rt: HostRuntime) -> Result<(), Fail> {
     let alloc = rt.alloc();
     let mut late = Vec::new(alloc);
-    late.push(is(1, wide(alloc, 2046, nested(alloc, 1, Ty::Int)?, RowTail::Var(9))?))?;
+    late.push(is(
+        1,
+        wide(alloc, 2046, nested(alloc, 1, Ty::Int)?, RowTail::Var(9))?,
+    ))?;
     late.append(&mut read_equations(alloc, &["(|t9) = ()"])?)?;
     check(&rt, alloc, late.as_slice(), "too large 0")?;
     let mut early = read_equations(alloc, &["(|t9) = ()"])?;
-    early.push(is(1, wide(alloc, 2046, nested(alloc, 1, Ty::Int)?, RowTail::Var(9))?))?;
+    early.push(is(
+        1,
+        wide(alloc, 2046, nested(alloc, 1, Ty::Int)?, RowTail::Var(9))?,
+    ))?;
     check(&rt, alloc, early.as_slice(), FINE)
 }
 
@@ -188,7 +224,12 @@ fn types_that_double_are_refused(rt: HostRuntime) -> Result<(), Fail> {
     check(&rt, alloc, doubled(alloc, 11)?.as_slice(), "too large 10")?;
     check(&rt, alloc, doubled(alloc, 40)?.as_slice(), "too large 10")?;
     check(&rt, alloc, doubled_from_above(alloc, 10)?.as_slice(), FINE)?;
-    check(&rt, alloc, doubled_from_above(alloc, 40)?.as_slice(), "too large 10")
+    check(
+        &rt,
+        alloc,
+        doubled_from_above(alloc, 40)?.as_slice(),
+        "too large 10",
+    )
 }
 
 // The lower of the numbers counts, and one equation without a solution isn't too large.

@@ -1,7 +1,9 @@
 //! The solutions that `unify` finds for the small systems of `agreement`, read back: both sides become the same, all variables are
 //! bound, and what is put for them has other variables. And where an allocation fails, it says just that.
 
-use crate::agreement::{EFFECTS, Family, LISTS, MIXED, Numbers, RECORDS, VARIANTS, equations_of, system};
+use crate::agreement::{
+    EFFECTS, Family, LISTS, MIXED, Numbers, RECORDS, VARIANTS, equations_of, system,
+};
 use crate::images::Images;
 use crate::small_groundings::{
     Grounding, equation_variables, find_in_effects, find_in_row, find_in_type, is_met,
@@ -30,7 +32,11 @@ fn bound_variable(binding: &Binding) -> Variable {
 }
 
 fn is_bound(subst: &Subst, variable: Variable) -> bool {
-    subst.binds.as_slice().iter().any(|binding| bound_variable(binding) == variable)
+    subst
+        .binds
+        .as_slice()
+        .iter()
+        .any(|binding| bound_variable(binding) == variable)
 }
 
 /// Adds the variables of what is put for one.
@@ -52,24 +58,41 @@ fn image_variables(alloc: Global, subst: &Subst) -> Result<Vec<Variable>, NoMemo
 }
 
 fn has_number(variables: &[Variable], number: u32) -> bool {
-    variables.iter().any(|variable| number_of(*variable) == number)
+    variables
+        .iter()
+        .any(|variable| number_of(*variable) == number)
 }
 
 /// Asserts that all variables of the equations are bound, and that those of the images have other numbers.
-fn check_variables(rt: &impl Abort, alloc: Global, text: &str, equations: &[Equation], subst: &Subst) -> Result<(), Fail> {
+fn check_variables(
+    rt: &impl Abort,
+    alloc: Global,
+    text: &str,
+    equations: &[Equation],
+    subst: &Subst,
+) -> Result<(), Fail> {
     let variables = equation_variables(alloc, equations)?;
     for variable in &variables {
         assert!(rt; is_bound(subst, *variable), "{text}: {variable:?}");
     }
     for variable in &image_variables(alloc, subst)? {
         let number = number_of(*variable);
-        assert!(rt; !has_number(variables.as_slice(), number), "{text}: {variable:?}");
+        assert!(rt;
+            !has_number(variables.as_slice(), number),
+            "{text}: {variable:?}"
+        );
     }
     Ok(())
 }
 
 /// Asserts that both sides of each equation become the same.
-fn check_sides(rt: &impl Abort, alloc: Global, text: &str, equations: &[Equation], images: &Images) -> Result<(), Fail> {
+fn check_sides(
+    rt: &impl Abort,
+    alloc: Global,
+    text: &str,
+    equations: &[Equation],
+    images: &Images,
+) -> Result<(), Fail> {
     for equation in equations {
         let left = text_under(alloc, images, &equation.left)?;
         let right = text_under(alloc, images, &equation.right)?;
@@ -96,7 +119,13 @@ fn check_system(rt: &impl Abort, alloc: Global, text: &str) -> Result<(), Fail> 
     }
 }
 
-fn check_family(rt: &impl Abort, alloc: Global, family: &Family, seed: u64, count: u32) -> Result<(), Fail> {
+fn check_family(
+    rt: &impl Abort,
+    alloc: Global,
+    family: &Family,
+    seed: u64,
+    count: u32,
+) -> Result<(), Fail> {
     let mut numbers = Numbers::from(seed);
     for _ in 0..count {
         let text = system(alloc, &mut numbers, family.sides)?;
