@@ -42,14 +42,8 @@ mod programs_tables;
 #[cfg(test)]
 mod shown_trees;
 #[cfg(test)]
-mod small_groundings;
-#[cfg(test)]
-mod solutions;
-#[cfg(test)]
 mod source;
 #[cfg(test)]
 mod trees;
-#[cfg(test)]
-mod type_reader;
 #[cfg(test)]
 mod words;

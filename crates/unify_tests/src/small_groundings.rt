@@ -275,7 +275,7 @@ fn add_effects(words: &mut BTreeSet<&'static str>, effects: &[Effect]) -> Result
     Ok(())
 }
 
-fn effect_word(effect: Effect) -> &'static str {
+pub fn effect_word(effect: Effect) -> &'static str {
     match effect {
         Effect::Local => "local",
         Effect::Move => "move",
@@ -296,7 +296,7 @@ fn effects_text(alloc: Global, words: &BTreeSet<&'static str>) -> Result<String,
 }
 
 /// Adds a part, behind a comma where it isn't the first.
-fn add_part(text: &mut String, part: &str) -> Result<(), NoValue> {
+pub fn add_part(text: &mut String, part: &str) -> Result<(), NoValue> {
     if !text.is_empty() {
         text.push_str(",")?;
     }
@@ -307,7 +307,7 @@ fn add_part(text: &mut String, part: &str) -> Result<(), NoValue> {
 // ---- the variables of equations, each once
 
 #[cycle(find)]
-fn find_in_type(found: &mut Vec<Variable>, ty: &Ty) -> Result<(), NoMemory> {
+pub fn find_in_type(found: &mut Vec<Variable>, ty: &Ty) -> Result<(), NoMemory> {
     match ty {
         Ty::Int | Ty::Bool | Ty::Text => Ok(()),
         Ty::List(item) => find_in_type(found, item.get()),
@@ -330,7 +330,7 @@ fn find_in_types(found: &mut Vec<Variable>, types: &[Ty]) -> Result<(), NoMemory
 }
 
 #[cycle(find)]
-fn find_in_row(found: &mut Vec<Variable>, row: &TyRow) -> Result<(), NoMemory> {
+pub fn find_in_row(found: &mut Vec<Variable>, row: &TyRow) -> Result<(), NoMemory> {
     for field in row.fields.as_slice() {
         find_in_type(found, &field.ty)?;
     }
@@ -340,7 +340,7 @@ fn find_in_row(found: &mut Vec<Variable>, row: &TyRow) -> Result<(), NoMemory> {
     }
 }
 
-fn find_in_effects(found: &mut Vec<Variable>, effects: &Effects) -> Result<(), NoMemory> {
+pub fn find_in_effects(found: &mut Vec<Variable>, effects: &Effects) -> Result<(), NoMemory> {
     match effects.tail {
         RowTail::Closed => Ok(()),
         RowTail::Var(number) => find(found, Variable::Effects(number)),
@@ -378,7 +378,7 @@ fn sides_agree(alloc: Global, grounding: Grounding, equation: &Equation) -> Resu
 }
 
 /// Whether a grounding meets an equation.
-fn is_met(alloc: Global, grounding: Grounding, equation: &Equation) -> Result<bool, NoMemory> {
+pub fn is_met(alloc: Global, grounding: Grounding, equation: &Equation) -> Result<bool, NoMemory> {
     match sides_agree(alloc, grounding, equation) {
         Ok(agree) => Ok(agree),
         Err(NoValue::Twice) => Ok(false),

@@ -1,5 +1,5 @@
 use Rattle.std.proofs.Common.{◌+◌, ◌*◌}
-use Rattle.links_tests.proofs.type_reader.Reader.+types.Given as goal
+use Rattle.unify_tests.proofs.type_reader.Reader.+types.Given as goal
 
 -- what stands in brackets has less depth; at one depth parentheses stand above their parts, and these above a type
 abbrev pub decreases-ty : goal.decreases-ty
