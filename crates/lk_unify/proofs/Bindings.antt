@@ -22,9 +22,9 @@ use Rattle.lk_types.specs.declared.ty.Variable.{Variable}
 use Rattle.lk_types.specs.declared.ty.Variable.TheVariants as variable
 use Rattle.lk_unify.proofs.Instances.{PutsAt}
 use Rattle.lk_unify.specs.Loading.{node_for}
-use Rattle.lk_unify.specs.Openings.{only_tail, only_effects_tail, row_type, effects_type}
+use Rattle.lk_arena.specs.Openings.{only_tail, only_effects_tail, row_type, effects_type}
 use Rattle.lk_unify.specs.Reading.{type_in, row_in, effects_in, value_or, opening_by, image_of, number_of, binding_by, subst_by}
-use Rattle.lk_unify.specs.Values.{Value, Plain, OfRow}
+use Rattle.lk_arena.specs.Values.{Value, Plain, OfRow}
 use Rattle.lk_unify.specs.declared.loader.Loader.{Loader}
 
 bool_cases : (b : Bool) → (b ≡ true) ⊎ (b ≡ false)

@@ -7,9 +7,9 @@ use Rattle.lk_types.specs.declared.equation.Equation.{Equation}
 use Rattle.lk_types.specs.declared.ground.Ground.TheVariants as known
 use Rattle.lk_unify.proofs.Grounded.{open_solves}
 use Rattle.lk_unify.proofs.Solved.{has_solution}
-use Rattle.lk_unify.specs.Openings.{as_opening}
-use Rattle.lk_unify.specs.Order.{IsRanked}
-use Rattle.lk_unify.specs.Shapes.{IsClean, NeverFits}
+use Rattle.lk_arena.specs.Openings.{as_opening}
+use Rattle.lk_arena.specs.Order.{IsRanked}
+use Rattle.lk_arena.specs.Shapes.{IsClean, NeverFits}
 use Rattle.lk_unify.specs.Solving.{Says, AreLoaded, IsFirstWithout}
 use Rattle.lk_unify.specs.declared.loader.Loader.{Loader}
 

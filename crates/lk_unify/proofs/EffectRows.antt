@@ -13,12 +13,12 @@ use Rattle.lk_types.specs.declared.ty.Effect.{Effect}
 use Rattle.lk_types.specs.declared.ty.Effect.TheVariants.{Local, Move, Print, Rec, Scan, Trap, Write}
 use Rattle.lk_types.specs.declared.ty.RowTail.{RowTail}
 use Rattle.lk_types.specs.declared.ty.Ty.{Ty}
-use Rattle.lk_unify.proofs.RowAlgebra.{RowFields, one_more, bool_cases, same_rows, label_cases}
-use Rattle.lk_unify.proofs.Sizes.{ties, no_ties}
-use Rattle.lk_unify.specs.Kinds.{IsEffectName}
-use Rattle.lk_unify.specs.Openings.{OpenRow, only_tail, unit_type}
+use Rattle.lk_arena.proofs.RowAlgebra.{RowFields, one_more, bool_cases, same_rows, label_cases}
+use Rattle.lk_arena.proofs.Sizes.{ties, no_ties}
+use Rattle.lk_arena.specs.Kinds.{IsEffectName}
+use Rattle.lk_arena.specs.Openings.{OpenRow, only_tail, unit_type}
 use Rattle.lk_unify.specs.Reading.{effects_in}
-use Rattle.lk_unify.specs.Values.{effect_row}
+use Rattle.lk_arena.specs.Values.{effect_row}
 
 tie_cases : (a b : Label) → ((eq_by_cmp label_order a b ≡ true) × (a ≡ b)) ⊎ ((eq_by_cmp label_order a b ≡ false) × (a ≡ b → ⊥))
 tie_cases a b =

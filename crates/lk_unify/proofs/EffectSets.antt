@@ -12,10 +12,10 @@ use Rattle.lk_types.specs.declared.ty.Effect.{Effect}
 use Rattle.lk_types.specs.declared.ty.Effect.TheVariants.{Local, Move, Print, Rec, Scan, Trap, Write}
 use Rattle.lk_types.specs.declared.ty.RowTail.{RowTail}
 use Rattle.lk_unify.proofs.EffectRows.{IsEffectRow, IsEffectRow-empty, IsEffectRow-insert, set_in}
-use Rattle.lk_unify.proofs.RowAlgebra.{RowFields}
-use Rattle.lk_unify.proofs.Sizes.{ties, no_ties}
-use Rattle.lk_unify.specs.Openings.{OpenRow, OpenEffects, unit_type}
-use Rattle.lk_unify.specs.Values.{effect_row}
+use Rattle.lk_arena.proofs.RowAlgebra.{RowFields}
+use Rattle.lk_arena.proofs.Sizes.{ties, no_ties}
+use Rattle.lk_arena.specs.Openings.{OpenRow, OpenEffects, unit_type}
+use Rattle.lk_arena.specs.Values.{effect_row}
 
 -- ---- effects by the first bytes of their words
 

@@ -16,26 +16,26 @@ use Rattle.lk_types.specs.declared.ty.Ty.TheVariants as ty
 use Rattle.lk_types.specs.declared.ty.Variable.{Variable}
 use Rattle.lk_types.specs.declared.ty.Variable.TheVariants as variable
 use Rattle.lk_unify.proofs.Bindings.{puts_at}
-use Rattle.lk_unify.proofs.EachLemmas.{Each-zip, OneOf-with}
+use Rattle.lk_arena.proofs.EachLemmas.{Each-zip, OneOf-with}
 use Rattle.lk_unify.proofs.Instances.{PutsAt}
 use Rattle.lk_unify.proofs.Loadeds.{each_first}
 use Rattle.lk_unify.proofs.OpenCounts.{count_nodes, row_count_nodes, count_below}
 use Rattle.lk_unify.proofs.OpenSizes.{opening_size, opened_nodes}
 use Rattle.lk_unify.proofs.OpenUnfold.{count_rolled}
-use Rattle.lk_unify.proofs.Sizes.{no_entries}
+use Rattle.lk_arena.proofs.Sizes.{no_entries}
 use Rattle.lk_unify.proofs.SolvedForm.{own_solves, solution_of}
 use Rattle.lk_unify.proofs.ValueCounts.{own_least}
 use Rattle.lk_unify.proofs.Within.{own_agrees, own_of_nodes}
-use Rattle.lk_unify.specs.Counting.{sum_of}
-use Rattle.lk_unify.specs.Kinds.{Kind, OfTypes}
+use Rattle.lk_arena.specs.Counting.{sum_of}
+use Rattle.lk_arena.specs.Kinds.{Kind, OfTypes}
 use Rattle.lk_unify.specs.Loading.{Agrees}
 use Rattle.lk_unify.specs.Nodes.{count, value_count}
-use Rattle.lk_unify.specs.Openings.{Opening, OpenSolves, IsOpenMet, opened, only_tail, row_type, effects_type, field_type}
+use Rattle.lk_arena.specs.Openings.{Opening, OpenSolves, IsOpenMet, opened, only_tail, row_type, effects_type, field_type}
 use Rattle.lk_unify.specs.Reading.{opening_by, subst_by}
-use Rattle.lk_unify.specs.Shapes.{FitsNodes, WeakNodes}
+use Rattle.lk_arena.specs.Shapes.{FitsNodes, WeakNodes}
 use Rattle.lk_unify.specs.Small.{OwnNodes, IsSideOf, AreWithin, HasBeyond}
 use Rattle.lk_unify.specs.Solving.{HasNodes, AreSides, IsSide}
-use Rattle.lk_unify.specs.Values.{Value, Plain}
+use Rattle.lk_arena.specs.Values.{Value, Plain}
 
 some_once : {A : Type 0} (a b : A) → Some a ≡ Some b → a ≡ b
 some_once a b e = cc

@@ -18,19 +18,19 @@ use Rattle.lk_unify.proofs.OpenReads.{Reads}
 use Rattle.lk_unify.proofs.OpenReadsAll.{reads_all}
 use Rattle.lk_unify.proofs.OpenRows.{only_tail-under}
 use Rattle.lk_unify.proofs.OpenEffects.{effects_in_row}
-use Rattle.lk_unify.specs.Kinds.{Kind, OfTypes, OfFields, OfEffects, OfUnit, OfNothing, HasKind}
+use Rattle.lk_arena.specs.Kinds.{Kind, OfTypes, OfFields, OfEffects, OfUnit, OfNothing, HasKind}
 use Rattle.lk_unify.specs.Loading.{node_for, kind_of, value_of, Agrees, IsKinded}
 use Rattle.lk_unify.specs.Models.{IsOwn}
-use Rattle.lk_unify.specs.Openings.{OpensTo, as_opening, only_tail, only_effects_tail, row_type, effects_type}
-use Rattle.lk_unify.specs.Order.{IsRanked}
+use Rattle.lk_arena.specs.Openings.{OpensTo, as_opening, only_tail, only_effects_tail, row_type, effects_type}
+use Rattle.lk_arena.specs.Order.{IsRanked}
 use Rattle.lk_unify.specs.Reading.{type_in, row_in, effects_in, value_or, opening_by, IsNaming}
-use Rattle.lk_unify.specs.Shapes.{shape_at, is_loose_shape, FitsNodes, WeakNodes}
+use Rattle.lk_arena.specs.Shapes.{shape_at, is_loose_shape, FitsNodes, WeakNodes}
 use Rattle.lk_unify.specs.Solving.{Says}
-use Rattle.lk_unify.specs.Values.{Value, Plain, OfRow}
+use Rattle.lk_arena.specs.Values.{Value, Plain, OfRow}
 use Rattle.lk_unify.specs.declared.loader.Loader.{Loader}
-use Rattle.lk_unify.specs.declared.node.Shape.{Shape}
-use Rattle.lk_unify.specs.declared.node.Shape.TheVariants.{Free, Open, Empty, Made}
-use Rattle.lk_unify.specs.declared.node.Shape.TheVariants as shape
+use Rattle.lk_arena.specs.declared.node.Shape.{Shape}
+use Rattle.lk_arena.specs.declared.node.Shape.TheVariants.{Free, Open, Empty, Made}
+use Rattle.lk_arena.specs.declared.node.Shape.TheVariants as shape
 
 -- ---- at a class of which nothing is known
 

@@ -8,26 +8,26 @@ use Rattle.lk_types.specs.declared.ground.Ground.TheVariants as ground
 use Rattle.lk_types.specs.declared.ty.RowTail.TheVariants.{Closed}
 use Rattle.lk_types.specs.declared.ty.Ty.{Ty}
 use Rattle.lk_types.specs.declared.ty.Ty.TheVariants as ty
-use Rattle.lk_unify.proofs.EachLemmas.{Each-zip, Each-from_map}
+use Rattle.lk_arena.proofs.EachLemmas.{Each-zip, Each-from_map}
 use Rattle.lk_unify.proofs.EffectRows.{IsEffectRow, its_effects}
 use Rattle.lk_unify.proofs.EffectSets.{same_set}
 use Rattle.lk_unify.proofs.OpenGround.{as_row-insert, as_row-empty, as_type-fields, as_type-tags, as_type-function}
 use Rattle.lk_unify.proofs.OpenUnfold.{as_int, as_bool, as_text, as_list}
-use Rattle.lk_unify.proofs.RowAlgebra.{one_more, row_same, same_rows}
+use Rattle.lk_arena.proofs.RowAlgebra.{one_more, row_same, same_rows}
 use Rattle.lk_unify.proofs.Shaping.{HasValue}
-use Rattle.lk_unify.proofs.Sizes.{plain_or, row_with, get-row_with}
-use Rattle.lk_unify.specs.Kinds.{Kind, OfTypes, OfFields, OfEffects, OfUnit, OfNothing, TakesKinds, HasKind}
+use Rattle.lk_arena.proofs.Sizes.{plain_or, row_with, get-row_with}
+use Rattle.lk_arena.specs.Kinds.{Kind, OfTypes, OfFields, OfEffects, OfUnit, OfNothing, TakesKinds, HasKind}
 use Rattle.lk_unify.specs.Models.{IsGroundOf}
-use Rattle.lk_unify.specs.Openings.{OpenRow, only_tail, effects_type, as_type, as_row, as_effects}
+use Rattle.lk_arena.specs.Openings.{OpenRow, only_tail, effects_type, as_type, as_row, as_effects}
 use Rattle.lk_unify.specs.Reading.{effects_in}
-use Rattle.lk_unify.specs.Shapes.{parts_of, IsRowOf, IsBuilt, is_loose_shape}
-use Rattle.lk_unify.specs.Values.{Value, Plain, OfRow, IsMadeOf, effect_row}
-use Rattle.lk_unify.specs.declared.node.Field.{Field}
-use Rattle.lk_unify.specs.declared.node.Head.{Head}
-use Rattle.lk_unify.specs.declared.node.Head.TheVariants as head
-use Rattle.lk_unify.specs.declared.node.Shape.{Shape}
-use Rattle.lk_unify.specs.declared.node.Shape.TheVariants.{Free, Open, Empty, Made}
-use Rattle.lk_unify.specs.declared.node.Shape.TheVariants as shape
+use Rattle.lk_arena.specs.Shapes.{parts_of, IsRowOf, IsBuilt, is_loose_shape}
+use Rattle.lk_arena.specs.Values.{Value, Plain, OfRow, IsMadeOf, effect_row}
+use Rattle.lk_arena.specs.declared.node.Field.{Field}
+use Rattle.lk_arena.specs.declared.node.Head.{Head}
+use Rattle.lk_arena.specs.declared.node.Head.TheVariants as head
+use Rattle.lk_arena.specs.declared.node.Shape.{Shape}
+use Rattle.lk_arena.specs.declared.node.Shape.TheVariants.{Free, Open, Empty, Made}
+use Rattle.lk_arena.specs.declared.node.Shape.TheVariants as shape
 
 -- each type taken as Int and each row as the one without fields
 abbrev pub least : Shape → Value

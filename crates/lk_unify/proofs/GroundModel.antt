@@ -7,24 +7,24 @@ use Rattle.lk_types.specs.Each.{Each}
 use Rattle.lk_types.specs.Rows.{label_order}
 use Rattle.lk_types.specs.declared.ty.RowTail.TheVariants.{Closed}
 use Rattle.lk_types.specs.declared.ty.Ty.TheVariants as ty
-use Rattle.lk_unify.proofs.EachLemmas.{Each-map, Each-zip}
+use Rattle.lk_arena.proofs.EachLemmas.{Each-map, Each-zip}
 use Rattle.lk_unify.proofs.EffectRows.{IsEffectRow-empty}
 use Rattle.lk_unify.proofs.GroundMade.{least, built_ground}
 use Rattle.lk_unify.proofs.Models as models
-use Rattle.lk_unify.proofs.RowAlgebra.{row_same}
+use Rattle.lk_arena.proofs.RowAlgebra.{row_same}
 use Rattle.lk_unify.proofs.Shaping.{of_shape, HasValue}
-use Rattle.lk_unify.proofs.Weak.{distinct_apart}
-use Rattle.lk_unify.specs.Kinds.{Kind, OfTypes, OfFields, OfEffects, OfUnit, OfNothing, AreKinded, HasKind}
+use Rattle.lk_arena.proofs.Weak.{distinct_apart}
+use Rattle.lk_arena.specs.Kinds.{Kind, OfTypes, OfFields, OfEffects, OfUnit, OfNothing, AreKinded, HasKind}
 use Rattle.lk_unify.specs.Models.{IsGroundOf, GroundModelExists}
-use Rattle.lk_unify.specs.Openings.{only_tail}
-use Rattle.lk_unify.specs.Order.{IsRanked}
+use Rattle.lk_arena.specs.Openings.{only_tail}
+use Rattle.lk_arena.specs.Order.{IsRanked}
 use Rattle.lk_unify.specs.Reading.{row_in}
-use Rattle.lk_unify.specs.Shapes.{shape_at, parts_of, found_at, value_at, IsDistinct, IsArena, IsClean, IsFlatBut, GoesDown, BuildsBelow, Respects, WeakNodes, is_fields, is_row_shape, is_loose_shape}
-use Rattle.lk_unify.specs.Values.{Value, OfRow}
-use Rattle.lk_unify.specs.declared.node.Field.{Field}
-use Rattle.lk_unify.specs.declared.node.Shape.{Shape}
-use Rattle.lk_unify.specs.declared.node.Shape.TheVariants.{Free, Open, Empty, Made}
-use Rattle.lk_unify.specs.declared.node.Shape.TheVariants as shape
+use Rattle.lk_arena.specs.Shapes.{shape_at, parts_of, found_at, value_at, IsDistinct, IsArena, IsClean, IsFlatBut, GoesDown, BuildsBelow, Respects, WeakNodes, is_fields, is_row_shape, is_loose_shape}
+use Rattle.lk_arena.specs.Values.{Value, OfRow}
+use Rattle.lk_arena.specs.declared.node.Field.{Field}
+use Rattle.lk_arena.specs.declared.node.Shape.{Shape}
+use Rattle.lk_arena.specs.declared.node.Shape.TheVariants.{Free, Open, Empty, Made}
+use Rattle.lk_arena.specs.declared.node.Shape.TheVariants as shape
 
 -- ---- what is chosen
 

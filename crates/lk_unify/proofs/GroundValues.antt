@@ -4,9 +4,9 @@ use Rattle.lk_types.specs.Rows.{Row, EffectSet}
 use Rattle.lk_types.specs.declared.ground.Ground.{Ground}
 use Rattle.lk_unify.proofs.OpenEffects.{effects_in_row}
 use Rattle.lk_unify.proofs.OpenGround.{ground_of, back, ground_row, back_row}
-use Rattle.lk_unify.specs.Openings.{as_type, as_row, as_effects}
+use Rattle.lk_arena.specs.Openings.{as_type, as_row, as_effects}
 use Rattle.lk_unify.specs.Reading.{type_in, row_in, effects_in}
-use Rattle.lk_unify.specs.Values.{Value, Plain, OfRow, effect_row}
+use Rattle.lk_arena.specs.Values.{Value, Plain, OfRow, effect_row}
 
 abbrev pub ground_in : Value → Ground
 ground_in x = ground_of (type_in x)

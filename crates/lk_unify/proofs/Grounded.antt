@@ -8,7 +8,7 @@ use Rattle.lk_types.specs.declared.ground.Ground.{Ground}
 use Rattle.lk_types.specs.declared.ty.Ty.{Ty}
 use Rattle.lk_unify.proofs.OpenAsGround.{type_as}
 use Rattle.lk_unify.proofs.OpenGround.{as_type-once}
-use Rattle.lk_unify.specs.Openings.{IsOpenMet, OpenSolves, as_type, as_opening, opened}
+use Rattle.lk_arena.specs.Openings.{IsOpenMet, OpenSolves, as_type, as_opening, opened}
 
 some_is : {A : Type 0} {a b : A} → Some a ≡ Some b → a ≡ b
 some_is e = cc

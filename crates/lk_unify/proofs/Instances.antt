@@ -14,10 +14,10 @@ use Rattle.lk_types.specs.declared.ty.Ty.{Ty}
 use Rattle.lk_types.specs.declared.ty.Ty.TheVariants as ty
 use Rattle.lk_types.specs.declared.ty.Variable.{Variable}
 use Rattle.lk_types.specs.declared.ty.Variable.TheVariants as variable
-use Rattle.lk_unify.proofs.EachLemmas.{Each-append_left, Each-append_right}
+use Rattle.lk_arena.proofs.EachLemmas.{Each-append_left, Each-append_right}
 use Rattle.lk_unify.proofs.OpenComposed.{type_composed}
 use Rattle.lk_unify.proofs.OpenRows.{only_tail-under}
-use Rattle.lk_unify.specs.Openings.{Opening, OpensTo, OpenSolves, IsOpenMet, only_tail, only_effects_tail, row_type, effects_type, opened}
+use Rattle.lk_arena.specs.Openings.{Opening, OpensTo, OpenSolves, IsOpenMet, only_tail, only_effects_tail, row_type, effects_type, opened}
 
 -- the image is what the opening puts, or there is none where the opening puts the variable itself
 abbrev pub Puts : {A : Type 0} → Option A → A → Type 0 → Type 0

@@ -14,10 +14,10 @@ use Rattle.lk_types.specs.declared.ty.RowTail.{RowTail}
 use Rattle.lk_unify.proofs.EffectRows.{IsEffectRow-insert, set_in, its_effects}
 use Rattle.lk_unify.specs.Reading.{effects_in}
 use Rattle.lk_unify.proofs.EffectSets.{IsEffectRow-effect_row, set_in-effect_row}
-use Rattle.lk_unify.proofs.RowAlgebra.{one_more, label_cases}
+use Rattle.lk_arena.proofs.RowAlgebra.{one_more, label_cases}
 use Rattle.lk_unify.proofs.RowsBefore.{hit, miss}
-use Rattle.lk_unify.specs.Openings.{OpenEffects, Opened, unit_type, with_opened, before_open, before_open_effects}
-use Rattle.lk_unify.specs.Values.{effect_row}
+use Rattle.lk_arena.specs.Openings.{OpenEffects, Opened, unit_type, with_opened, before_open, before_open_effects}
+use Rattle.lk_arena.specs.Values.{effect_row}
 
 -- ---- the names of effects
 

@@ -5,10 +5,10 @@ use Rattle.lk_types.specs.declared.equation.Equation.{Equation}
 use Rattle.lk_types.specs.declared.ty.Ty.{Ty}
 use Rattle.lk_unify.proofs.LoadKinds.{kinds_both}
 use Rattle.lk_unify.proofs.LoadSteps.{mapped, both, both_some, loads_both}
-use Rattle.lk_unify.specs.Kinds.{OfTypes}
+use Rattle.lk_arena.specs.Kinds.{OfTypes}
 use Rattle.lk_unify.specs.Loading.{LoadsTo, Loads, LoadsEquation, NeverMeans, type_meaning}
-use Rattle.lk_unify.specs.Openings.{Opening, IsOpenMet, opened}
-use Rattle.lk_unify.specs.Values.{Value, Plain}
+use Rattle.lk_arena.specs.Openings.{Opening, IsOpenMet, opened}
+use Rattle.lk_arena.specs.Values.{Value, Plain}
 use Rattle.lk_unify.specs.declared.loader.Loader.{Loader}
 
 plain_once : (s t : Ty) → Plain s ≡ Plain t → s ≡ t

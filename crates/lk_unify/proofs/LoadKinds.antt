@@ -3,21 +3,21 @@ use Rattle.std.proofs.Common.{◌≡◌, ◌≢◌, ℕ, ◌<◌, ◌≤◌, ⊎
 use Rattle.std.proofs.lemmas.Bool.{cases_eq, eq-eqb, ne_eqb}
 use Rattle.std.specs.Prelude.{◌==◌}
 use Rattle.lk_types.specs.Each.{Each}
-use Rattle.lk_unify.specs.Openings.{Opening}
-use Rattle.lk_unify.proofs.EachLemmas.{Each-map, Each-zip, Each-from_map}
-use Rattle.lk_unify.proofs.Growth.{old_shape, new_shape, old_class, new_class}
+use Rattle.lk_arena.specs.Openings.{Opening}
+use Rattle.lk_arena.proofs.EachLemmas.{Each-map, Each-zip, Each-from_map}
+use Rattle.lk_arena.proofs.Growth.{old_shape, new_shape, old_class, new_class}
 use Rattle.lk_unify.proofs.LoadSteps.{same_names, one_longer, added_below, more_to}
-use Rattle.lk_unify.specs.Kinds.{Kind, OfTypes, OfFields, OfEffects, OfUnit, OfNothing, TakesKinds, HasKind, IsEffectName, AreKinded}
+use Rattle.lk_arena.specs.Kinds.{Kind, OfTypes, OfFields, OfEffects, OfUnit, OfNothing, TakesKinds, HasKind, IsEffectName, AreKinded}
 use Rattle.lk_unify.specs.Loading.{IsLoader, KindsTo, LoadsTo, Loads, Adds}
 use Rattle.lk_classes.specs.Classes.{class_at}
-use Rattle.lk_unify.specs.Shapes.{shape_at, parts_of, fields_in, IsBuilt, IsDistinct, HasFields}
-use Rattle.lk_unify.specs.Values.{Value}
+use Rattle.lk_arena.specs.Shapes.{shape_at, parts_of, fields_in, IsBuilt, IsDistinct, HasFields}
+use Rattle.lk_arena.specs.Values.{Value}
 use Rattle.lk_unify.specs.declared.loader.Loader.{Loader}
-use Rattle.lk_unify.specs.declared.node.Head.{Head}
-use Rattle.lk_unify.specs.declared.node.Head.TheVariants as head
-use Rattle.lk_unify.specs.declared.node.Shape.{Shape}
-use Rattle.lk_unify.specs.declared.node.Shape.TheVariants.{Free, Open, Empty, Made}
-use Rattle.lk_unify.specs.declared.node.Shape.TheVariants as shape
+use Rattle.lk_arena.specs.declared.node.Head.{Head}
+use Rattle.lk_arena.specs.declared.node.Head.TheVariants as head
+use Rattle.lk_arena.specs.declared.node.Shape.{Shape}
+use Rattle.lk_arena.specs.declared.node.Shape.TheVariants.{Free, Open, Empty, Made}
+use Rattle.lk_arena.specs.declared.node.Shape.TheVariants as shape
 
 -- ---- a shape's kind speaks of its parts alone
 

@@ -6,13 +6,13 @@ use Rattle.lk_types.specs.Each.{Each}
 use Rattle.lk_types.specs.Grounding.{all_of}
 use Rattle.lk_types.specs.declared.ty.Ty.{Ty}
 use Rattle.lk_types.specs.declared.ty.TyField.{TyField}
-use Rattle.lk_unify.proofs.EachLemmas.{Each-map, Each-append, Each-append_left, Each-append_right}
+use Rattle.lk_arena.proofs.EachLemmas.{Each-map, Each-append, Each-append_left, Each-append_right}
 use Rattle.lk_unify.proofs.LoadKinds.{kinds_nothing, kinds_both, kinds_as}
 use Rattle.lk_unify.proofs.LoadSteps.{both, loads_nothing, loads_both, loads_as}
-use Rattle.lk_unify.specs.Kinds.{OfTypes}
+use Rattle.lk_arena.specs.Kinds.{OfTypes}
 use Rattle.lk_unify.specs.Loading.{IsLoader, LoadsTo, Loads, LoadsAll, LoadsFields, NeverMeans, type_meaning, types_meaning, fields_meaning}
 use Rattle.lk_unify.specs.declared.loader.Loader.{Loader}
-use Rattle.lk_unify.specs.declared.node.Field.{Field}
+use Rattle.lk_arena.specs.declared.node.Field.{Field}
 
 abbrev pub with_last : {A : Type 0} → List A × A → List A
 with_last p = p.0 ++ p.1 ∷ []

@@ -7,10 +7,10 @@ use Rattle.lk_types.specs.declared.ty.Variable.{Variable}
 use Rattle.lk_types.specs.declared.ty.Variable.TheVariants as variable
 use Rattle.lk_unify.specs.Reading.{effects_in}
 use Rattle.lk_unify.proofs.LoadEffects.{set_back}
-use Rattle.lk_unify.specs.Kinds.{Kind}
+use Rattle.lk_arena.specs.Kinds.{Kind}
 use Rattle.lk_unify.specs.Loading.{node_for, value_of, kind_of, Agrees, IsLoader, IsKinded, IsOfKind}
-use Rattle.lk_unify.specs.Openings.{OpenRow, Opening, only_tail}
-use Rattle.lk_unify.specs.Values.{Value, Plain, OfRow, effect_row}
+use Rattle.lk_arena.specs.Openings.{OpenRow, Opening, only_tail}
+use Rattle.lk_arena.specs.Values.{Value, Plain, OfRow, effect_row}
 use Rattle.lk_unify.specs.declared.loader.Loader.{Loader}
 
 type_in : Value → Ty

@@ -18,25 +18,25 @@ use Rattle.lk_types.specs.declared.ty.TyField.{TyField}
 use Rattle.lk_types.specs.declared.ty.TyRow.{TyRow, out-TyRow, roll-TyRow}
 use Rattle.lk_types.specs.declared.ty.Variable.{Variable}
 use Rattle.lk_types.specs.declared.ty.Variable.TheVariants as variable
-use Rattle.lk_unify.proofs.EachLemmas.{Each-map, Each-to_map}
+use Rattle.lk_arena.proofs.EachLemmas.{Each-map, Each-to_map}
 use Rattle.lk_unify.proofs.LoadEffects.{known_effect, before_effect_row}
-use Rattle.lk_unify.proofs.Growth.{HasFields-some}
+use Rattle.lk_arena.proofs.Growth.{HasFields-some}
 use Rattle.lk_unify.proofs.LoadKinds.{kinds_nothing, kinds_both, kinds_behind, loads_more}
 use Rattle.lk_unify.proofs.LoadSteps.{some_once, mapped, none_of, both, both_some, loads_nothing, loads_both, loads_as}
 use Rattle.lk_unify.proofs.OpenUnfold.{opened_row}
-use Rattle.lk_unify.proofs.RowAlgebra.{label_cases, found_below, row_same}
+use Rattle.lk_arena.proofs.RowAlgebra.{label_cases, found_below, row_same}
 use Rattle.lk_unify.proofs.RowsBefore.{AreKnown, before_is, before_some, before_once, with_one, hit, miss, lacks}
-use Rattle.lk_unify.proofs.Sizes.{no_entries}
-use Rattle.lk_unify.specs.Kinds.{Kind, OfTypes, OfFields, OfEffects, OfUnit, OfNothing, HasKind, IsEffectName}
+use Rattle.lk_arena.proofs.Sizes.{no_entries}
+use Rattle.lk_arena.specs.Kinds.{Kind, OfTypes, OfFields, OfEffects, OfUnit, OfNothing, HasKind, IsEffectName}
 use Rattle.lk_unify.specs.Loading.{LoadsEnd, KindsTo, IsEndOf, kind_of, value_of, IsLoader, LoadsTo, Loads, LoadsFields, Loaded, Adds, AddsRow, NeverMeans, type_meaning, fields_meaning, row_meaning, effects_meaning, end_value, effect_fields}
-use Rattle.lk_unify.specs.Openings.{OpenRow, OpenEffects, Opened, Opening, opened, before_open, tail_opened, effects_tail_opened, effects_opened, only_tail, field_type, row_type, unit_type}
-use Rattle.lk_unify.specs.Shapes.{IsDistinct, IsRowOf, found_at}
-use Rattle.lk_unify.specs.Values.{Value, Plain, OfRow, IsMadeOf, effect_row}
+use Rattle.lk_arena.specs.Openings.{OpenRow, OpenEffects, Opened, Opening, opened, before_open, tail_opened, effects_tail_opened, effects_opened, only_tail, field_type, row_type, unit_type}
+use Rattle.lk_arena.specs.Shapes.{IsDistinct, IsRowOf, found_at}
+use Rattle.lk_arena.specs.Values.{Value, Plain, OfRow, IsMadeOf, effect_row}
 use Rattle.lk_unify.specs.declared.loader.Loader.{Loader}
-use Rattle.lk_unify.specs.declared.node.Field.{Field}
-use Rattle.lk_unify.specs.declared.node.Head.TheVariants as head
-use Rattle.lk_unify.specs.declared.node.Shape.TheVariants.{Made, Empty}
-use Rattle.lk_unify.specs.declared.node.Shape.TheVariants as shape
+use Rattle.lk_arena.specs.declared.node.Field.{Field}
+use Rattle.lk_arena.specs.declared.node.Head.TheVariants as head
+use Rattle.lk_arena.specs.declared.node.Shape.TheVariants.{Made, Empty}
+use Rattle.lk_arena.specs.declared.node.Shape.TheVariants as shape
 
 cons_once : {A : Type 0} (a b : A) (xs ys : List A) → a ∷ xs ≡ b ∷ ys → (a ≡ b) × (xs ≡ ys)
 cons_once a b xs ys e = (cc, cc)

@@ -3,18 +3,18 @@ use Rattle.std.proofs.Common.{[], ◌∷◌, ◌++◌, ◌≡◌, ℕ, ◌+◌, 
 use Rattle.std.specs.Map.{lookup}
 use Rattle.std.specs.Option.{option_map}
 use Rattle.lk_types.specs.Each.{Each}
-use Rattle.lk_unify.specs.Openings.{Opening}
+use Rattle.lk_arena.specs.Openings.{Opening}
 use Rattle.lk_types.specs.Variables.{same_variable}
 use Rattle.lk_types.specs.declared.ty.TyField.{TyField}
 use Rattle.lk_types.specs.declared.ty.Variable.{Variable}
-use Rattle.lk_unify.proofs.Growth.{HasNode-push, WeakNodes-push, built_push, IsArena-push, more_count}
-use Rattle.lk_unify.specs.Kinds.{Kind}
+use Rattle.lk_arena.proofs.Growth.{HasNode-push, WeakNodes-push, built_push, IsArena-push, more_count}
+use Rattle.lk_arena.specs.Kinds.{Kind}
 use Rattle.lk_unify.specs.Loading.{node_for, Agrees, IsLoader, LoadsTo, Loads, LoadsAll, LoadsFields, Loaded, LoadedAll, LoadedFields, NeverMeans, Adds, fields_meaning}
-use Rattle.lk_unify.specs.Shapes.{parts_of, fields_in, IsArena, IsBuilt, IsDistinct, HasFields, HasNode, FitsNodes, WeakNodes, SameBelow}
-use Rattle.lk_unify.specs.Values.{Value}
+use Rattle.lk_arena.specs.Shapes.{parts_of, fields_in, IsArena, IsBuilt, IsDistinct, HasFields, HasNode, FitsNodes, WeakNodes, SameBelow}
+use Rattle.lk_arena.specs.Values.{Value}
 use Rattle.lk_unify.specs.declared.loader.Loader.{Loader}
-use Rattle.lk_unify.specs.declared.node.Field.{Field}
-use Rattle.lk_unify.specs.declared.node.Shape.{Shape}
+use Rattle.lk_arena.specs.declared.node.Field.{Field}
+use Rattle.lk_arena.specs.declared.node.Shape.{Shape}
 
 -- ---- options
 

@@ -7,19 +7,19 @@ use Rattle.lk_types.specs.declared.ty.Effects.{Effects}
 use Rattle.lk_types.specs.declared.ty.Ty.{Ty}
 use Rattle.lk_types.specs.declared.ty.Ty.TheVariants as ty
 use Rattle.lk_types.specs.declared.ty.TyRow.{TyRow}
-use Rattle.lk_unify.proofs.EachLemmas.{Each-map, Each-to_map}
+use Rattle.lk_arena.proofs.EachLemmas.{Each-map, Each-to_map}
 use Rattle.lk_unify.proofs.EffectSets.{same_set}
 use Rattle.lk_unify.proofs.LoadKinds.{kinds_nothing, kinds_both, loads_more}
 use Rattle.lk_unify.proofs.LoadSteps.{some_once, mapped, none_of, both, both_some, loads_nothing, loads_both, loads_as}
 use Rattle.lk_unify.proofs.OpenUnfold.{opened_int, opened_bool, opened_text, opened_list, opened_fields, opened_tags, opened_function, opened_variable}
-use Rattle.lk_unify.specs.Kinds.{Kind, OfTypes, OfFields, OfEffects, TakesKinds}
+use Rattle.lk_arena.specs.Kinds.{Kind, OfTypes, OfFields, OfEffects, TakesKinds}
 use Rattle.lk_unify.specs.Loading.{IsLoader, Loads, LoadsAll, Loaded, Adds, AddsFunction, NeverMeans, type_meaning, types_meaning, row_meaning, effects_meaning}
-use Rattle.lk_unify.specs.Openings.{OpenEffects, Opening, opened, row_opened, effects_opened, open_function, row_type, effects_type}
-use Rattle.lk_unify.specs.Values.{Value, Plain, OfRow, IsMadeOf, effect_row}
+use Rattle.lk_arena.specs.Openings.{OpenEffects, Opening, opened, row_opened, effects_opened, open_function, row_type, effects_type}
+use Rattle.lk_arena.specs.Values.{Value, Plain, OfRow, IsMadeOf, effect_row}
 use Rattle.lk_unify.specs.declared.loader.Loader.{Loader}
-use Rattle.lk_unify.specs.declared.node.Head.{Head}
-use Rattle.lk_unify.specs.declared.node.Head.TheVariants as head
-use Rattle.lk_unify.specs.declared.node.Shape.TheVariants.{Made}
+use Rattle.lk_arena.specs.declared.node.Head.{Head}
+use Rattle.lk_arena.specs.declared.node.Head.TheVariants as head
+use Rattle.lk_arena.specs.declared.node.Shape.TheVariants.{Made}
 
 -- ---- no parts
 

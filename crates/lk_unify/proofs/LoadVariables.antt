@@ -6,17 +6,17 @@ use Rattle.std.specs.BTreeMap.{get, is_at}
 use Rattle.std.specs.Map.{lookup}
 use Rattle.std.specs.Ordering.{is_eq}
 use Rattle.lk_types.specs.Each.{Each}
-use Rattle.lk_unify.specs.Openings.{Opening}
+use Rattle.lk_arena.specs.Openings.{Opening}
 use Rattle.lk_types.specs.Variables.{same_variable}
 use Rattle.lk_types.specs.contracts.ty.VariableOrd.TheImpl.{cmp-value}
 use Rattle.lk_types.specs.declared.ty.Variable.{Variable}
 use Rattle.lk_types.specs.declared.ty.Variable.TheVariants as variable
 use Rattle.lk_unify.proofs.LoadKinds.{put, old_kind, new_kind, kinded_nodes}
 use Rattle.lk_unify.proofs.LoadSteps.{some_once, one_longer, same_names, added_below, added_back, added_node, added_arena}
-use Rattle.lk_unify.specs.Kinds.{Kind, HasKind, AreKinded}
+use Rattle.lk_arena.specs.Kinds.{Kind, HasKind, AreKinded}
 use Rattle.lk_unify.specs.Loading.{KindsTo, kind_of, node_for, value_of, shape_for, IsLoader, Loads, Adds}
-use Rattle.lk_unify.specs.Shapes.{parts_of, fields_in, IsArena, IsBuilt, IsDistinct, HasFields, FitsNodes, WeakNodes}
-use Rattle.lk_unify.specs.Values.{Value}
+use Rattle.lk_arena.specs.Shapes.{parts_of, fields_in, IsArena, IsBuilt, IsDistinct, HasFields, FitsNodes, WeakNodes}
+use Rattle.lk_arena.specs.Values.{Value}
 use Rattle.lk_unify.specs.declared.loader.Loader.{Loader}
 
 -- ---- the same variable

@@ -7,15 +7,15 @@ use Rattle.lk_types.specs.Solutions.{HasSolution}
 use Rattle.lk_types.specs.Variables.{variables_of, equation_variables}
 use Rattle.lk_types.specs.declared.equation.Equation.{Equation}
 use Rattle.lk_types.specs.declared.ty.Variable.{Variable}
-use Rattle.lk_unify.proofs.EachLemmas.{Each-append, Each-append_left, Each-append_right}
+use Rattle.lk_arena.proofs.EachLemmas.{Each-append, Each-append_left, Each-append_right}
 use Rattle.lk_unify.proofs.Grounded.{open_solves}
 use Rattle.lk_unify.proofs.Solving.{bound_still}
-use Rattle.lk_unify.specs.Kinds.{Kind, OfTypes}
+use Rattle.lk_arena.specs.Kinds.{Kind, OfTypes}
 use Rattle.lk_unify.specs.Loading.{node_for, Agrees, IsKinded, SameKinds}
-use Rattle.lk_unify.specs.Openings.{Opening, IsOpenMet, OpenSolves, as_opening}
-use Rattle.lk_unify.specs.Shapes.{FitsNodes, WeakNodes}
+use Rattle.lk_arena.specs.Openings.{Opening, IsOpenMet, OpenSolves, as_opening}
+use Rattle.lk_arena.specs.Shapes.{FitsNodes, WeakNodes}
 use Rattle.lk_unify.specs.Solving.{Says, HasNodes, AddsEquation, AreBound, AreLoaded, AreSides, IsSide, IsStart, NeverMeets}
-use Rattle.lk_unify.specs.Values.{Value}
+use Rattle.lk_arena.specs.Values.{Value}
 use Rattle.lk_unify.specs.declared.loader.Loader.{Loader}
 
 -- ---- the first of a list

@@ -4,18 +4,18 @@ use Rattle.std.proofs.Common.{◌≡◌, ℕ, zero, suc, ◌<◌, true, false, L
 use Rattle.std.specs.FinMap as fin
 use Rattle.lk_types.specs.Each.{Each}
 use Rattle.lk_types.specs.declared.ty.Ty.TheVariants as ty
-use Rattle.lk_unify.proofs.EachLemmas.{Each-map, Each-zip}
+use Rattle.lk_arena.proofs.EachLemmas.{Each-map, Each-zip}
 use Rattle.lk_unify.proofs.Shaping.{of_shape, of_shape-same, of_shape-loose, HasValue, IsFresh, IsChosen, node_well}
-use Rattle.lk_unify.specs.Kinds.{Kind, AreKinded}
-use Rattle.lk_unify.specs.Order.{IsRanked}
+use Rattle.lk_arena.specs.Kinds.{Kind, AreKinded}
+use Rattle.lk_arena.specs.Order.{IsRanked}
 use Rattle.lk_classes.specs.Classes.{class_at}
 use Rattle.lk_unify.specs.Reading.{row_in}
-use Rattle.lk_unify.specs.Shapes.{shape_at, parts_of, IsBuilt, IsArena, Respects, WeakNodes, is_loose_shape}
-use Rattle.lk_unify.specs.Values.{Value, Plain}
-use Rattle.lk_unify.specs.declared.node.Field.{Field}
-use Rattle.lk_unify.specs.declared.node.Shape.{Shape}
-use Rattle.lk_unify.specs.declared.node.Shape.TheVariants.{Free, Open, Empty, Made}
-use Rattle.lk_unify.specs.declared.node.Shape.TheVariants as shape
+use Rattle.lk_arena.specs.Shapes.{shape_at, parts_of, IsBuilt, IsArena, Respects, WeakNodes, is_loose_shape}
+use Rattle.lk_arena.specs.Values.{Value, Plain}
+use Rattle.lk_arena.specs.declared.node.Field.{Field}
+use Rattle.lk_arena.specs.declared.node.Shape.{Shape}
+use Rattle.lk_arena.specs.declared.node.Shape.TheVariants.{Free, Open, Empty, Made}
+use Rattle.lk_arena.specs.declared.node.Shape.TheVariants as shape
 
 -- ---- values of all nodes, by rank
 

@@ -3,10 +3,10 @@ use Rattle.std.proofs.Common.{◌≡◌, ℕ, zero, suc, ◌+◌, ◌<◌, ◌�
 use Rattle.std.proofs.lemmas.Bool.{cases_eq, eqb-true, eq-eqb}
 use Rattle.std.specs.Prelude.{◌==◌, ◌&&◌, cond}
 use Rattle.lk_classes.specs.Classes.{class_at}
-use Rattle.lk_unify.specs.Kinds.{Kind, OfTypes, OfFields, OfEffects, OfUnit, OfNothing}
+use Rattle.lk_arena.specs.Kinds.{Kind, OfTypes, OfFields, OfEffects, OfUnit, OfNothing}
 use Rattle.lk_unify.specs.Loading.{node_for}
 use Rattle.lk_unify.specs.Reading.{name_in, own_variable, is_own_class, IsNaming, IsUnused}
-use Rattle.lk_unify.specs.Shapes.{shape_at, is_loose_shape}
+use Rattle.lk_arena.specs.Shapes.{shape_at, is_loose_shape}
 use Rattle.lk_unify.specs.declared.loader.Loader.{Loader}
 
 -- the first n nodes have numbers, all below `next`: of two classes of which nothing is known the later one has the larger number

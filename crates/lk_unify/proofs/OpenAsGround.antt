@@ -21,8 +21,8 @@ use Rattle.lk_unify.proofs.OpenRows.{row_rolled}
 use Rattle.lk_unify.proofs.OpenUnfold.{opened_int, opened_bool, opened_text, opened_list, opened_fields, opened_tags}
 use Rattle.lk_unify.proofs.OpenUnfold.{opened_function, opened_variable, opened_rolled, as_int, as_bool, as_text, as_list}
 use Rattle.lk_unify.proofs.TypeInduction.{Hereditary, every_type, every_row}
-use Rattle.lk_unify.specs.Openings.{Opening, row_type, opened, row_opened, effects_opened, effects_tail_opened, tail_opened}
-use Rattle.lk_unify.specs.Openings.{with_opened, before_open, open_function, as_type, as_row, as_effects, as_opening}
+use Rattle.lk_arena.specs.Openings.{Opening, row_type, opened, row_opened, effects_opened, effects_tail_opened, tail_opened}
+use Rattle.lk_arena.specs.Openings.{with_opened, before_open, open_function, as_type, as_row, as_effects, as_opening}
 
 mapped_twice : {A B C D : Type 0} (f : A → B) (g : B → D) (h : A → C) (k : C → D) → ((a : A) → g (f a) ≡ k (h a)) → (o : Option A) → option_map g (option_map f o) ≡ option_map k (option_map h o)
 mapped_twice f g h k is None = refl

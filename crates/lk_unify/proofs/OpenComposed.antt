@@ -31,8 +31,8 @@ use Rattle.lk_unify.proofs.OpenGround.{get-as_row}
 use Rattle.lk_unify.proofs.OpenRows.{row_rolled, only_tail-under, insert-under, with_one, IsReadAt, row_read}
 use Rattle.lk_unify.proofs.OpenUnfold.{opened_int, opened_bool, opened_text, opened_list, opened_fields, opened_tags, opened_function, opened_variable, opened_rolled}
 use Rattle.lk_unify.proofs.TypeInduction.{Hereditary, every_type, every_row}
-use Rattle.lk_unify.specs.Openings.{Opening, OpenRow, OpenEffects, row_type, effects_type, opened, row_opened, effects_opened}
-use Rattle.lk_unify.specs.Openings.{effects_tail_opened, tail_opened, with_opened, before_open, open_function, as_type, as_row, as_opening, OpensTo}
+use Rattle.lk_arena.specs.Openings.{Opening, OpenRow, OpenEffects, row_type, effects_type, opened, row_opened, effects_opened}
+use Rattle.lk_arena.specs.Openings.{effects_tail_opened, tail_opened, with_opened, before_open, open_function, as_type, as_row, as_opening, OpensTo}
 
 -- ---- what is there by a choice
 

@@ -18,9 +18,9 @@ use Rattle.lk_unify.proofs.LabelMaps.{Tied, Differ, tie_cases, same_maps, labels
 use Rattle.lk_unify.proofs.OpenEffectSets.{all_seven, effect_cases, bool_cases, IsSetAt, set_read}
 use Rattle.lk_unify.proofs.OpenGround.{get-as_row}
 use Rattle.lk_unify.proofs.OpenUnfold.{as_fields}
-use Rattle.lk_unify.specs.Kinds.{IsEffectName}
-use Rattle.lk_unify.specs.Openings.{OpenRow, OpenEffects, effects_type, unit_type, as_type, as_row, as_effects}
-use Rattle.lk_unify.specs.Values.{effect_row}
+use Rattle.lk_arena.specs.Kinds.{IsEffectName}
+use Rattle.lk_arena.specs.Openings.{OpenRow, OpenEffects, effects_type, unit_type, as_type, as_row, as_effects}
+use Rattle.lk_arena.specs.Values.{effect_row}
 
 -- ---- words of effects
 

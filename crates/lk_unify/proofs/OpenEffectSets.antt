@@ -7,7 +7,7 @@ use Rattle.lk_types.specs.Rows.{EffectSet, same_effect, with_effect, effects_of}
 use Rattle.lk_types.specs.declared.ty.Effect.{Effect}
 use Rattle.lk_types.specs.declared.ty.Effect.TheVariants.{Local, Move, Print, Rec, Scan, Trap, Write}
 use Rattle.lk_types.specs.declared.ty.RowTail.{RowTail}
-use Rattle.lk_unify.specs.Openings.{OpenEffects, only_effects_tail, effects_type}
+use Rattle.lk_arena.specs.Openings.{OpenEffects, only_effects_tail, effects_type}
 
 -- ---- effects
 

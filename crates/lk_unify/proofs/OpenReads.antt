@@ -22,11 +22,11 @@ use Rattle.lk_unify.proofs.LabelMaps.{entries_back, map_back, sorted_back}
 use Rattle.lk_unify.proofs.OpenEffectRows.{effect_row-once}
 use Rattle.lk_unify.proofs.OpenGround.{ground_of, row_ground, back, of_int, of_bool, of_text, of_list, of_fields, of_tags, of_function}
 use Rattle.lk_unify.proofs.OpenUnfold.{as_field, as_list, as_fields, as_tags, as_function}
-use Rattle.lk_unify.specs.Kinds.{Kind, OfTypes, OfFields, OfEffects, TakesKinds}
-use Rattle.lk_unify.specs.Openings.{OpenRow, OpenEffects, field_type, row_type, effects_type, as_type, as_entry, as_row, as_effects}
-use Rattle.lk_unify.specs.Values.{Value, Plain, OfRow, IsMadeOf, effect_row}
-use Rattle.lk_unify.specs.declared.node.Head.{Head}
-use Rattle.lk_unify.specs.declared.node.Head.TheVariants as head
+use Rattle.lk_arena.specs.Kinds.{Kind, OfTypes, OfFields, OfEffects, TakesKinds}
+use Rattle.lk_arena.specs.Openings.{OpenRow, OpenEffects, field_type, row_type, effects_type, as_type, as_entry, as_row, as_effects}
+use Rattle.lk_arena.specs.Values.{Value, Plain, OfRow, IsMadeOf, effect_row}
+use Rattle.lk_arena.specs.declared.node.Head.{Head}
+use Rattle.lk_arena.specs.declared.node.Head.TheVariants as head
 
 -- where y is ground x becomes what y is
 abbrev pub Reads : Grounding → Kind → Value → Value → Type 0

@@ -7,7 +7,7 @@ use Rattle.lk_types.specs.Rows.{no_fields, no_effects}
 use Rattle.lk_types.specs.declared.ty.RowTail.TheVariants.{Closed}
 use Rattle.lk_types.specs.declared.ty.Ty.TheVariants as ty
 use Rattle.lk_types.specs.declared.ty.TyRow.{roll-TyRow}
-use Rattle.lk_unify.proofs.EachLemmas.{Each-map, Each-zip, Each-from_map}
+use Rattle.lk_arena.proofs.EachLemmas.{Each-map, Each-zip, Each-from_map}
 use Rattle.lk_unify.proofs.LabelMaps.{no_entries}
 use Rattle.lk_unify.proofs.OpenEffectRows.{effect_row-once}
 use Rattle.lk_unify.proofs.OpenEffectSets.{only_effects-under}
@@ -15,16 +15,16 @@ use Rattle.lk_unify.proofs.OpenGround.{as_row-once, as_row-empty, as_effects-onc
 use Rattle.lk_unify.proofs.OpenReads.{Reads, row_once, made_reads}
 use Rattle.lk_unify.proofs.OpenReadsRows.{fields_before_reads, effects_before_reads}
 use Rattle.lk_unify.proofs.OpenRows.{only_tail-under}
-use Rattle.lk_unify.specs.Kinds.{Kind, OfTypes, OfFields, OfEffects, OfUnit, OfNothing, HasKind, AreKinded, IsEffectName}
-use Rattle.lk_unify.specs.Openings.{only_tail, only_effects_tail, field_type, row_type, unit_type, as_effects}
-use Rattle.lk_unify.specs.Order.{IsRanked}
-use Rattle.lk_unify.specs.Shapes.{shape_at, parts_of, IsBuilt, IsArena, WeakNodes, is_loose_shape}
-use Rattle.lk_unify.specs.Values.{Value, Plain, OfRow, IsMadeOf, effect_row}
-use Rattle.lk_unify.specs.declared.node.Field.{Field}
-use Rattle.lk_unify.specs.declared.node.Head.TheVariants as head
-use Rattle.lk_unify.specs.declared.node.Shape.{Shape}
-use Rattle.lk_unify.specs.declared.node.Shape.TheVariants.{Free, Open, Empty, Made}
-use Rattle.lk_unify.specs.declared.node.Shape.TheVariants as shape
+use Rattle.lk_arena.specs.Kinds.{Kind, OfTypes, OfFields, OfEffects, OfUnit, OfNothing, HasKind, AreKinded, IsEffectName}
+use Rattle.lk_arena.specs.Openings.{only_tail, only_effects_tail, field_type, row_type, unit_type, as_effects}
+use Rattle.lk_arena.specs.Order.{IsRanked}
+use Rattle.lk_arena.specs.Shapes.{shape_at, parts_of, IsBuilt, IsArena, WeakNodes, is_loose_shape}
+use Rattle.lk_arena.specs.Values.{Value, Plain, OfRow, IsMadeOf, effect_row}
+use Rattle.lk_arena.specs.declared.node.Field.{Field}
+use Rattle.lk_arena.specs.declared.node.Head.TheVariants as head
+use Rattle.lk_arena.specs.declared.node.Shape.{Shape}
+use Rattle.lk_arena.specs.declared.node.Shape.TheVariants.{Free, Open, Empty, Made}
+use Rattle.lk_arena.specs.declared.node.Shape.TheVariants as shape
 
 -- ---- rows without fields and without effects
 

@@ -19,11 +19,11 @@ use Rattle.lk_unify.proofs.OpenEffectSets.{IsSetAt, set_reads, set_read, lower}
 use Rattle.lk_unify.proofs.OpenGround.{get-as_row}
 use Rattle.lk_unify.proofs.OpenReads.{Reads, row_once}
 use Rattle.lk_unify.proofs.OpenRows.{IsReadAt, row_reads, row_read}
-use Rattle.lk_unify.specs.Kinds.{OfTypes, OfFields, OfEffects, IsEffectName}
-use Rattle.lk_unify.specs.Openings.{OpenEffects, row_type, effects_type, unit_type, as_type, as_row, as_effects}
-use Rattle.lk_unify.specs.Shapes.{found_at, plain_of, value_at, IsPlain, IsRowOf}
-use Rattle.lk_unify.specs.Values.{Value, Plain, OfRow, effect_row}
-use Rattle.lk_unify.specs.declared.node.Field.{Field}
+use Rattle.lk_arena.specs.Kinds.{OfTypes, OfFields, OfEffects, IsEffectName}
+use Rattle.lk_arena.specs.Openings.{OpenEffects, row_type, effects_type, unit_type, as_type, as_row, as_effects}
+use Rattle.lk_arena.specs.Shapes.{found_at, plain_of, value_at, IsPlain, IsRowOf}
+use Rattle.lk_arena.specs.Values.{Value, Plain, OfRow, effect_row}
+use Rattle.lk_arena.specs.declared.node.Field.{Field}
 
 -- ---- a field that is found
 

@@ -17,7 +17,7 @@ use Rattle.lk_types.specs.declared.ty.TyField.{TyField}
 use Rattle.lk_types.specs.declared.ty.Ty.TheFolds.{the_lemmas}
 use Rattle.lk_types.specs.declared.ty.TyRow.{roll-TyRow}
 use Rattle.lk_unify.proofs.LabelMaps.{Tied, Differ, tie_cases, same_maps, get_here, get_there, removed_here, removed_there, insert_swap, find_here, find_there, find_rest, sorted_rest, no_entries}
-use Rattle.lk_unify.specs.Openings.{OpenRow, only_tail, field_type, row_type}
+use Rattle.lk_arena.specs.Openings.{OpenRow, only_tail, field_type, row_type}
 
 -- ---- fields in either order
 

@@ -24,9 +24,9 @@ use Rattle.lk_unify.proofs.OpenCounts.{sum_is, nodes_rolled, count_nodes, row_co
 use Rattle.lk_unify.proofs.OpenUnfold.{opened_int, opened_bool, opened_text, opened_list, opened_fields, opened_tags, opened_function, opened_variable, opened_rolled, count_int, count_bool, count_text, count_list, count_fields, count_tags, count_function}
 use Rattle.lk_unify.proofs.RowCounts.{row_count_insert, row_count_end}
 use Rattle.lk_unify.proofs.TypeInduction.{Hereditary, every_type, every_row}
-use Rattle.lk_unify.specs.Counting.{sum_of}
+use Rattle.lk_arena.specs.Counting.{sum_of}
 use Rattle.lk_unify.specs.Nodes.{count, row_count, effects_count, end_count}
-use Rattle.lk_unify.specs.Openings.{Opening, OpenRow, OpenEffects, row_type, effects_type, opened, row_opened, before_open, with_opened, open_function, tail_opened, effects_tail_opened, effects_opened}
+use Rattle.lk_arena.specs.Openings.{Opening, OpenRow, OpenEffects, row_type, effects_type, opened, row_opened, before_open, with_opened, open_function, tail_opened, effects_tail_opened, effects_opened}
 
 -- how large that is which is put for a variable
 abbrev pub opening_size : Opening → Variable → ℕ

@@ -15,9 +15,9 @@ use Rattle.lk_types.specs.declared.ty.Ty.TheFolds.{the_lemmas}
 use Rattle.lk_types.specs.declared.ty.Ty.TheVariants as ty
 use Rattle.lk_types.specs.declared.ty.TyField.{TyField, fold-TyField}
 use Rattle.lk_types.specs.declared.ty.TyRow.{TyRow, out-TyRow, roll-TyRow}
-use Rattle.lk_unify.specs.Counting.{sum_of}
+use Rattle.lk_arena.specs.Counting.{sum_of}
 use Rattle.lk_unify.specs.Nodes.{end_count, effects_count, count_level, field_count_level, row_count_level, count, row_count}
-use Rattle.lk_unify.specs.Openings.{Opening, OpenRow, row_type, opened, row_opened, Opened, opened_level, opened_field_level, opened_row_level, before_open, tail_opened, effects_opened, open_function, ground_level, ground_field_level, as_type}
+use Rattle.lk_arena.specs.Openings.{Opening, OpenRow, row_type, opened, row_opened, Opened, opened_level, opened_field_level, opened_row_level, before_open, tail_opened, effects_opened, open_function, ground_level, ground_field_level, as_type}
 
 -- ---- what a type becomes
 

@@ -21,22 +21,22 @@ use Rattle.lk_types.specs.declared.ty.TyField.{TyField}
 use Rattle.lk_types.specs.declared.ty.TyRow.{roll-TyRow}
 use Rattle.lk_types.specs.declared.ty.Variable.{Variable}
 use Rattle.lk_types.specs.declared.ty.Variable.TheVariants as variable
-use Rattle.lk_unify.proofs.EachLemmas.{Each-zip, Each-append, Each-append_left, Each-append_right, Each-from_map}
-use Rattle.lk_unify.proofs.RowAlgebra.{RowFields}
+use Rattle.lk_arena.proofs.EachLemmas.{Each-zip, Each-append, Each-append_left, Each-append_right, Each-from_map}
+use Rattle.lk_arena.proofs.RowAlgebra.{RowFields}
 use Rattle.lk_unify.proofs.RowCounts.{its_rows, pick, is_row_with, first_same, rest_same, nothing_first}
-use Rattle.lk_unify.proofs.Sizes.{map_with, row_with, plain_or, no_entries}
-use Rattle.lk_unify.specs.Kinds.{Kind, OfTypes, OfFields, OfEffects, OfUnit, OfNothing, TakesKinds, HasKind, AreKinded}
+use Rattle.lk_arena.proofs.Sizes.{map_with, row_with, plain_or, no_entries}
+use Rattle.lk_arena.specs.Kinds.{Kind, OfTypes, OfFields, OfEffects, OfUnit, OfNothing, TakesKinds, HasKind, AreKinded}
 use Rattle.lk_unify.specs.Models.{IsOwn}
-use Rattle.lk_unify.specs.Openings.{OpenRow, OpenEffects, only_tail, field_type, row_type, effects_type}
-use Rattle.lk_unify.specs.Order.{IsRanked}
-use Rattle.lk_unify.specs.Shapes.{shape_at, parts_of, IsArena, IsBuilt, IsRowOf}
-use Rattle.lk_unify.specs.Values.{Value, Plain, OfRow, IsMadeOf, effect_row}
-use Rattle.lk_unify.specs.declared.node.Field.{Field}
-use Rattle.lk_unify.specs.declared.node.Head.{Head}
-use Rattle.lk_unify.specs.declared.node.Head.TheVariants as head
-use Rattle.lk_unify.specs.declared.node.Shape.{Shape}
-use Rattle.lk_unify.specs.declared.node.Shape.TheVariants.{Free, Open, Empty, Made}
-use Rattle.lk_unify.specs.declared.node.Shape.TheVariants as shape
+use Rattle.lk_arena.specs.Openings.{OpenRow, OpenEffects, only_tail, field_type, row_type, effects_type}
+use Rattle.lk_arena.specs.Order.{IsRanked}
+use Rattle.lk_arena.specs.Shapes.{shape_at, parts_of, IsArena, IsBuilt, IsRowOf}
+use Rattle.lk_arena.specs.Values.{Value, Plain, OfRow, IsMadeOf, effect_row}
+use Rattle.lk_arena.specs.declared.node.Field.{Field}
+use Rattle.lk_arena.specs.declared.node.Head.{Head}
+use Rattle.lk_arena.specs.declared.node.Head.TheVariants as head
+use Rattle.lk_arena.specs.declared.node.Shape.{Shape}
+use Rattle.lk_arena.specs.declared.node.Shape.TheVariants.{Free, Open, Empty, Made}
+use Rattle.lk_arena.specs.declared.node.Shape.TheVariants as shape
 
 pub variables_rolled : (fs : List TyField) (tail : RowTail)
     → variables_of_row (roll-TyRow (record { fields = fs; tail = tail })) ≡ before_tail (joined (map variables_of_field fs)) variable.Row tail

@@ -8,24 +8,24 @@ use Rattle.lk_types.specs.Rows.{Label, label_order}
 use Rattle.lk_types.specs.declared.ty.RowTail.{RowTail}
 use Rattle.lk_types.specs.declared.ty.RowTail.TheVariants.{Closed, Var}
 use Rattle.lk_types.specs.declared.ty.Ty.TheVariants as ty
-use Rattle.lk_unify.proofs.EachLemmas.{Each-map, Each-zip}
+use Rattle.lk_arena.proofs.EachLemmas.{Each-map, Each-zip}
 use Rattle.lk_unify.proofs.EffectRows.{IsEffectRow-empty}
-use Rattle.lk_unify.proofs.Heads.{made_plain}
+use Rattle.lk_arena.proofs.Heads.{made_plain}
 use Rattle.lk_unify.proofs.Models as models
-use Rattle.lk_unify.proofs.RowAlgebra.{found_prop, plain_some}
+use Rattle.lk_arena.proofs.RowAlgebra.{found_prop, plain_some}
 use Rattle.lk_unify.proofs.Shaping.{HasValue}
-use Rattle.lk_unify.proofs.Sizes.{value_size, parts_smaller}
-use Rattle.lk_unify.specs.Kinds.{Kind, OfTypes, OfFields, OfEffects, OfUnit, OfNothing, AreKinded, HasKind}
+use Rattle.lk_arena.proofs.Sizes.{value_size, parts_smaller}
+use Rattle.lk_arena.specs.Kinds.{Kind, OfTypes, OfFields, OfEffects, OfUnit, OfNothing, AreKinded, HasKind}
 use Rattle.lk_unify.specs.Models.{IsOwn, OwnModelExists, RanksExist}
-use Rattle.lk_unify.specs.Openings.{only_tail}
-use Rattle.lk_unify.specs.Order.{IsRanked}
+use Rattle.lk_arena.specs.Openings.{only_tail}
+use Rattle.lk_arena.specs.Order.{IsRanked}
 use Rattle.lk_unify.specs.Reading.{row_in}
-use Rattle.lk_unify.specs.Shapes.{shape_at, parts_of, found_at, value_at, IsPlain, IsRowOf, IsBuilt, IsArena, Respects, WeakNodes, is_loose_shape}
-use Rattle.lk_unify.specs.Values.{Value, Plain, OfRow}
-use Rattle.lk_unify.specs.declared.node.Field.{Field}
-use Rattle.lk_unify.specs.declared.node.Shape.{Shape}
-use Rattle.lk_unify.specs.declared.node.Shape.TheVariants.{Free, Open, Empty, Made}
-use Rattle.lk_unify.specs.declared.node.Shape.TheVariants as shape
+use Rattle.lk_arena.specs.Shapes.{shape_at, parts_of, found_at, value_at, IsPlain, IsRowOf, IsBuilt, IsArena, Respects, WeakNodes, is_loose_shape}
+use Rattle.lk_arena.specs.Values.{Value, Plain, OfRow}
+use Rattle.lk_arena.specs.declared.node.Field.{Field}
+use Rattle.lk_arena.specs.declared.node.Shape.{Shape}
+use Rattle.lk_arena.specs.declared.node.Shape.TheVariants.{Free, Open, Empty, Made}
+use Rattle.lk_arena.specs.declared.node.Shape.TheVariants as shape
 
 -- ---- sizes as ranks
 

@@ -11,7 +11,7 @@ use Rattle.lk_types.specs.declared.ty.Ty.{Ty}
 use Rattle.lk_types.specs.declared.ty.TyField.{TyField}
 use Rattle.lk_types.specs.declared.ty.TyRow.{TyRow, roll-TyRow, out-TyRow, out-roll-TyRow}
 use Rattle.lk_types.specs.declared.ty.Ty.TheOpen.{TyRow-F}
-use Rattle.lk_unify.specs.Openings.{OpenRow, field_type, row_type}
+use Rattle.lk_arena.specs.Openings.{OpenRow, field_type, row_type}
 use Rattle.lk_unify.specs.Reading.{place_in, with_entry}
 
 pub place_within : (l : Label) (fs : List TyField) → place_in l fs ≤ length fs

@@ -7,12 +7,12 @@ use Rattle.lk_types.specs.declared.ty.Ty.TheVariants as ty
 use Rattle.lk_types.specs.declared.ty.TyRow.{TyRow}
 use Rattle.lk_unify.proofs.ReadParts.{made_list, made_fields, made_tags}
 use Rattle.lk_unify.proofs.ReadRows.{made_function}
-use Rattle.lk_unify.specs.Openings.{row_type, effects_type}
+use Rattle.lk_arena.specs.Openings.{row_type, effects_type}
 use Rattle.lk_unify.specs.Reading.{CanReadParts, type_in, row_in, effects_in}
-use Rattle.lk_unify.specs.Values.{Value, IsMadeOf}
-use Rattle.lk_unify.specs.declared.arena.Arena.{Arena}
-use Rattle.lk_unify.specs.declared.node.Head.{Head}
-use Rattle.lk_unify.specs.declared.node.Head.TheVariants as head
+use Rattle.lk_arena.specs.Values.{Value, IsMadeOf}
+use Rattle.lk_arena.specs.declared.arena.Arena.{Arena}
+use Rattle.lk_arena.specs.declared.node.Head.{Head}
+use Rattle.lk_arena.specs.declared.node.Head.TheVariants as head
 
 module _ (nodes : Arena) (numbers : List ℕ) (fuel : ℕ) (u : ℕ → Value) (x : Value) where
   list_of : (ps : List ℕ) → CanReadParts nodes numbers fuel head.List ps → IsMadeOf head.List (map u ps) x → type_in x ≡ ty.List (type_in (u (get_or ps 0 0)))

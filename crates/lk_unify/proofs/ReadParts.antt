@@ -4,19 +4,19 @@ use Rattle.lk_classes.specs.Classes.{class_at}
 use Rattle.lk_types.specs.Each.{Each}
 use Rattle.lk_types.specs.declared.ty.RowTail.TheVariants.{Var}
 use Rattle.lk_types.specs.declared.ty.Ty.TheVariants as ty
-use Rattle.lk_unify.proofs.EachLemmas.{Each-zip, Each-from_map}
-use Rattle.lk_unify.specs.Kinds.{Kind, OfTypes, TakesKinds, HasKind}
+use Rattle.lk_arena.proofs.EachLemmas.{Each-zip, Each-from_map}
+use Rattle.lk_arena.specs.Kinds.{Kind, OfTypes, TakesKinds, HasKind}
 use Rattle.lk_unify.specs.Models.{IsOwn}
-use Rattle.lk_unify.specs.Openings.{only_tail, row_type}
+use Rattle.lk_arena.specs.Openings.{only_tail, row_type}
 use Rattle.lk_unify.specs.Reading.{CanRead, CanReadParts, name_in, type_in, row_in}
-use Rattle.lk_unify.specs.Shapes.{shape_at, parts_of, IsBuilt}
-use Rattle.lk_unify.specs.Values.{Value, Plain, OfRow, IsMadeOf}
-use Rattle.lk_unify.specs.declared.arena.Arena.{Arena}
-use Rattle.lk_unify.specs.declared.node.Head.{Head}
-use Rattle.lk_unify.specs.declared.node.Head.TheVariants as head
-use Rattle.lk_unify.specs.declared.node.Shape.{Shape}
-use Rattle.lk_unify.specs.declared.node.Shape.TheVariants.{Free, Open, Empty, Made}
-use Rattle.lk_unify.specs.declared.node.Shape.TheVariants as shape
+use Rattle.lk_arena.specs.Shapes.{shape_at, parts_of, IsBuilt}
+use Rattle.lk_arena.specs.Values.{Value, Plain, OfRow, IsMadeOf}
+use Rattle.lk_arena.specs.declared.arena.Arena.{Arena}
+use Rattle.lk_arena.specs.declared.node.Head.{Head}
+use Rattle.lk_arena.specs.declared.node.Head.TheVariants as head
+use Rattle.lk_arena.specs.declared.node.Shape.{Shape}
+use Rattle.lk_arena.specs.declared.node.Shape.TheVariants.{Free, Open, Empty, Made}
+use Rattle.lk_arena.specs.declared.node.Shape.TheVariants as shape
 
 -- ---- the parts that constructors take
 

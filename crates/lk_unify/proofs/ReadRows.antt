@@ -14,23 +14,23 @@ use Rattle.lk_types.specs.declared.ty.RowTail.TheVariants.{Closed, Var}
 use Rattle.lk_types.specs.declared.ty.Ty.{Ty}
 use Rattle.lk_types.specs.declared.ty.Ty.TheVariants as ty
 use Rattle.lk_types.specs.declared.ty.TyRow.{roll-TyRow}
-use Rattle.lk_unify.proofs.EachLemmas.{Each-zip, Each-from_map}
+use Rattle.lk_arena.proofs.EachLemmas.{Each-zip, Each-from_map}
 use Rattle.lk_unify.proofs.EffectSets.{set_in-effect_row}
 use Rattle.lk_unify.proofs.ReadParts.{shape_parts_can, shape_kind, shape_built, open_value}
-use Rattle.lk_unify.proofs.RowAlgebra.{same_rows}
-use Rattle.lk_unify.proofs.Sizes.{plain_or, row_with, get-row_with, no_entries}
-use Rattle.lk_unify.specs.Kinds.{OfTypes, OfFields, OfEffects}
+use Rattle.lk_arena.proofs.RowAlgebra.{same_rows}
+use Rattle.lk_arena.proofs.Sizes.{plain_or, row_with, get-row_with, no_entries}
+use Rattle.lk_arena.specs.Kinds.{OfTypes, OfFields, OfEffects}
 use Rattle.lk_unify.specs.Models.{IsOwn}
-use Rattle.lk_unify.specs.Openings.{OpenRow, only_tail, field_type, row_type, effects_type}
+use Rattle.lk_arena.specs.Openings.{OpenRow, only_tail, field_type, row_type, effects_type}
 use Rattle.lk_unify.specs.Reading.{CanRead, CanStand, name_in, type_in, row_in, effects_in, with_entry, with_fields}
-use Rattle.lk_unify.specs.Shapes.{shape_at, found_at, plain_of, value_at, IsPlain, IsRowOf, IsDistinct, fields_in}
-use Rattle.lk_unify.specs.Values.{Value, Plain, OfRow, IsMadeOf, effect_row}
-use Rattle.lk_unify.specs.declared.arena.Arena.{Arena}
-use Rattle.lk_unify.specs.declared.node.Field.{Field}
-use Rattle.lk_unify.specs.declared.node.Head.TheVariants as head
-use Rattle.lk_unify.specs.declared.node.Shape.{Shape}
-use Rattle.lk_unify.specs.declared.node.Shape.TheVariants.{Free, Open, Empty, Made}
-use Rattle.lk_unify.specs.declared.node.Shape.TheVariants as shape
+use Rattle.lk_arena.specs.Shapes.{shape_at, found_at, plain_of, value_at, IsPlain, IsRowOf, IsDistinct, fields_in}
+use Rattle.lk_arena.specs.Values.{Value, Plain, OfRow, IsMadeOf, effect_row}
+use Rattle.lk_arena.specs.declared.arena.Arena.{Arena}
+use Rattle.lk_arena.specs.declared.node.Field.{Field}
+use Rattle.lk_arena.specs.declared.node.Head.TheVariants as head
+use Rattle.lk_arena.specs.declared.node.Shape.{Shape}
+use Rattle.lk_arena.specs.declared.node.Shape.TheVariants.{Free, Open, Empty, Made}
+use Rattle.lk_arena.specs.declared.node.Shape.TheVariants as shape
 
 -- ---- the value of fields before a row
 

@@ -7,13 +7,13 @@ use Rattle.lk_types.specs.declared.equation.Subst.{Subst}
 use Rattle.lk_unify.proofs.Decided.{says_all}
 use Rattle.lk_unify.proofs.SolvedForm.{solution_of}
 use Rattle.lk_unify.proofs.Within.{own_by_names}
-use Rattle.lk_unify.specs.Kinds.{Kind}
+use Rattle.lk_arena.specs.Kinds.{Kind}
 use Rattle.lk_unify.specs.Loading.{IsKinded}
 use Rattle.lk_unify.specs.Models.{IsOwn}
 use Rattle.lk_unify.specs.Reading.{subst_by, IsNaming}
 use Rattle.lk_unify.specs.Small.{OwnNodes}
 use Rattle.lk_unify.specs.Solving.{AreLoaded}
-use Rattle.lk_unify.specs.Values.{Value}
+use Rattle.lk_arena.specs.Values.{Value}
 use Rattle.lk_unify.specs.declared.loader.Loader.{Loader}
 
 pub read_solution : (l : Loader) (sides : List ℕ) (es : List Equation) (name : ℕ → ℕ) (s : Subst) → AreLoaded l sides es (length es) → HasSolution es →

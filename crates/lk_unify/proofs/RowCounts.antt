@@ -15,17 +15,17 @@ use Rattle.lk_types.specs.declared.ty.RowTail.{RowTail}
 use Rattle.lk_types.specs.declared.ty.Ty.{Ty}
 use Rattle.lk_types.specs.declared.ty.Ty.TheVariants as ty
 use Rattle.lk_unify.proofs.OpenUnfold.{count_int, count_bool, count_text, count_list, count_fields, count_tags, count_function, count_rolled}
-use Rattle.lk_unify.proofs.RowAlgebra.{RowFields, row_same, same_rows}
-use Rattle.lk_unify.proofs.Sizes.{map_with, row_with, get-row_with, plain_or, no_entries}
-use Rattle.lk_unify.specs.Counting.{sum_of}
-use Rattle.lk_unify.specs.Kinds.{Kind, OfTypes, OfFields, OfEffects, TakesKinds}
+use Rattle.lk_arena.proofs.RowAlgebra.{RowFields, row_same, same_rows}
+use Rattle.lk_arena.proofs.Sizes.{map_with, row_with, get-row_with, plain_or, no_entries}
+use Rattle.lk_arena.specs.Counting.{sum_of}
+use Rattle.lk_arena.specs.Kinds.{Kind, OfTypes, OfFields, OfEffects, TakesKinds}
 use Rattle.lk_unify.specs.Nodes.{count, row_count, end_count, effects_count, value_count}
-use Rattle.lk_unify.specs.Openings.{OpenRow, OpenEffects, only_tail, field_type, row_type, effects_type, unit_type}
-use Rattle.lk_unify.specs.Shapes.{value_at, IsPlain, IsRowOf, IsDistinct}
-use Rattle.lk_unify.specs.Values.{Value, Plain, OfRow, IsMadeOf, effect_row}
-use Rattle.lk_unify.specs.declared.node.Field.{Field}
-use Rattle.lk_unify.specs.declared.node.Head.{Head}
-use Rattle.lk_unify.specs.declared.node.Head.TheVariants as head
+use Rattle.lk_arena.specs.Openings.{OpenRow, OpenEffects, only_tail, field_type, row_type, effects_type, unit_type}
+use Rattle.lk_arena.specs.Shapes.{value_at, IsPlain, IsRowOf, IsDistinct}
+use Rattle.lk_arena.specs.Values.{Value, Plain, OfRow, IsMadeOf, effect_row}
+use Rattle.lk_arena.specs.declared.node.Field.{Field}
+use Rattle.lk_arena.specs.declared.node.Head.{Head}
+use Rattle.lk_arena.specs.declared.node.Head.TheVariants as head
 
 -- ---- an entry more, where `weight` says what a type counts
 

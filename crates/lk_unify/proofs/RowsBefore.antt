@@ -7,12 +7,12 @@ use Rattle.std.specs.Str.{bytes_eq}
 use Rattle.lk_types.specs.Each.{Each}
 use Rattle.lk_types.specs.Rows.{Label}
 use Rattle.lk_types.specs.declared.ty.Ty.{Ty}
-use Rattle.lk_unify.proofs.RowAlgebra.{RowFields, one_more, same_rows, label_cases, found_here, found_below, found_prop, plain_some, row_same}
-use Rattle.lk_unify.proofs.Sizes.{ties, no_ties}
-use Rattle.lk_unify.specs.Openings.{OpenRow, Opened, before_open, with_opened}
-use Rattle.lk_unify.specs.Shapes.{found_at, plain_of, value_at, IsPlain, IsRowOf, IsDistinct}
-use Rattle.lk_unify.specs.Values.{Value, Plain, OfRow}
-use Rattle.lk_unify.specs.declared.node.Field.{Field}
+use Rattle.lk_arena.proofs.RowAlgebra.{RowFields, one_more, same_rows, label_cases, found_here, found_below, found_prop, plain_some, row_same}
+use Rattle.lk_arena.proofs.Sizes.{ties, no_ties}
+use Rattle.lk_arena.specs.Openings.{OpenRow, Opened, before_open, with_opened}
+use Rattle.lk_arena.specs.Shapes.{found_at, plain_of, value_at, IsPlain, IsRowOf, IsDistinct}
+use Rattle.lk_arena.specs.Values.{Value, Plain, OfRow}
+use Rattle.lk_arena.specs.declared.node.Field.{Field}
 
 -- the fields have these labels, and their nodes these types
 abbrev pub AreKnown : (ℕ → Value) → List Field → List Opened → Type 0

@@ -7,20 +7,20 @@ use Rattle.lk_types.specs.declared.ty.RowTail.TheVariants.{Closed}
 use Rattle.lk_types.specs.declared.ty.Ty.{Ty}
 use Rattle.lk_types.specs.declared.ty.Ty.TheVariants as ty
 use Rattle.lk_types.specs.declared.ty.TyRow.{roll-TyRow}
-use Rattle.lk_unify.proofs.EachLemmas.{Each-map, Each-zip, Each-from_map, Each-append_left}
+use Rattle.lk_arena.proofs.EachLemmas.{Each-map, Each-zip, Each-from_map, Each-append_left}
 use Rattle.lk_unify.proofs.EffectRows.{IsEffectRow, IsEffectRow-empty, IsEffectRow-insert, its_effects}
-use Rattle.lk_unify.proofs.Sizes.{plain_or, map_with, row_with, get-row_with, no_entries}
-use Rattle.lk_unify.specs.Kinds.{Kind, OfTypes, OfFields, OfEffects, OfUnit, OfNothing, IsEffectName, TakesKinds, HasKind}
-use Rattle.lk_unify.specs.Openings.{OpenRow, only_tail, row_type, effects_type, unit_type, field_type}
+use Rattle.lk_arena.proofs.Sizes.{plain_or, map_with, row_with, get-row_with, no_entries}
+use Rattle.lk_arena.specs.Kinds.{Kind, OfTypes, OfFields, OfEffects, OfUnit, OfNothing, IsEffectName, TakesKinds, HasKind}
+use Rattle.lk_arena.specs.Openings.{OpenRow, only_tail, row_type, effects_type, unit_type, field_type}
 use Rattle.lk_unify.specs.Reading.{row_in, effects_in}
-use Rattle.lk_unify.specs.Shapes.{parts_of, found_at, value_at, IsPlain, IsRowOf, IsBuilt, is_loose_shape}
-use Rattle.lk_unify.specs.Values.{Value, Plain, OfRow, IsMadeOf}
-use Rattle.lk_unify.specs.declared.node.Field.{Field}
-use Rattle.lk_unify.specs.declared.node.Head.{Head}
-use Rattle.lk_unify.specs.declared.node.Head.TheVariants as head
-use Rattle.lk_unify.specs.declared.node.Shape.{Shape}
-use Rattle.lk_unify.specs.declared.node.Shape.TheVariants.{Free, Open, Empty, Made}
-use Rattle.lk_unify.specs.declared.node.Shape.TheVariants as shape
+use Rattle.lk_arena.specs.Shapes.{parts_of, found_at, value_at, IsPlain, IsRowOf, IsBuilt, is_loose_shape}
+use Rattle.lk_arena.specs.Values.{Value, Plain, OfRow, IsMadeOf}
+use Rattle.lk_arena.specs.declared.node.Field.{Field}
+use Rattle.lk_arena.specs.declared.node.Head.{Head}
+use Rattle.lk_arena.specs.declared.node.Head.TheVariants as head
+use Rattle.lk_arena.specs.declared.node.Shape.{Shape}
+use Rattle.lk_arena.specs.declared.node.Shape.TheVariants.{Free, Open, Empty, Made}
+use Rattle.lk_arena.specs.declared.node.Shape.TheVariants as shape
 
 -- the value of a constructor
 abbrev pub made : Head → List Value → Value

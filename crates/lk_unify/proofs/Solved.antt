@@ -13,15 +13,15 @@ use Rattle.lk_types.specs.declared.ty.Variable.TheVariants as variable
 use Rattle.lk_unify.proofs.Grounded.{solves_ground}
 use Rattle.lk_unify.proofs.GroundModel.{ground_exists}
 use Rattle.lk_unify.proofs.GroundValues.{ground_in, ground_row_in, ground_effects_in, ground_in-is, ground_row_in-is, ground_effects_in-is}
-use Rattle.lk_unify.specs.Kinds.{Kind}
+use Rattle.lk_arena.specs.Kinds.{Kind}
 use Rattle.lk_unify.specs.Loading.{node_for, value_of, Agrees, IsLoader, IsKinded}
 use Rattle.lk_unify.specs.Models.{IsGroundOf}
-use Rattle.lk_unify.specs.Openings.{only_tail, as_type, as_row, as_effects, as_opening}
-use Rattle.lk_unify.specs.Order.{IsRanked}
+use Rattle.lk_arena.specs.Openings.{only_tail, as_type, as_row, as_effects, as_opening}
+use Rattle.lk_arena.specs.Order.{IsRanked}
 use Rattle.lk_unify.specs.Reading.{value_or}
-use Rattle.lk_unify.specs.Shapes.{IsClean}
+use Rattle.lk_arena.specs.Shapes.{IsClean}
 use Rattle.lk_unify.specs.Solving.{Says}
-use Rattle.lk_unify.specs.Values.{Value, Plain, OfRow, effect_row}
+use Rattle.lk_arena.specs.Values.{Value, Plain, OfRow, effect_row}
 use Rattle.lk_unify.specs.declared.loader.Loader.{Loader}
 
 -- what the values put for the variables that have a node, and anything for the others

@@ -14,23 +14,23 @@ use Rattle.lk_types.specs.declared.ty.Ty.TheVariants as ty
 use Rattle.lk_types.specs.declared.ty.Variable.{Variable}
 use Rattle.lk_types.specs.declared.ty.Variable.TheVariants as variable
 use Rattle.lk_unify.proofs.Bindings.{puts_at, unbound}
-use Rattle.lk_unify.proofs.EachLemmas.{Each-append}
+use Rattle.lk_arena.proofs.EachLemmas.{Each-append}
 use Rattle.lk_unify.proofs.Generality.{instance_by, opens_all}
 use Rattle.lk_unify.proofs.Instances.{instance_solves, instance_all}
 use Rattle.lk_unify.proofs.OpenEffects.{effects_in_row}
 use Rattle.lk_unify.proofs.OpenVariables.{IsGivenOfNames, own_type_variables, own_row_variables, own_effects_variables}
 use Rattle.lk_unify.proofs.Within.{own_agrees}
-use Rattle.lk_unify.specs.Kinds.{Kind, OfTypes, OfFields, OfEffects, OfUnit, OfNothing, HasKind}
+use Rattle.lk_arena.specs.Kinds.{Kind, OfTypes, OfFields, OfEffects, OfUnit, OfNothing, HasKind}
 use Rattle.lk_unify.specs.Loading.{node_for, kind_of, value_of}
-use Rattle.lk_unify.specs.Openings.{Opening, OpenSolves, IsOpenMet, opened, only_tail, only_effects_tail, row_type, effects_type}
+use Rattle.lk_arena.specs.Openings.{Opening, OpenSolves, IsOpenMet, opened, only_tail, only_effects_tail, row_type, effects_type}
 use Rattle.lk_unify.specs.Reading.{type_in, row_in, effects_in, opening_by, image_of, number_of, binding_by, subst_by, own_variable}
-use Rattle.lk_unify.specs.Shapes.{shape_at, is_loose_shape}
+use Rattle.lk_arena.specs.Shapes.{shape_at, is_loose_shape}
 use Rattle.lk_unify.specs.Small.{OwnNodes}
-use Rattle.lk_unify.specs.Values.{Value, Plain, OfRow, effect_row}
+use Rattle.lk_arena.specs.Values.{Value, Plain, OfRow, effect_row}
 use Rattle.lk_unify.specs.declared.loader.Loader.{Loader}
-use Rattle.lk_unify.specs.declared.node.Shape.{Shape}
-use Rattle.lk_unify.specs.declared.node.Shape.TheVariants.{Free, Open, Empty, Made}
-use Rattle.lk_unify.specs.declared.node.Shape.TheVariants as shape
+use Rattle.lk_arena.specs.declared.node.Shape.{Shape}
+use Rattle.lk_arena.specs.declared.node.Shape.TheVariants.{Free, Open, Empty, Made}
+use Rattle.lk_arena.specs.declared.node.Shape.TheVariants as shape
 
 -- a class of which nothing is known is of types or of rows
 free_kind : (kind : ℕ → Kind) (k : Kind) → HasKind kind k Free → k ≡ OfTypes

@@ -6,15 +6,15 @@ use Rattle.lk_types.specs.declared.ty.RowTail.TheVariants.{Closed}
 use Rattle.lk_types.specs.Variables.{same_variable}
 use Rattle.lk_types.specs.declared.equation.Equation.{Equation}
 use Rattle.lk_types.specs.declared.ty.Variable.{Variable}
-use Rattle.lk_unify.specs.Kinds.{Kind, OfTypes}
+use Rattle.lk_arena.specs.Kinds.{Kind, OfTypes}
 use Rattle.lk_unify.specs.Loading.{node_for, kind_of, end_value, type_meaning, Agrees, IsLoader, IsKinded, SameKinds, Loads, LoadsEquation, LoadedEquation}
-use Rattle.lk_unify.specs.Openings.{Opening, IsOpenMet, only_tail}
-use Rattle.lk_unify.specs.Shapes.{FitsNodes, WeakNodes, NeverSame}
+use Rattle.lk_arena.specs.Openings.{Opening, IsOpenMet, only_tail}
+use Rattle.lk_arena.specs.Shapes.{FitsNodes, WeakNodes, NeverSame}
 use Rattle.lk_unify.specs.Solving.{AddsEquation, AreBound, IsStart, NeverMeets}
-use Rattle.lk_unify.specs.Steps.{Leads}
-use Rattle.lk_unify.specs.Values.{Value, OfRow}
+use Rattle.lk_arena.specs.Steps.{Leads}
+use Rattle.lk_arena.specs.Values.{Value, OfRow}
 use Rattle.lk_unify.specs.declared.loader.Loader.{Loader}
-use Rattle.lk_unify.specs.declared.node.Pair.{Pair}
+use Rattle.lk_arena.specs.declared.node.Pair.{Pair}
 
 -- ---- one equation more
 

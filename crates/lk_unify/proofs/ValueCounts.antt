@@ -7,23 +7,23 @@ use Rattle.lk_types.specs.Each.{Each}
 use Rattle.lk_types.specs.declared.ty.RowTail.{RowTail}
 use Rattle.lk_types.specs.declared.ty.RowTail.TheVariants.{Closed, Var}
 use Rattle.lk_types.specs.declared.ty.Ty.TheVariants as ty
-use Rattle.lk_unify.proofs.EachLemmas.{Each-map, Each-zip, Each-from_map}
+use Rattle.lk_arena.proofs.EachLemmas.{Each-map, Each-zip, Each-from_map}
 use Rattle.lk_unify.proofs.OpenCounts.{sums_same, sums_below, count_some, row_count_some}
 use Rattle.lk_unify.proofs.OpenUnfold.{count_variable}
 use Rattle.lk_unify.proofs.RowCounts.{its_rows, plain_count, row_count_fields, row_count_end, entries_by_fields, made_count}
-use Rattle.lk_unify.proofs.Sizes.{no_entries}
-use Rattle.lk_unify.specs.Counting.{sum_of, counted, AreCounted}
-use Rattle.lk_unify.specs.Kinds.{Kind, OfTypes, OfFields, OfEffects, OfUnit, OfNothing, HasKind, AreKinded}
+use Rattle.lk_arena.proofs.Sizes.{no_entries}
+use Rattle.lk_arena.specs.Counting.{sum_of, counted, AreCounted}
+use Rattle.lk_arena.specs.Kinds.{Kind, OfTypes, OfFields, OfEffects, OfUnit, OfNothing, HasKind, AreKinded}
 use Rattle.lk_unify.specs.Models.{IsOwn}
 use Rattle.lk_unify.specs.Nodes.{count, row_count, end_count, value_count}
-use Rattle.lk_unify.specs.Openings.{only_tail, row_type}
-use Rattle.lk_unify.specs.Order.{IsRanked}
-use Rattle.lk_unify.specs.Shapes.{shape_at, parts_of, fields_in, is_loose_shape, IsArena, IsBuilt, IsRowOf, IsDistinct, WeakNodes}
-use Rattle.lk_unify.specs.Values.{Value, Plain, OfRow}
-use Rattle.lk_unify.specs.declared.node.Field.{Field}
-use Rattle.lk_unify.specs.declared.node.Shape.{Shape}
-use Rattle.lk_unify.specs.declared.node.Shape.TheVariants.{Free, Open, Empty, Made}
-use Rattle.lk_unify.specs.declared.node.Shape.TheVariants as shape
+use Rattle.lk_arena.specs.Openings.{only_tail, row_type}
+use Rattle.lk_arena.specs.Order.{IsRanked}
+use Rattle.lk_arena.specs.Shapes.{shape_at, parts_of, fields_in, is_loose_shape, IsArena, IsBuilt, IsRowOf, IsDistinct, WeakNodes}
+use Rattle.lk_arena.specs.Values.{Value, Plain, OfRow}
+use Rattle.lk_arena.specs.declared.node.Field.{Field}
+use Rattle.lk_arena.specs.declared.node.Shape.{Shape}
+use Rattle.lk_arena.specs.declared.node.Shape.TheVariants.{Free, Open, Empty, Made}
+use Rattle.lk_arena.specs.declared.node.Shape.TheVariants as shape
 
 -- ---- ends of rows
 

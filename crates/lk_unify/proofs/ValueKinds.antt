@@ -5,23 +5,23 @@ use Rattle.lk_classes.specs.Classes.{class_at}
 use Rattle.lk_types.specs.Each.{Each}
 use Rattle.lk_types.specs.Rows.{Label}
 use Rattle.lk_types.specs.declared.ty.RowTail.TheVariants.{Closed, Var}
-use Rattle.lk_unify.proofs.EachLemmas.{Each-map, Each-zip, Each-from_map}
+use Rattle.lk_arena.proofs.EachLemmas.{Each-map, Each-zip, Each-from_map}
 use Rattle.lk_unify.proofs.EffectRows.{IsEffectRow, IsEffectRow-empty}
-use Rattle.lk_unify.proofs.Heads.{made_plain}
-use Rattle.lk_unify.proofs.RowAlgebra.{found_prop, found_label}
+use Rattle.lk_arena.proofs.Heads.{made_plain}
+use Rattle.lk_arena.proofs.RowAlgebra.{found_prop, found_label}
 use Rattle.lk_unify.proofs.Shaping.{HasValue, unit_is}
-use Rattle.lk_unify.specs.Kinds.{Kind, OfTypes, OfFields, OfEffects, OfUnit, OfNothing, IsEffectName, AreKinded, HasKind}
+use Rattle.lk_arena.specs.Kinds.{Kind, OfTypes, OfFields, OfEffects, OfUnit, OfNothing, IsEffectName, AreKinded, HasKind}
 use Rattle.lk_unify.specs.Models.{IsOwn}
-use Rattle.lk_unify.specs.Openings.{OpenRow, only_tail, unit_type}
-use Rattle.lk_unify.specs.Order.{IsRanked}
+use Rattle.lk_arena.specs.Openings.{OpenRow, only_tail, unit_type}
+use Rattle.lk_arena.specs.Order.{IsRanked}
 use Rattle.lk_unify.specs.Reading.{row_in}
-use Rattle.lk_unify.specs.Shapes.{shape_at, parts_of, found_at, value_at, plain_of, IsRowOf, IsBuilt, IsArena, WeakNodes}
-use Rattle.lk_unify.specs.Values.{Value, Plain, OfRow, IsMadeOf}
-use Rattle.lk_unify.specs.declared.node.Field.{Field}
-use Rattle.lk_unify.specs.declared.node.Head.TheVariants as head
-use Rattle.lk_unify.specs.declared.node.Shape.{Shape}
-use Rattle.lk_unify.specs.declared.node.Shape.TheVariants.{Free, Open, Empty, Made}
-use Rattle.lk_unify.specs.declared.node.Shape.TheVariants as shape
+use Rattle.lk_arena.specs.Shapes.{shape_at, parts_of, found_at, value_at, plain_of, IsRowOf, IsBuilt, IsArena, WeakNodes}
+use Rattle.lk_arena.specs.Values.{Value, Plain, OfRow, IsMadeOf}
+use Rattle.lk_arena.specs.declared.node.Field.{Field}
+use Rattle.lk_arena.specs.declared.node.Head.TheVariants as head
+use Rattle.lk_arena.specs.declared.node.Shape.{Shape}
+use Rattle.lk_arena.specs.declared.node.Shape.TheVariants.{Free, Open, Empty, Made}
+use Rattle.lk_arena.specs.declared.node.Shape.TheVariants as shape
 
 -- effects before a row of effects are one
 module _ (fs : List Field) (w : ℕ → Value) (y x : Value) (row : IsRowOf fs w y x) (units : Each (λ f. IsEffectName f.label × (w f.node ≡ Plain unit_type)) fs) (m : OpenRow) (below : y ≡ OfRow m)

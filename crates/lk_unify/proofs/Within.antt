@@ -24,19 +24,19 @@ use Rattle.lk_unify.proofs.OwnModel.{own_exists, ranks_exist}
 use Rattle.lk_unify.proofs.Shaping.{HasValue}
 use Rattle.lk_unify.proofs.ValueKinds.{own_kinds}
 use Rattle.lk_unify.proofs.ValueCounts.{own_counted}
-use Rattle.lk_unify.specs.Counting.{saturated, count_at, AreCountsOf, IsCountOf}
-use Rattle.lk_unify.specs.Kinds.{Kind, OfTypes, OfFields, OfEffects, OfUnit, OfNothing}
+use Rattle.lk_arena.specs.Counting.{saturated, count_at, AreCountsOf, IsCountOf}
+use Rattle.lk_arena.specs.Kinds.{Kind, OfTypes, OfFields, OfEffects, OfUnit, OfNothing}
 use Rattle.lk_unify.specs.Loading.{node_for, value_of, kind_of, Agrees, IsKinded}
 use Rattle.lk_unify.specs.Models.{IsOwn}
 use Rattle.lk_unify.specs.Nodes.{count, value_count}
-use Rattle.lk_unify.specs.Openings.{as_opening, only_tail, opened}
-use Rattle.lk_unify.specs.Order.{IsRanked}
+use Rattle.lk_arena.specs.Openings.{as_opening, only_tail, opened}
+use Rattle.lk_arena.specs.Order.{IsRanked}
 use Rattle.lk_unify.specs.Reading.{type_in, row_in, effects_in, value_or, opening_by, own_variable, number_of, IsNaming}
-use Rattle.lk_unify.specs.Shapes.{FitsNodes, WeakNodes}
+use Rattle.lk_arena.specs.Shapes.{FitsNodes, WeakNodes}
 use Rattle.lk_unify.specs.Small.{OwnNodes, IsSideOf, AreWithin, HasBeyond}
 use Rattle.lk_unify.specs.Solving.{Says, HasNodes, AreBound, AreLoaded, AreSides, IsSide}
-use Rattle.lk_unify.specs.Values.{Value, Plain, OfRow, effect_row}
-use Rattle.lk_unify.specs.declared.counting.Count.{Count}
+use Rattle.lk_arena.specs.Values.{Value, Plain, OfRow, effect_row}
+use Rattle.lk_arena.specs.declared.counting.Count.{Count}
 use Rattle.lk_unify.specs.declared.loader.Loader.{Loader}
 
 -- ---- numbers that no variable has: those from a base on

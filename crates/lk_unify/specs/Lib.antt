@@ -1,15 +1,6 @@
-pub mod Counting
-pub mod Kinds
 pub mod Loading
-pub mod Measures
 pub mod Models
 pub mod Nodes
-pub mod Openings
-pub mod Order
 pub mod Reading
-pub mod Shapes
 pub mod Small
 pub mod Solving
-pub mod Steps
-pub mod Values
-pub mod Ways

@@ -16,17 +16,17 @@ use Rattle.lk_types.specs.declared.ty.TyField.{TyField}
 use Rattle.lk_types.specs.declared.ty.TyRow.{TyRow}
 use Rattle.lk_types.specs.declared.ty.Variable.{Variable}
 use Rattle.lk_types.specs.declared.ty.Variable.TheVariants as variable
-use Rattle.lk_unify.specs.Kinds.{Kind, OfTypes, OfFields, OfEffects, OfUnit, OfNothing, AreKinded}
-use Rattle.lk_unify.specs.Openings.{OpenRow, OpenEffects, Opening, IsOpenMet, opened, row_opened, effects_opened, only_tail, unit_type}
-use Rattle.lk_unify.specs.Shapes.{IsArena, IsDistinct, SameBelow, FitsNodes, WeakNodes}
-use Rattle.lk_unify.specs.Values.{Value, Plain, OfRow, effect_row}
+use Rattle.lk_arena.specs.Kinds.{Kind, OfTypes, OfFields, OfEffects, OfUnit, OfNothing, AreKinded}
+use Rattle.lk_arena.specs.Openings.{OpenRow, OpenEffects, Opening, IsOpenMet, opened, row_opened, effects_opened, only_tail, unit_type}
+use Rattle.lk_arena.specs.Shapes.{IsArena, IsDistinct, SameBelow, FitsNodes, WeakNodes}
+use Rattle.lk_arena.specs.Values.{Value, Plain, OfRow, effect_row}
 use Rattle.lk_unify.specs.declared.loader.Loader.{Loader}
-use Rattle.lk_unify.specs.declared.node.Field.{Field}
-use Rattle.lk_unify.specs.declared.node.Head.TheVariants as head
-use Rattle.lk_unify.specs.declared.node.Pair.{Pair}
-use Rattle.lk_unify.specs.declared.node.Shape.{Shape}
-use Rattle.lk_unify.specs.declared.node.Shape.TheVariants.{Free, Open, Made}
-use Rattle.lk_unify.specs.declared.node.Shape.TheVariants as shape
+use Rattle.lk_arena.specs.declared.node.Field.{Field}
+use Rattle.lk_arena.specs.declared.node.Head.TheVariants as head
+use Rattle.lk_arena.specs.declared.node.Pair.{Pair}
+use Rattle.lk_arena.specs.declared.node.Shape.{Shape}
+use Rattle.lk_arena.specs.declared.node.Shape.TheVariants.{Free, Open, Made}
+use Rattle.lk_arena.specs.declared.node.Shape.TheVariants as shape
 
 -- ---- what variables, types and rows become, as values
 

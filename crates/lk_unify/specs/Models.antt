@@ -5,13 +5,13 @@ use Rattle.lk_types.specs.Rows.{Row, EffectSet}
 use Rattle.lk_types.specs.declared.ground.Ground.{Ground}
 use Rattle.lk_types.specs.declared.ty.RowTail.TheVariants.{Closed, Var}
 use Rattle.lk_types.specs.declared.ty.Ty.TheVariants as ty
-use Rattle.lk_unify.specs.Kinds.{Kind, OfTypes, OfFields, OfEffects, OfUnit, OfNothing, AreKinded}
-use Rattle.lk_unify.specs.Openings.{only_tail, unit_type, as_type, as_row, as_effects}
-use Rattle.lk_unify.specs.Order.{IsRanked}
-use Rattle.lk_unify.specs.Shapes.{shape_at, IsArena, IsClean, WeakNodes}
-use Rattle.lk_unify.specs.Values.{Value, Plain, OfRow, effect_row}
-use Rattle.lk_unify.specs.declared.node.Shape.{Shape}
-use Rattle.lk_unify.specs.declared.node.Shape.TheVariants.{Free, Open}
+use Rattle.lk_arena.specs.Kinds.{Kind, OfTypes, OfFields, OfEffects, OfUnit, OfNothing, AreKinded}
+use Rattle.lk_arena.specs.Openings.{only_tail, unit_type, as_type, as_row, as_effects}
+use Rattle.lk_arena.specs.Order.{IsRanked}
+use Rattle.lk_arena.specs.Shapes.{shape_at, IsArena, IsClean, WeakNodes}
+use Rattle.lk_arena.specs.Values.{Value, Plain, OfRow, effect_row}
+use Rattle.lk_arena.specs.declared.node.Shape.{Shape}
+use Rattle.lk_arena.specs.declared.node.Shape.TheVariants.{Free, Open}
 
 -- ---- without variables
 

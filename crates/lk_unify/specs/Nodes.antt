@@ -7,10 +7,10 @@ use Rattle.lk_types.specs.declared.ty.RowTail.TheVariants.{Closed, Var}
 use Rattle.lk_types.specs.declared.ty.Ty.{Ty, fold-Ty}
 use Rattle.lk_types.specs.declared.ty.Ty.TheOpen.{Ty-F, TyField-F, TyRow-F}
 use Rattle.lk_types.specs.declared.ty.TyRow.{TyRow, fold-TyRow}
-use Rattle.lk_unify.specs.Counting.{sum_of}
-use Rattle.lk_unify.specs.Kinds.{Kind, OfTypes, OfFields, OfEffects}
-use Rattle.lk_unify.specs.Openings.{OpenRow, row_type}
-use Rattle.lk_unify.specs.Values.{Value, Plain, OfRow}
+use Rattle.lk_arena.specs.Counting.{sum_of}
+use Rattle.lk_arena.specs.Kinds.{Kind, OfTypes, OfFields, OfEffects}
+use Rattle.lk_arena.specs.Openings.{OpenRow, row_type}
+use Rattle.lk_arena.specs.Values.{Value, Plain, OfRow}
 use Rattle.std.specs.FinMap as fin
 
 module _ (closed : ℕ) where

@@ -16,17 +16,17 @@ use Rattle.lk_types.specs.declared.ty.Ty.TheVariants as ty
 use Rattle.lk_types.specs.declared.ty.TyField.{TyField}
 use Rattle.lk_types.specs.declared.ty.Variable.{Variable}
 use Rattle.lk_types.specs.declared.ty.Variable.TheVariants as variable
-use Rattle.lk_unify.specs.Kinds.{Kind, OfTypes, OfFields, OfEffects, OfUnit, OfNothing, AreKinded}
+use Rattle.lk_arena.specs.Kinds.{Kind, OfTypes, OfFields, OfEffects, OfUnit, OfNothing, AreKinded}
 use Rattle.lk_unify.specs.Loading.{node_for}
-use Rattle.lk_unify.specs.Openings.{OpenRow, OpenEffects, Opening, only_tail, row_type, effects_type}
-use Rattle.lk_unify.specs.Order.{IsRanked}
-use Rattle.lk_unify.specs.Shapes.{shape_at, is_loose_shape, IsArena, IsDistinct, IsPlain}
-use Rattle.lk_unify.specs.Values.{Value, Plain, OfRow}
-use Rattle.lk_unify.specs.declared.arena.Arena.{Arena}
+use Rattle.lk_arena.specs.Openings.{OpenRow, OpenEffects, Opening, only_tail, row_type, effects_type}
+use Rattle.lk_arena.specs.Order.{IsRanked}
+use Rattle.lk_arena.specs.Shapes.{shape_at, is_loose_shape, IsArena, IsDistinct, IsPlain}
+use Rattle.lk_arena.specs.Values.{Value, Plain, OfRow}
+use Rattle.lk_arena.specs.declared.arena.Arena.{Arena}
 use Rattle.lk_unify.specs.declared.loader.Loader.{Loader}
-use Rattle.lk_unify.specs.declared.node.Field.{Field}
-use Rattle.lk_unify.specs.declared.node.Head.{Head}
-use Rattle.lk_unify.specs.declared.node.Head.TheVariants as head
+use Rattle.lk_arena.specs.declared.node.Field.{Field}
+use Rattle.lk_arena.specs.declared.node.Head.{Head}
+use Rattle.lk_arena.specs.declared.node.Head.TheVariants as head
 
 abbrev pub type_in : Value → Ty
 type_in (Plain t) = t

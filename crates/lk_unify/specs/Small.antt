@@ -6,15 +6,15 @@ use Rattle.lk_types.specs.Sizes.{most_nodes}
 use Rattle.lk_types.specs.Variables.{equation_variables}
 use Rattle.lk_types.specs.declared.equation.Equation.{Equation}
 use Rattle.lk_types.specs.declared.ty.Ty.{Ty}
-use Rattle.lk_unify.specs.Kinds.{Kind}
+use Rattle.lk_arena.specs.Kinds.{Kind}
 use Rattle.lk_unify.specs.Loading.{IsKinded}
 use Rattle.lk_unify.specs.Models.{IsOwn}
 use Rattle.lk_unify.specs.Nodes.{count}
-use Rattle.lk_unify.specs.Openings.{opened}
-use Rattle.lk_unify.specs.Order.{IsRanked}
+use Rattle.lk_arena.specs.Openings.{opened}
+use Rattle.lk_arena.specs.Order.{IsRanked}
 use Rattle.lk_unify.specs.Reading.{opening_by, IsNaming}
 use Rattle.lk_unify.specs.Solving.{Says, AreBound}
-use Rattle.lk_unify.specs.Values.{Value}
+use Rattle.lk_arena.specs.Values.{Value}
 use Rattle.lk_unify.specs.declared.loader.Loader.{Loader}
 
 -- nodes that say just these equations, and such values of theirs

@@ -5,11 +5,11 @@ use Rattle.lk_types.specs.Solutions.{HasSolution}
 use Rattle.lk_types.specs.Variables.{equation_variables}
 use Rattle.lk_types.specs.declared.equation.Equation.{Equation}
 use Rattle.lk_types.specs.declared.ty.Variable.{Variable}
-use Rattle.lk_unify.specs.Kinds.{Kind, OfTypes}
+use Rattle.lk_arena.specs.Kinds.{Kind, OfTypes}
 use Rattle.lk_unify.specs.Loading.{node_for, type_meaning, IsLoader, IsKinded, SameKinds, Agrees}
-use Rattle.lk_unify.specs.Openings.{Opening, IsOpenMet, OpenSolves}
-use Rattle.lk_unify.specs.Shapes.{FitsNodes, WeakNodes, SameBelow}
-use Rattle.lk_unify.specs.Values.{Value}
+use Rattle.lk_arena.specs.Openings.{Opening, IsOpenMet, OpenSolves}
+use Rattle.lk_arena.specs.Shapes.{FitsNodes, WeakNodes, SameBelow}
+use Rattle.lk_arena.specs.Values.{Value}
 use Rattle.lk_unify.specs.declared.loader.Loader.{Loader}
 
 -- What is put for the variables solves the equations where values of the nodes fit with it, and where it solves them there are

@@ -1,25 +1,14 @@
-//! Unification of types with rows, over numbered nodes that are merged into classes.
+//! Unification of types with rows: the most general solution of a list of equations.
 //!
-//! `specs/Shapes` says which values nodes can have, a value being a type or a row of types (`specs/Values`), and
-//! `specs/Steps` what a new node, a binding of a row or a union of two classes says of them. `specs/Measures` is why merging
-//! ends, `specs/Order` says when no type is a part of itself, and `specs/Kinds` that there are values then.
+//! Equations become nodes that are merged into classes (`lk_arena`). `specs/Loading` and `specs/Solving` say what nodes have to do
+//! with equations, `specs/Models` that there are values of the nodes, and with a variable for each class of which nothing is known;
+//! `specs/Reading` what is read back of those, and `specs/Small` how large the sides of equations are.
 #![tactic(auto)]
 
-mod arena;
 mod chain;
-mod clean;
-mod counting;
-mod depth;
-mod flat;
-mod joining;
-mod kind;
-mod labels;
 mod load;
 mod loader;
-mod merge;
-mod node;
 mod numbers;
-mod order;
 mod reading;
 mod row_fields;
 mod small;
@@ -28,11 +17,8 @@ mod solve;
 mod solve_tests;
 mod unifying;
 
-pub use arena::Arena;
-pub use counting::Count;
 pub use load::load_equation;
 pub use loader::Loader;
-pub use node::{Field, Head, Pair, Shape};
 pub use numbers::numbers_for;
 pub use reading::read_all;
 pub use small::MOST_NODES;

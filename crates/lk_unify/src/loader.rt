@@ -1,6 +1,6 @@
 //! Nodes, and which of them stand for variables.
 
-use crate::arena::Arena;
+use lk_arena::Arena;
 use lk_types::Variable;
 use std::alloc::Global;
 use std::collections::BTreeMap;
@@ -13,7 +13,7 @@ pub struct Loader {
 }
 
 impl Loader {
-    ghost use Rattle.lk_unify.specs.Kinds.{Kind};
+    ghost use Rattle.lk_arena.specs.Kinds.{Kind};
     ghost use Rattle.lk_unify.specs.Loading.{node_for, IsLoader, IsKinded};
     ghost use Rattle.lk_types.specs.declared.ty.Variable.{Variable as TheVariable};
     ghost use Rattle.std.specs.Prelude.{◌≡◌, ℕ, [], None};

@@ -2,11 +2,11 @@
 
 ghost use Rattle.std.specs.Prelude.{◌≡◌, ℕ, ◌<◌, ◌≤◌, ◌+◌, IfOk, IsTrue, false, true, None, length};
 ghost use Rattle.lk_classes.specs.Classes.{class_at};
-ghost use Rattle.lk_unify.specs.Kinds.{Kind};
+ghost use Rattle.lk_arena.specs.Kinds.{Kind};
 ghost use Rattle.lk_unify.specs.Loading.{node_for, IsKinded, IsLoader};
 ghost use Rattle.lk_unify.specs.Reading.{is_own_class, name_in, IsNaming, IsUnused};
 
-use crate::kind::is_loose;
+use lk_arena::is_loose;
 use crate::loader::Loader;
 use lk_ast::NoMemory;
 use lk_types::Variable;

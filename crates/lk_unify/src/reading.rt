@@ -3,18 +3,17 @@
 ghost use Rattle.std.specs.FinMap as fin;
 ghost use Rattle.std.specs.Prelude.{◌≡◌, ℕ, ◌<◌, length, map, IfOk};
 ghost use Rattle.lk_types.specs.Each.{Each};
-ghost use Rattle.lk_unify.specs.Kinds.{Kind, OfTypes, OfFields};
+ghost use Rattle.lk_arena.specs.Kinds.{Kind, OfTypes, OfFields};
 ghost use Rattle.lk_unify.specs.Loading.{kind_of, IsKinded, IsLoader};
 ghost use Rattle.lk_unify.specs.Models.{IsOwn};
-ghost use Rattle.lk_unify.specs.Openings.{OpenRow, row_type};
-ghost use Rattle.lk_unify.specs.Order.{IsRanked};
+ghost use Rattle.lk_arena.specs.Openings.{OpenRow, row_type};
+ghost use Rattle.lk_arena.specs.Order.{IsRanked};
 ghost use Rattle.lk_unify.specs.Reading.{image_of, name_in, number_of, row_in, subst_by, type_in, with_fields, CanRead, CanReadParts, CanStand};
-ghost use Rattle.lk_unify.specs.Values.{IsMadeOf, Value};
+ghost use Rattle.lk_arena.specs.Values.{IsMadeOf, Value};
 
-use crate::arena::Arena;
+use lk_arena::{Arena, Field, Head, Shape};
 use crate::chain::read_effects;
 use crate::loader::Loader;
-use crate::node::{Field, Head, Shape};
 use crate::row_fields::put_field;
 use lk_ast::{Boxed, List, NoMemory};
 use lk_types::{Binding, Image, RowTail, Subst, Ty, TyRow, Variable};

@@ -4,7 +4,7 @@ ghost use Rattle.std.specs.FinMap as fin;
 ghost use Rattle.std.specs.Ordering.{is_lt};
 ghost use Rattle.std.specs.Prelude.{◌≡◌, IfOk, None};
 ghost use Rattle.lk_types.specs.Rows.{label_order};
-ghost use Rattle.lk_unify.specs.Openings.{OpenRow, row_type};
+ghost use Rattle.lk_arena.specs.Openings.{OpenRow, row_type};
 ghost use Rattle.lk_unify.specs.Reading.{place_in, with_entry};
 
 use lk_ast::{List, NoMemory, Text};

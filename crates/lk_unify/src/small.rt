@@ -5,12 +5,11 @@ ghost use Rattle.lk_classes.specs.Classes.{AreClasses};
 ghost use Rattle.lk_types.specs.Each.{Each, OneOf};
 ghost use Rattle.lk_types.specs.Sizes.{most_nodes, AreSmall, IsFirstTooLarge};
 ghost use Rattle.lk_types.specs.Solutions.{HasSolution};
-ghost use Rattle.lk_unify.specs.Counting.{count_at as the_count_at, IsPartsFirst};
+ghost use Rattle.lk_arena.specs.Counting.{count_at as the_count_at, IsPartsFirst};
 ghost use Rattle.lk_unify.specs.Small.{AreWithin, HasBeyond};
 ghost use Rattle.lk_unify.specs.Solving.{AreLoaded, HasNodes};
 
-use crate::counting::{Count, count_at, counts};
-use crate::order::parts_first;
+use lk_arena::{Count, count_at, counts, parts_first};
 use crate::solve::{Loaded, load_all};
 use lk_ast::NoMemory;
 use lk_classes::Classes;

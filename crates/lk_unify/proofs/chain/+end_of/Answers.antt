@@ -1,7 +1,7 @@
 use Rattle.std.proofs.Common.{sym, ◌∙◌, ap}
 use Rattle.lk_unify.proofs.ReadRows.{effects_end}
 use Rattle.lk_unify.proofs.chain.+end_of.Goals as goal
-use Rattle.lk_unify.specs.Shapes.{shape_at}
+use Rattle.lk_arena.specs.Shapes.{shape_at}
 
 pub returns-in-Row : goal.returns-in-Row
 returns-in-Row t c u own =

@@ -2,7 +2,7 @@ use Rattle.std.proofs.Common.{sym, ◌∙◌, ap}
 use Rattle.std.specs.Prelude.{is_some}
 use Rattle.lk_unify.proofs.ReadRows.{effect_own, effect_below, effect_none}
 use Rattle.lk_unify.proofs.chain.+row_has.Goals as goal
-use Rattle.lk_unify.specs.Shapes.{shape_at, found_at}
+use Rattle.lk_arena.specs.Shapes.{shape_at, found_at}
 
 pub returns-then-is_some : goal.returns-then-is_some
 returns-then-is_some t c u own =

@@ -5,7 +5,7 @@ use Rattle.lk_types.specs.declared.ty.Effect.TheVariants.{Local, Move, Print, Re
 use Rattle.lk_unify.proofs.chain.labels_of.Given as goal
 use Rattle.lk_unify.specs.Models.{IsOwn}
 use Rattle.lk_unify.specs.Reading.{effects_in, name_in, row_in}
-use Rattle.lk_unify.specs.Values.{Value}
+use Rattle.lk_arena.specs.Values.{Value}
 
 abbrev pub invariant-loop-effect : goal.invariant-loop-effect
 invariant-loop-effect l =

@@ -6,7 +6,7 @@ use Rattle.lk_unify.proofs.LoadRows.{row_end_as, loads_row_end, loaded_row, neve
 use Rattle.lk_unify.proofs.LoadSteps.{loaded_some, loaded_none, all_some, all_lacking, fields_some, fields_lacking}
 use Rattle.lk_unify.proofs.LoadTypes.{loads_int, loads_bool, loads_text, loads_var, loads_list, never_list, loads_record, never_record, loads_variant, never_variant, loaded_function, never_as, never_second, never_others}
 use Rattle.lk_unify.proofs.load.+loading.Goals as goal
-use Rattle.lk_unify.specs.Kinds.{OfTypes, OfFields}
+use Rattle.lk_arena.specs.Kinds.{OfTypes, OfFields}
 use Rattle.lk_unify.specs.Loading.{type_meaning, types_meaning, row_meaning, Loaded, LoadedAll, AddsFunction, LoadsAll, LoadsFields}
 
 pub load_list-returns-in_default : goal.load_list-returns-in_default

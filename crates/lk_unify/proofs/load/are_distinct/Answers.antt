@@ -1,4 +1,4 @@
-use Rattle.lk_unify.proofs.Distinct.{distinct_twice, distinct_more, distinct_less, distinct_end}
+use Rattle.lk_arena.proofs.Distinct.{distinct_twice, distinct_more, distinct_less, distinct_end}
 use Rattle.lk_unify.proofs.load.are_distinct.Goals as goal
 use Rattle.std.proofs.Common.{sym, ◌∙◌}
 

@@ -2,8 +2,8 @@ use Rattle.std.proofs.Common.{◌≡◌, true, false, refl, ◌∙◌, ap, subst
 use Rattle.lk_unify.proofs.LoadRows.{effects_end_as, loads_effects_end, loaded_effects, some_effects}
 use Rattle.lk_unify.proofs.load.load_effects.Goals as goal
 use Rattle.lk_unify.specs.Loading.{Adds, effect_fields}
-use Rattle.lk_unify.specs.declared.node.Head.TheVariants as head
-use Rattle.lk_unify.specs.declared.node.Shape.TheVariants.{Made}
+use Rattle.lk_arena.specs.declared.node.Head.TheVariants as head
+use Rattle.lk_arena.specs.declared.node.Shape.TheVariants.{Made}
 
 pub returns-then-is_empty : goal.returns-then-is_empty
 returns-then-is_empty c =

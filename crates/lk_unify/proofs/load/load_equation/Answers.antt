@@ -1,7 +1,7 @@
 use Rattle.lk_unify.proofs.LoadEquations.{never_left, never_right, loads_equation}
 use Rattle.lk_unify.proofs.LoadSteps.{loaded_some, loaded_none}
 use Rattle.lk_unify.proofs.load.load_equation.Goals as goal
-use Rattle.lk_unify.specs.Kinds.{OfTypes}
+use Rattle.lk_arena.specs.Kinds.{OfTypes}
 use Rattle.lk_unify.specs.Loading.{type_meaning}
 
 pub returns-in_default : goal.returns-in_default

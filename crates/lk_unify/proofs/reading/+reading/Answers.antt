@@ -6,9 +6,9 @@ use Rattle.lk_unify.proofs.ReadParts.{made_can}
 use Rattle.lk_unify.proofs.ReadRows.{fields_can, fields_open, fields_none, fields_row, next_new, next_row}
 use Rattle.lk_unify.proofs.ReadMade.{list_read, fields_read, tags_read, function_read}
 use Rattle.lk_unify.proofs.reading.+reading.Goals as goal
-use Rattle.lk_unify.specs.Openings.{row_type}
+use Rattle.lk_arena.specs.Openings.{row_type}
 use Rattle.lk_unify.specs.Reading.{name_in, row_in, with_fields, with_entry}
-use Rattle.lk_unify.specs.Shapes.{shape_at}
+use Rattle.lk_arena.specs.Shapes.{shape_at}
 
 pub read_type-read_made-requires : goal.read_type-read_made-requires
 read_type-read_made-requires t c =

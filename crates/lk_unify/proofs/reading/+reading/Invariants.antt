@@ -1,9 +1,9 @@
 use Rattle.std.proofs.Common.{◌≡◌, ℕ, ◌+◌, ◌*◌, ◌++◌, drop, map}
 use Rattle.lk_unify.proofs.reading.+reading.Given as goal
 use Rattle.lk_unify.specs.Models.{IsOwn}
-use Rattle.lk_unify.specs.Openings.{OpenRow, row_type}
+use Rattle.lk_arena.specs.Openings.{OpenRow, row_type}
 use Rattle.lk_unify.specs.Reading.{name_in, type_in, with_fields, CanStand}
-use Rattle.lk_unify.specs.Values.{Value}
+use Rattle.lk_arena.specs.Values.{Value}
 
 -- A part is read with less fuel than the whole.
 abbrev pub decreases-read_type : goal.decreases-read_type

@@ -5,7 +5,7 @@ use Rattle.lk_unify.proofs.reading.read_all.Given as goal
 use Rattle.lk_unify.specs.Loading.{node_for}
 use Rattle.lk_unify.specs.Models.{IsOwn}
 use Rattle.lk_unify.specs.Reading.{name_in, subst_by}
-use Rattle.lk_unify.specs.Values.{Value}
+use Rattle.lk_arena.specs.Values.{Value}
 
 abbrev pub invariant-loop-variable : goal.invariant-loop-variable
 invariant-loop-variable l = record {

@@ -1,8 +1,8 @@
 use Rattle.std.proofs.Common.{◌<◌, subst}
 use Rattle.lk_types.specs.Sizes.{most_nodes}
-use Rattle.lk_unify.proofs.EachLemmas.{OneOf-get_or}
+use Rattle.lk_arena.proofs.EachLemmas.{OneOf-get_or}
 use Rattle.lk_unify.proofs.small.sides_within.Goals as goal
-use Rattle.lk_unify.specs.Counting.{count_at}
+use Rattle.lk_arena.specs.Counting.{count_at}
 
 pub returns-then-count-gt-MOST_NODES-clause-beyond : goal.returns-then-count-gt-MOST_NODES-clause-beyond
 returns-then-count-gt-MOST_NODES-clause-beyond c no_more =

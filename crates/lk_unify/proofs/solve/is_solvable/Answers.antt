@@ -2,8 +2,8 @@ use Rattle.std.proofs.Common.{length, subst}
 use Rattle.std.specs.Prelude.{ℕ, IfSome}
 use Rattle.lk_unify.proofs.Decided.{solvable_by, never_fitting}
 use Rattle.lk_unify.proofs.solve.is_solvable.Goals as goal
-use Rattle.lk_unify.specs.Order.{IsRanked}
-use Rattle.lk_unify.specs.Shapes.{NeverFits}
+use Rattle.lk_arena.specs.Order.{IsRanked}
+use Rattle.lk_arena.specs.Shapes.{NeverFits}
 use Rattle.lk_unify.specs.Solving.{AreLoaded}
 
 pub returns-then-not-branch-clause-never : goal.returns-then-not-branch-clause-never

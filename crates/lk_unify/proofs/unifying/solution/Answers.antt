@@ -1,4 +1,4 @@
-use Rattle.lk_unify.proofs.Placed.{places}
+use Rattle.lk_arena.proofs.Placed.{places}
 use Rattle.lk_unify.proofs.ReadSolution.{read_solution}
 use Rattle.lk_unify.proofs.unifying.solution.Goals as goal
 use Rattle.lk_unify.specs.Reading.{name_in}

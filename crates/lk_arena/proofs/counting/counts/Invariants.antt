@@ -1,0 +1,9 @@
+use Rattle.std.proofs.Common.{◌≡◌, length}
+use Rattle.lk_arena.proofs.CountSums.{AreDone}
+use Rattle.lk_arena.proofs.counting.counts.Given as goal
+
+abbrev pub invariant-loop-node : goal.invariant-loop-node
+invariant-loop-node l = record {
+  count : length l.counts.items ≡ length l.shapes;
+  done : AreDone l.closed l.shapes l.classes l.order l.counts.items l.node-index;
+}

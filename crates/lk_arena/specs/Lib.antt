@@ -1,0 +1,9 @@
+pub mod Counting
+pub mod Kinds
+pub mod Measures
+pub mod Openings
+pub mod Order
+pub mod Shapes
+pub mod Steps
+pub mod Values
+pub mod Ways

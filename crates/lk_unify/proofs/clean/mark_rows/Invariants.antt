@@ -1,5 +1,0 @@
-use Rattle.lk_unify.proofs.clean.mark_rows.Given as goal
-use Rattle.lk_unify.specs.Ways.{AreMarked}
-
-abbrev pub invariant-loop-i : goal.invariant-loop-i
-invariant-loop-i l = AreMarked l.arena.shapes l.arena.classes l.marks.items

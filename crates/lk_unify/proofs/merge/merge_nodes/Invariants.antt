@@ -1,9 +1,0 @@
-use Rattle.lk_unify.proofs.merge.merge_nodes.Given as goal
-use Rattle.lk_unify.specs.Measures.{weight}
-use Rattle.lk_unify.specs.Steps.{Leads}
-
-abbrev pub invariant-loop-pair : goal.invariant-loop-pair
-invariant-loop-pair l = Leads l.left l.right l.fn.arena.shapes l.fn.arena.classes l.arena.shapes l.arena.classes l.queue
-
-abbrev pub decreases-loop-pair : goal.decreases-loop-pair
-decreases-loop-pair l = weight l.arena.shapes l.arena.classes

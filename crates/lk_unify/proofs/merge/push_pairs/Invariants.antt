@@ -1,6 +1,0 @@
-use Rattle.std.proofs.Common.{◌≡◌, ◌++◌, take}
-use Rattle.lk_unify.proofs.merge.push_pairs.Given as goal
-use Rattle.lk_unify.specs.Steps.{paired}
-
-abbrev pub invariant-loop-i : goal.invariant-loop-i
-invariant-loop-i l = l.queue ≡ l.initial.queue ++ paired (take l.i l.lefts) (take l.i l.rights)
