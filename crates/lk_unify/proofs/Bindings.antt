@@ -1,46 +1,29 @@
 -- What a substitution that is read back of the nodes puts for a variable.
-use Rattle.std.proofs.Common.{◌≡◌, ℕ, Bool, true, false, List, [], ◌∷◌, ◌++◌, ◌⊎◌, inl, inr, Option, Some, None, cond, refl, sym, ◌∙◌, ap, subst}
+use Rattle.std.proofs.Common.{◌≡◌, ℕ, Bool, true, false, List, [], ◌∷◌, ◌++◌, ◌⊎◌, inl, inr, Option, Some, None, cond, refl, sym, ◌∙◌, ap}
 use Rattle.std.proofs.lemmas.Bool.{eqb-true, eq-eqb}
 use Rattle.std.specs.FinMap as fin
 use Rattle.std.specs.Map.{lookup}
 use Rattle.std.specs.Option.{option_map, option_or}
 use Rattle.std.specs.Prelude.{◌==◌, flat_map, is_some}
-use Rattle.lk_types.specs.Rows.{Label, label_order, no_effects}
+use Rattle.lk_types.specs.Rows.{label_order}
 use Rattle.lk_types.specs.Solutions.{first_image, plain_of, row_of, effects_of, plain_image, row_image, effects_image, IsUnbound}
 use Rattle.lk_types.specs.TypeText.{effect_word}
 use Rattle.lk_types.specs.Variables.{same_variable}
 use Rattle.lk_types.specs.declared.equation.Binding.{Binding}
 use Rattle.lk_types.specs.declared.equation.Image.{Image}
-use Rattle.lk_types.specs.declared.equation.Image.TheVariants as image
 use Rattle.lk_types.specs.declared.ty.Effect.{Effect}
-use Rattle.lk_types.specs.declared.ty.Effects.{Effects}
 use Rattle.lk_types.specs.declared.ty.RowTail.TheVariants.{Var}
-use Rattle.lk_types.specs.declared.ty.Ty.{Ty}
 use Rattle.lk_types.specs.declared.ty.Ty.TheVariants as ty
-use Rattle.lk_types.specs.declared.ty.TyRow.{TyRow}
 use Rattle.lk_types.specs.declared.ty.Variable.{Variable}
 use Rattle.lk_types.specs.declared.ty.Variable.TheVariants as variable
+use Rattle.lk_arena.proofs.RowAlgebra.{bool_cases}
 use Rattle.lk_unify.proofs.Instances.{PutsAt}
+use Rattle.lk_unify.proofs.SameVariable.{same_is}
 use Rattle.lk_unify.specs.Loading.{node_for}
 use Rattle.lk_arena.specs.Openings.{only_tail, only_effects_tail, row_type, effects_type}
 use Rattle.lk_unify.specs.Reading.{type_in, row_in, effects_in, value_or, opening_by, image_of, number_of, binding_by, subst_by}
 use Rattle.lk_arena.specs.Values.{Value, Plain, OfRow}
 use Rattle.lk_unify.specs.declared.loader.Loader.{Loader}
-
-bool_cases : (b : Bool) → (b ≡ true) ⊎ (b ≡ false)
-bool_cases true = inl refl
-bool_cases false = inr refl
-
-same_is : (x y : Variable) → same_variable x y ≡ true → x ≡ y
-same_is (variable.Plain m) (variable.Plain n) same = ap variable.Plain (eqb-true m n same)
-same_is (variable.Row m) (variable.Row n) same = ap variable.Row (eqb-true m n same)
-same_is (variable.Effects m) (variable.Effects n) same = ap variable.Effects (eqb-true m n same)
-same_is (variable.Plain m) (variable.Row n) same = cc
-same_is (variable.Plain m) (variable.Effects n) same = cc
-same_is (variable.Row m) (variable.Plain n) same = cc
-same_is (variable.Row m) (variable.Effects n) same = cc
-same_is (variable.Effects m) (variable.Plain n) same = cc
-same_is (variable.Effects m) (variable.Row n) same = cc
 
 same_none : {A : Type 0} (b : Bool) → cond {A = Option A} b None None ≡ None
 same_none true = refl

@@ -1,10 +1,10 @@
 -- How large the sides of equations are under what is read back of the nodes. Where each end of a row counts one no side gets smaller
 -- by more equations, so that one look at the whole list can be enough.
-use Rattle.std.proofs.Common.{◌≡◌, ℕ, ◌+◌, ◌<◌, ◌≤◌, List, [], ◌∷◌, inl, inr, length, map, take, Option, Some, refl, sym, ◌∙◌, ap, subst, arith}
+use Rattle.std.proofs.Common.{◌≡◌, ℕ, ◌+◌, ◌<◌, ◌≤◌, List, [], ◌∷◌, inl, inr, length, map, take, Some, sym, ◌∙◌, ap, subst, arith}
 use Rattle.std.specs.FinMap as fin
 use Rattle.std.specs.Option.{option_map}
 use Rattle.lk_types.proofs.Unfold.{nodes_variable}
-use Rattle.lk_types.specs.Each.{Each, OneOf}
+use Rattle.lk_types.specs.Each.{Each}
 use Rattle.lk_types.specs.Rows.{Label}
 use Rattle.lk_types.specs.Sizes.{nodes, row_nodes_with, effects_nodes, nodes_with, one, size_of_image, image_size, size_under, most_nodes, IsWithin, IsBeyond, IsFine, IsTooLarge, AreSmall}
 use Rattle.lk_types.specs.Solutions.{HasSolution, IsMet}
@@ -12,7 +12,6 @@ use Rattle.lk_types.specs.declared.equation.Equation.{Equation}
 use Rattle.lk_types.specs.declared.equation.Subst.{Subst}
 use Rattle.lk_types.specs.declared.ty.RowTail.TheVariants.{Var}
 use Rattle.lk_types.specs.declared.ty.Ty.{Ty}
-use Rattle.lk_types.specs.declared.ty.Ty.TheVariants as ty
 use Rattle.lk_types.specs.declared.ty.Variable.{Variable}
 use Rattle.lk_types.specs.declared.ty.Variable.TheVariants as variable
 use Rattle.lk_unify.proofs.Bindings.{puts_at}
@@ -27,10 +26,10 @@ use Rattle.lk_unify.proofs.SolvedForm.{own_solves, solution_of}
 use Rattle.lk_unify.proofs.ValueCounts.{own_least}
 use Rattle.lk_unify.proofs.Within.{own_agrees, own_of_nodes}
 use Rattle.lk_arena.specs.Counting.{sum_of}
-use Rattle.lk_arena.specs.Kinds.{Kind, OfTypes}
+use Rattle.lk_arena.specs.Kinds.{OfTypes}
 use Rattle.lk_unify.specs.Loading.{Agrees}
 use Rattle.lk_unify.specs.Nodes.{count, value_count}
-use Rattle.lk_arena.specs.Openings.{Opening, OpenSolves, IsOpenMet, opened, only_tail, row_type, effects_type, field_type}
+use Rattle.lk_arena.specs.Openings.{Opening, IsOpenMet, opened, only_tail, row_type, effects_type, field_type}
 use Rattle.lk_unify.specs.Reading.{opening_by, subst_by}
 use Rattle.lk_arena.specs.Shapes.{FitsNodes, WeakNodes}
 use Rattle.lk_unify.specs.Small.{OwnNodes, IsSideOf, AreWithin, HasBeyond}

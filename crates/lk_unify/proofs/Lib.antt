@@ -47,6 +47,7 @@ pub mod ReadSolution
 pub mod ReadVariables
 pub mod RowCounts
 pub mod RowsBefore
+pub mod SameVariable
 pub mod Shaping
 pub mod Solved
 pub mod SolvedForm

@@ -1,10 +1,7 @@
 -- The node of a variable.
 use Rattle.std.proofs.Common.{◌≡◌, ℕ, ◌+◌, ◌<◌, Bool, true, false, ◌⊎◌, inl, inr, ⊎_elim, length, refl, sym, ◌∙◌, ap, subst, arith, Some, None, cond}
-use Rattle.std.proofs.lemmas.Bool.{eqb-true, eq-eqb}
-use Rattle.std.proofs.lemmas.Bool.Decides.{nat_tests}
 use Rattle.std.specs.BTreeMap.{get, is_at}
 use Rattle.std.specs.Map.{lookup}
-use Rattle.std.specs.Ordering.{is_eq}
 use Rattle.lk_types.specs.Each.{Each}
 use Rattle.lk_arena.specs.Openings.{Opening}
 use Rattle.lk_types.specs.Variables.{same_variable}
@@ -12,45 +9,13 @@ use Rattle.lk_types.specs.contracts.ty.VariableOrd.TheImpl.{cmp-value}
 use Rattle.lk_types.specs.declared.ty.Variable.{Variable}
 use Rattle.lk_types.specs.declared.ty.Variable.TheVariants as variable
 use Rattle.lk_unify.proofs.LoadKinds.{put, old_kind, new_kind, kinded_nodes}
+use Rattle.lk_unify.proofs.SameVariable.{agrees, test_is, same_is, same_self}
 use Rattle.lk_unify.proofs.LoadSteps.{some_once, one_longer, same_names, added_below, added_back, added_node, added_arena}
 use Rattle.lk_arena.specs.Kinds.{Kind, HasKind, AreKinded}
 use Rattle.lk_unify.specs.Loading.{KindsTo, kind_of, node_for, value_of, shape_for, IsLoader, Loads, Adds}
 use Rattle.lk_arena.specs.Shapes.{parts_of, fields_in, IsArena, IsBuilt, IsDistinct, HasFields, FitsNodes, WeakNodes}
 use Rattle.lk_arena.specs.Values.{Value}
 use Rattle.lk_unify.specs.declared.loader.Loader.{Loader}
-
--- ---- the same variable
-
-agrees : (x y : Variable) → is_eq (cmp-value.it x y) ≡ same_variable x y
-agrees (variable.Plain m) (variable.Plain n) = grind (arith, nat_tests)
-agrees (variable.Plain m) (variable.Row n) = refl
-agrees (variable.Plain m) (variable.Effects n) = refl
-agrees (variable.Row m) (variable.Plain n) = refl
-agrees (variable.Row m) (variable.Row n) = grind (arith, nat_tests)
-agrees (variable.Row m) (variable.Effects n) = refl
-agrees (variable.Effects m) (variable.Plain n) = refl
-agrees (variable.Effects m) (variable.Row n) = refl
-agrees (variable.Effects m) (variable.Effects n) = grind (arith, nat_tests)
-
--- the test by which the map looks for a variable
-test_is : (x : Variable) → is_at (cmp-value.it x) ≡ same_variable x
-test_is x i y = agrees x y i
-
-same_is : (x y : Variable) → same_variable x y ≡ true → x ≡ y
-same_is (variable.Plain m) (variable.Plain n) same = ap variable.Plain (eqb-true m n same)
-same_is (variable.Row m) (variable.Row n) same = ap variable.Row (eqb-true m n same)
-same_is (variable.Effects m) (variable.Effects n) same = ap variable.Effects (eqb-true m n same)
-same_is (variable.Plain m) (variable.Row n) same = cc
-same_is (variable.Plain m) (variable.Effects n) same = cc
-same_is (variable.Row m) (variable.Plain n) same = cc
-same_is (variable.Row m) (variable.Effects n) same = cc
-same_is (variable.Effects m) (variable.Plain n) same = cc
-same_is (variable.Effects m) (variable.Row n) same = cc
-
-same_self : (x : Variable) → same_variable x x ≡ true
-same_self (variable.Plain m) = eq-eqb m m refl
-same_self (variable.Row m) = eq-eqb m m refl
-same_self (variable.Effects m) = eq-eqb m m refl
 
 -- what the map finds
 pub found_is : (l : Loader) (x : Variable) → get cmp-value.it l.names x ≡ node_for l x

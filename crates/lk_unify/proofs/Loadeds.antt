@@ -1,6 +1,6 @@
 -- Equations that are made into nodes one after another.
-use Rattle.std.proofs.Common.{◌≡◌, ℕ, zero, suc, ◌+◌, ◌<◌, ◌≤◌, List, [], ◌∷◌, ◌++◌, ◌⊎◌, inl, inr, ⊎_elim, length, take, get_or, refl, sym, subst, ◌∙◌, ap, arith, Option, Some, None}
-use Rattle.std.proofs.lemmas.List.{take_all, take_more}
+use Rattle.std.proofs.Common.{◌≡◌, ℕ, zero, suc, ◌+◌, ◌<◌, ◌≤◌, List, [], ◌∷◌, ◌++◌, ◌⊎◌, inl, inr, ⊎_elim, length, take, get_or, refl, sym, subst, ◌∙◌, ap, arith}
+use Rattle.std.proofs.lemmas.List.{take_more}
 use Rattle.std.specs.Prelude.{IsSome}
 use Rattle.lk_types.specs.Each.{Each}
 use Rattle.lk_types.specs.Solutions.{HasSolution}
@@ -11,11 +11,9 @@ use Rattle.lk_arena.proofs.EachLemmas.{Each-append, Each-append_left, Each-appen
 use Rattle.lk_unify.proofs.Grounded.{open_solves}
 use Rattle.lk_unify.proofs.Solving.{bound_still}
 use Rattle.lk_arena.specs.Kinds.{Kind, OfTypes}
-use Rattle.lk_unify.specs.Loading.{node_for, Agrees, IsKinded, SameKinds}
-use Rattle.lk_arena.specs.Openings.{Opening, IsOpenMet, OpenSolves, as_opening}
-use Rattle.lk_arena.specs.Shapes.{FitsNodes, WeakNodes}
+use Rattle.lk_unify.specs.Loading.{node_for, IsKinded, SameKinds}
+use Rattle.lk_arena.specs.Openings.{IsOpenMet, OpenSolves, as_opening}
 use Rattle.lk_unify.specs.Solving.{Says, HasNodes, AddsEquation, AreBound, AreLoaded, AreSides, IsSide, IsStart, NeverMeets}
-use Rattle.lk_arena.specs.Values.{Value}
 use Rattle.lk_unify.specs.declared.loader.Loader.{Loader}
 
 -- ---- the first of a list

@@ -1,7 +1,5 @@
 -- The variables that have nodes, one after another.
-use Rattle.std.proofs.Common.{◌≡◌, ℕ, ◌<◌, true, false, List, [], ◌∷◌, ◌++◌, append_assoc, flat_map, length, map, refl, sym, ◌∙◌, ap, arith, Some, cond}
-use Rattle.std.proofs.lemmas.Bool.{eq-eqb}
-use Rattle.std.proofs.lemmas.Bool.Decides.{nat_tests}
+use Rattle.std.proofs.Common.{◌≡◌, ℕ, ◌<◌, false, List, [], ◌∷◌, ◌++◌, append_assoc, flat_map, length, map, refl, sym, ◌∙◌, ap, Some, cond}
 use Rattle.std.specs.List.{AllByRecursion}
 use Rattle.std.specs.List.Sorted.{IsStrictlySortedBy}
 use Rattle.std.specs.Map.{lookup, keys_of}
@@ -15,8 +13,8 @@ use Rattle.lk_types.specs.contracts.ty.VariableOrd.TheImpl.{cmp-value}
 use Rattle.lk_types.specs.declared.equation.Binding.{Binding}
 use Rattle.lk_types.specs.declared.equation.Image.{Image}
 use Rattle.lk_types.specs.declared.ty.Variable.{Variable}
-use Rattle.lk_types.specs.declared.ty.Variable.TheVariants as variable
 use Rattle.lk_arena.specs.Kinds.{Kind}
+use Rattle.lk_unify.proofs.SameVariable.{agrees, same_self, same_back}
 use Rattle.lk_unify.specs.Loading.{node_for, kind_of, IsLoader, IsKinded}
 use Rattle.lk_arena.specs.Order.{IsRanked}
 use Rattle.lk_unify.specs.Reading.{CanRead, image_of, number_of, binding_by}
@@ -43,33 +41,6 @@ by_nodes l u (e ∷ es) all =
     ∙ ap (λ o. binding_by e.0 u o ++ flat_map (λ e. binding_by e.0 u (node_for l e.0)) es) (sym all.0)
 
 -- ---- each entry is found by its variable
-
-agrees : (x y : Variable) → is_eq (cmp-value.it x y) ≡ same_variable x y
-agrees (variable.Plain m) (variable.Plain n) = grind (arith, nat_tests)
-agrees (variable.Plain m) (variable.Row n) = refl
-agrees (variable.Plain m) (variable.Effects n) = refl
-agrees (variable.Row m) (variable.Plain n) = refl
-agrees (variable.Row m) (variable.Row n) = grind (arith, nat_tests)
-agrees (variable.Row m) (variable.Effects n) = refl
-agrees (variable.Effects m) (variable.Plain n) = refl
-agrees (variable.Effects m) (variable.Row n) = refl
-agrees (variable.Effects m) (variable.Effects n) = grind (arith, nat_tests)
-
-same_self : (x : Variable) → same_variable x x ≡ true
-same_self (variable.Plain m) = eq-eqb m m refl
-same_self (variable.Row m) = eq-eqb m m refl
-same_self (variable.Effects m) = eq-eqb m m refl
-
-same_back : (x y : Variable) → same_variable x y ≡ same_variable y x
-same_back (variable.Plain m) (variable.Plain n) = grind (arith, nat_tests)
-same_back (variable.Plain m) (variable.Row n) = refl
-same_back (variable.Plain m) (variable.Effects n) = refl
-same_back (variable.Row m) (variable.Plain n) = refl
-same_back (variable.Row m) (variable.Row n) = grind (arith, nat_tests)
-same_back (variable.Row m) (variable.Effects n) = refl
-same_back (variable.Effects m) (variable.Plain n) = refl
-same_back (variable.Effects m) (variable.Row n) = refl
-same_back (variable.Effects m) (variable.Effects n) = grind (arith, nat_tests)
 
 apart : (x y : Variable) (o : Ordering) → cmp-value.it x y ≡ o → o ≡ Less → same_variable y x ≡ false
 apart x y o is less = same_back y x ∙ sym (agrees x y) ∙ ap is_eq (is ∙ less)

@@ -1,16 +1,12 @@
 -- What is read back of the nodes is a most general solution in solved form.
-use Rattle.std.proofs.Common.{◌≡◌, ℕ, ◌+◌, ◌<◌, ◌≤◌, true, List, [], ◌∷◌, ◌++◌, ◌⊎◌, inl, inr, length, take, flat_map, Option, Some, None, refl, sym, ◌∙◌, ap, subst, arith}
-use Rattle.lk_classes.specs.Classes.{class_at}
+use Rattle.std.proofs.Common.{◌≡◌, ℕ, List, [], ◌∷◌, flat_map, Option, Some, None, refl, sym, ◌∙◌, ap, subst}
 use Rattle.lk_types.specs.Each.{Each}
 use Rattle.lk_types.specs.Sizes.{IsSolution}
-use Rattle.lk_types.specs.Solutions.{HasSolution, Solves, IsMostGeneral, IsSolvedForm, IsUnbound, plain_image, row_image, effects_image}
+use Rattle.lk_types.specs.Solutions.{HasSolution, IsMostGeneral, IsUnbound}
 use Rattle.lk_types.specs.Variables.{variables_of, variables_of_row, effects_variables, image_variables, equation_variables}
 use Rattle.lk_types.specs.declared.equation.Binding.{Binding}
 use Rattle.lk_types.specs.declared.equation.Equation.{Equation}
 use Rattle.lk_types.specs.declared.equation.Subst.{Subst}
-use Rattle.lk_types.specs.declared.ty.RowTail.TheVariants.{Var}
-use Rattle.lk_types.specs.declared.ty.Ty.{Ty}
-use Rattle.lk_types.specs.declared.ty.Ty.TheVariants as ty
 use Rattle.lk_types.specs.declared.ty.Variable.{Variable}
 use Rattle.lk_types.specs.declared.ty.Variable.TheVariants as variable
 use Rattle.lk_unify.proofs.Bindings.{puts_at, unbound}
@@ -21,16 +17,14 @@ use Rattle.lk_unify.proofs.OpenEffects.{effects_in_row}
 use Rattle.lk_unify.proofs.OpenVariables.{IsGivenOfNames, own_type_variables, own_row_variables, own_effects_variables}
 use Rattle.lk_unify.proofs.Within.{own_agrees}
 use Rattle.lk_arena.specs.Kinds.{Kind, OfTypes, OfFields, OfEffects, OfUnit, OfNothing, HasKind}
-use Rattle.lk_unify.specs.Loading.{node_for, kind_of, value_of}
-use Rattle.lk_arena.specs.Openings.{Opening, OpenSolves, IsOpenMet, opened, only_tail, only_effects_tail, row_type, effects_type}
-use Rattle.lk_unify.specs.Reading.{type_in, row_in, effects_in, opening_by, image_of, number_of, binding_by, subst_by, own_variable}
-use Rattle.lk_arena.specs.Shapes.{shape_at, is_loose_shape}
+use Rattle.lk_unify.specs.Loading.{node_for}
+use Rattle.lk_arena.specs.Openings.{Opening, OpenSolves, row_type, effects_type}
+use Rattle.lk_unify.specs.Reading.{type_in, row_in, effects_in, opening_by, image_of, binding_by, subst_by, own_variable}
+use Rattle.lk_arena.specs.Shapes.{is_loose_shape}
 use Rattle.lk_unify.specs.Small.{OwnNodes}
-use Rattle.lk_arena.specs.Values.{Value, Plain, OfRow, effect_row}
+use Rattle.lk_arena.specs.Values.{Value}
 use Rattle.lk_unify.specs.declared.loader.Loader.{Loader}
-use Rattle.lk_arena.specs.declared.node.Shape.{Shape}
-use Rattle.lk_arena.specs.declared.node.Shape.TheVariants.{Free, Open, Empty, Made}
-use Rattle.lk_arena.specs.declared.node.Shape.TheVariants as shape
+use Rattle.lk_arena.specs.declared.node.Shape.TheVariants.{Free}
 
 -- a class of which nothing is known is of types or of rows
 free_kind : (kind : ℕ → Kind) (k : Kind) → HasKind kind k Free → k ≡ OfTypes

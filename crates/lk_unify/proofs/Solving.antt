@@ -1,5 +1,5 @@
 -- What nodes say when variables get nodes, when one equation more is made into nodes, and when its sides are merged.
-use Rattle.std.proofs.Common.{◌≡◌, ℕ, refl, ◌+◌, ◌<◌, ◌≤◌, List, [], ◌∷◌, ◌++◌, length, sym, subst, ◌∙◌, ap, arith, Option, Some, None}
+use Rattle.std.proofs.Common.{◌≡◌, ℕ, refl, ◌<◌, List, [], ◌∷◌, ◌++◌, length, sym, subst, ◌∙◌, ap, arith, Option, Some, None}
 use Rattle.std.specs.Map.{lookup}
 use Rattle.std.specs.Prelude.{IsSome}
 use Rattle.lk_types.specs.declared.ty.RowTail.TheVariants.{Closed}
@@ -7,9 +7,9 @@ use Rattle.lk_types.specs.Variables.{same_variable}
 use Rattle.lk_types.specs.declared.equation.Equation.{Equation}
 use Rattle.lk_types.specs.declared.ty.Variable.{Variable}
 use Rattle.lk_arena.specs.Kinds.{Kind, OfTypes}
-use Rattle.lk_unify.specs.Loading.{node_for, kind_of, end_value, type_meaning, Agrees, IsLoader, IsKinded, SameKinds, Loads, LoadsEquation, LoadedEquation}
-use Rattle.lk_arena.specs.Openings.{Opening, IsOpenMet, only_tail}
-use Rattle.lk_arena.specs.Shapes.{FitsNodes, WeakNodes, NeverSame}
+use Rattle.lk_unify.specs.Loading.{node_for, kind_of, end_value, Agrees, IsLoader, IsKinded, Loads, LoadsEquation}
+use Rattle.lk_arena.specs.Openings.{Opening, only_tail}
+use Rattle.lk_arena.specs.Shapes.{WeakNodes, NeverSame}
 use Rattle.lk_unify.specs.Solving.{AddsEquation, AreBound, IsStart, NeverMeets}
 use Rattle.lk_arena.specs.Steps.{Leads}
 use Rattle.lk_arena.specs.Values.{Value, OfRow}

@@ -1,6 +1,6 @@
 -- What the values of nodes count. Where each class of which nothing is known is a variable, the counts follow from each other by the
 -- shapes; and no values that fit count less.
-use Rattle.std.proofs.Common.{◌≡◌, ℕ, zero, suc, ◌+◌, ◌<◌, ◌≤◌, true, false, List, [], length, map, refl, sym, ◌∙◌, ap, ap₂, subst, arith}
+use Rattle.std.proofs.Common.{◌≡◌, ℕ, zero, suc, ◌+◌, ◌<◌, ◌≤◌, true, false, List, length, map, refl, sym, ◌∙◌, ap, ap₂, subst, arith}
 use Rattle.std.specs.FinMap as fin
 use Rattle.lk_classes.specs.Classes.{class_at}
 use Rattle.lk_types.specs.Each.{Each}

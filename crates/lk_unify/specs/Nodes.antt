@@ -1,6 +1,6 @@
 -- How many nodes types, rows and effects have, where the end of a closed row counts `closed`. With 0 it is how large they are; with
 -- 1 it is a number that never falls when types are put for variables, since each end counts one.
-use Rattle.std.specs.Prelude.{ℕ, ◌+◌, List, length}
+use Rattle.std.specs.Prelude.{ℕ, ◌+◌, length}
 use Rattle.lk_types.specs.declared.ty.Effects.{Effects}
 use Rattle.lk_types.specs.declared.ty.RowTail.{RowTail}
 use Rattle.lk_types.specs.declared.ty.RowTail.TheVariants.{Closed, Var}
@@ -9,7 +9,7 @@ use Rattle.lk_types.specs.declared.ty.Ty.TheOpen.{Ty-F, TyField-F, TyRow-F}
 use Rattle.lk_types.specs.declared.ty.TyRow.{TyRow, fold-TyRow}
 use Rattle.lk_arena.specs.Counting.{sum_of}
 use Rattle.lk_arena.specs.Kinds.{Kind, OfTypes, OfFields, OfEffects}
-use Rattle.lk_arena.specs.Openings.{OpenRow, row_type}
+use Rattle.lk_arena.specs.Openings.{row_type}
 use Rattle.lk_arena.specs.Values.{Value, Plain, OfRow}
 use Rattle.std.specs.FinMap as fin
 

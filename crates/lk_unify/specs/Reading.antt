@@ -1,7 +1,7 @@
 -- What is read back of the classes: what their values put for the variables.
 use Rattle.std.specs.FinMap as fin
 use Rattle.std.specs.Ordering.{is_lt}
-use Rattle.std.specs.Prelude.{◌≡◌, ◌==◌, ◌&&◌, ℕ, suc, ◌<◌, Bool, true, List, [], ◌∷◌, flat_map, length, map, slice_index_or as get_or, Option, Some, None, is_some, if◌then◌else◌}
+use Rattle.std.specs.Prelude.{◌≡◌, ◌==◌, ◌&&◌, ℕ, suc, ◌<◌, Bool, true, List, [], ◌∷◌, flat_map, length, slice_index_or as get_or, Option, Some, None, is_some, if◌then◌else◌}
 use Rattle.lk_classes.specs.Classes.{class_at}
 use Rattle.lk_types.specs.Each.{Each}
 use Rattle.lk_types.specs.Rows.{Label, label_order}

@@ -8,7 +8,7 @@ use Rattle.lk_types.specs.declared.ty.Variable.{Variable}
 use Rattle.lk_arena.specs.Kinds.{Kind, OfTypes}
 use Rattle.lk_unify.specs.Loading.{node_for, type_meaning, IsLoader, IsKinded, SameKinds, Agrees}
 use Rattle.lk_arena.specs.Openings.{Opening, IsOpenMet, OpenSolves}
-use Rattle.lk_arena.specs.Shapes.{FitsNodes, WeakNodes, SameBelow}
+use Rattle.lk_arena.specs.Shapes.{FitsNodes, WeakNodes}
 use Rattle.lk_arena.specs.Values.{Value}
 use Rattle.lk_unify.specs.declared.loader.Loader.{Loader}
 

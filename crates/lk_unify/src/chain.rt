@@ -3,13 +3,13 @@
 ghost use Rattle.std.specs.FinMap as fin;
 ghost use Rattle.std.specs.List.{filter};
 ghost use Rattle.std.specs.Prelude.{◌≡◌, ℕ, List, is_some, IfOk};
-ghost use Rattle.lk_types.specs.TypeText.{effect_word};
 ghost use Rattle.lk_arena.specs.Kinds.{OfEffects};
 ghost use Rattle.lk_unify.specs.Models.{IsOwn};
 ghost use Rattle.lk_arena.specs.Openings.{effects_type};
 ghost use Rattle.lk_unify.specs.Reading.{CanRead, effects_in, name_in, row_in};
 ghost use Rattle.lk_arena.specs.Values.{Value};
 
+use crate::load::label_of;
 use lk_arena::{Arena, Shape, node_of};
 use lk_ast::{List, NoMemory, Text};
 use lk_types::{Effect, Effects, RowTail};
@@ -25,21 +25,6 @@ const EFFECTS: [Effect; 7] = [
     Effect::Trap,
     Effect::Write,
 ];
-
-/// The name of an effect as a label.
-fn word_of(alloc: Global, effect: Effect) -> Result<Text, NoMemory>
-    ensures { IfOk result (λ label. label ≡ effect_word effect) }
-{
-    match effect {
-        Effect::Local => Text::from_str(alloc, "local"),
-        Effect::Move => Text::from_str(alloc, "move"),
-        Effect::Print => Text::from_str(alloc, "print"),
-        Effect::Rec => Text::from_str(alloc, "rec"),
-        Effect::Scan => Text::from_str(alloc, "scan"),
-        Effect::Trap => Text::from_str(alloc, "trap"),
-        Effect::Write => Text::from_str(alloc, "write"),
-    }
-}
 
 /// Whether a row of effects has this label.
 fn row_has(arena: &Arena, numbers: &[u32], fuel: usize, node: usize, label: &Text) -> bool
@@ -83,7 +68,7 @@ fn labels_of(
 {
     let mut labels = List::new(alloc);
     for effect in &EFFECTS {
-        let word = word_of(alloc, *effect)?;
+        let word = label_of(alloc, *effect)?;
         if row_has(arena, numbers, fuel, node, &word) {
             labels.push(*effect)?;
         }

@@ -81,7 +81,7 @@ fn load_end(loader: &mut Loader, tail: Option<Variable>) -> Result<usize, NoMemo
 }
 
 /// The name of an effect as a label.
-fn label_of(alloc: Global, effect: Effect) -> Result<Text, NoMemory>
+pub fn label_of(alloc: Global, effect: Effect) -> Result<Text, NoMemory>
     ensures { IfOk result (λ label. label ≡ effect_word effect) }
 {
     match effect {

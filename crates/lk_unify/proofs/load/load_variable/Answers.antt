@@ -2,7 +2,6 @@ use Rattle.std.proofs.Common.{refl, sym, ◌∙◌, subst}
 use Rattle.lk_unify.proofs.LoadVariables.{loads_known, loads_named, new_name}
 use Rattle.lk_unify.proofs.load.load_variable.Goals as goal
 use Rattle.lk_unify.specs.Loading.{Adds}
-use Rattle.lk_unify.specs.declared.loader.Loader.{Loader}
 
 pub returns-in-Some-clause-loads : goal.returns-in-Some-clause-loads
 returns-in-Some-clause-loads c = loads_known c.args.loader.now c.args.variable c.in-Some.node c.requires (sym c.node_for.ensures ∙ c.in-Some.is)

@@ -1,8 +1,7 @@
 use Rattle.std.proofs.Common.{refl, subst}
 use Rattle.lk_unify.proofs.Solving.{adds_equation, never_same}
 use Rattle.lk_unify.proofs.solve.add_equation.Goals as goal
-use Rattle.lk_unify.specs.Loading.{LoadedEquation, LoadsEquation}
-use Rattle.lk_unify.specs.declared.loader.Loader.{Loader}
+use Rattle.lk_unify.specs.Loading.{LoadedEquation}
 
 pub returns-in_default-clause-never : goal.returns-in_default-clause-never
 returns-in_default-clause-never c v ρ fits agrees met =

@@ -1,4 +1,4 @@
-use Rattle.std.specs.Prelude.{ℕ, ◌-◌, ◌<◌, ◌≤◌, length, take}
+use Rattle.std.specs.Prelude.{◌-◌, ◌<◌, ◌≤◌, length, take}
 use Rattle.lk_types.specs.Solutions.{HasSolution}
 use Rattle.lk_unify.proofs.solve.first_unsolvable.Given as goal
 

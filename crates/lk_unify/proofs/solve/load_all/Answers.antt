@@ -1,4 +1,4 @@
-use Rattle.std.proofs.Common.{sym, subst, ◌∷◌, [], ◌++◌}
+use Rattle.std.proofs.Common.{sym, subst}
 use Rattle.lk_unify.proofs.Loadeds.{loaded_none, loaded_more, loaded_never}
 use Rattle.lk_unify.proofs.solve.load_all.Goals as goal
 use Rattle.lk_unify.specs.Solving.{AddsEquation, AreLoaded, NeverMeets}
