@@ -136,8 +136,9 @@ module _ (es : List Equation) (o : OwnNodes es) (k : ℕ) (part : HasNodes (take
 
   pub first_within : Each (IsSideOf o 1 (λ n. n ≤ most_nodes)) es → AreWithin 0 (take k es)
   first_within within = (
-      p,
-      within_first (take k es) part.sides part.sides_are part.types (each_first (IsSideOf o 1 (λ n. n ≤ most_nodes)) k es within) (own_solves (take k es) p))
+    p,
+    within_first (take k es) part.sides part.sides_are part.types (each_first (IsSideOf o 1 (λ n. n ≤ most_nodes)) k es within) (own_solves (take k es) p),
+  )
 
 -- where no side is too large though each end counts one, all first parts are small
 pub all_small : (es : List Equation) → AreWithin 1 es → HasSolution es → ((j : ℕ) → j ≤ length es → HasNodes (take j es)) → AreSmall es

@@ -87,7 +87,7 @@ with_one e s x =
     ap is_some (hit (effect_row s).fields (effect_word e) unit_type (effect_word x) h.1) ∙ sym (ap (λ b. b || s.labels x) (same_words e x ∙ h.0)))
     (λ (h : bytes_eq (effect_word x) (effect_word e) ≡ false).
     ap is_some (miss (effect_row s).fields (effect_word e) unit_type (effect_word x)
-        (λ same. (let t : false ≡ true = sym h ∙ (bytes_decides (effect_word x) (effect_word e)).1 same in cc)))
+    (λ same. (let t : false ≡ true = sym h ∙ (bytes_decides (effect_word x) (effect_word e)).1 same in cc)))
     ∙ set_in-effect_row s x ∙ sym (ap (λ b. b || s.labels x) (same_words e x ∙ h)))
     (label_cases (effect_word x) (effect_word e))
 

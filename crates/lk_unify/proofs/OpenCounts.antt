@@ -163,7 +163,7 @@ no_less = record {
       (let a = count_rolled 0 fs tail in
       let b = count_rolled 1 fs tail in
       let fields = sums_below (λ (f : TyField). 1 + count 0 f.ty) (λ f. 1 + count 1 f.ty) fs
-          (Each-map (λ (f : TyField). NoLess f.ty) (λ f. 1 + count 0 f.ty ≤ 1 + count 1 f.ty) one_more_below fs each) in
+      (Each-map (λ (f : TyField). NoLess f.ty) (λ f. 1 + count 0 f.ty ≤ 1 + count 1 f.ty) one_more_below fs each) in
       let end = end_count_below tail in
       omega arith);
 }

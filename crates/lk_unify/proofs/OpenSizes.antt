@@ -202,7 +202,7 @@ module _ (ρ : Opening) where
   effects_sized es s e =
       let tail : OpenEffects = effects_tail_opened ρ es.tail in
       let m : (labels : EffectSet) × (before_effects es.labels tail.labels ≡ Some labels) × ((record { labels = labels; tail = tail.tail }) ≡ s) =
-          mapped (λ labels. record { labels = labels; tail = tail.tail }) (before_effects es.labels tail.labels) s e in
+      mapped (λ labels. record { labels = labels; tail = tail.tail }) (before_effects es.labels tail.labels) s e in
       let a : effects_count 0 (effects_type s) ≡ length (effects_of m.0) + end_count 0 tail.tail = ap (λ s. effects_count 0 (effects_type s)) (sym m.2) in
       let b = before_effects_length es.labels tail.labels m.0 m.1 in
       let c = effects_tail_sized es.tail in

@@ -97,9 +97,10 @@ module _ (es : List Equation) (o : OwnNodes es) where
   most_general = record {
     sound = λ σ τ at sides. instance_solves σ s τ ρ (puts_at l u) es own_solves at sides;
     general = λ σ solves. (
-        instance_by l o.kind o.kinded o.rank o.ranked o.name o.owner o.naming o.values o.own es o.says σ solves,
-        instance_all σ s (instance_by l o.kind o.kinded o.rank o.ranked o.name o.owner o.naming o.values o.own es o.says σ solves) ρ (puts_at l u) (equation_variables es)
-            (opens_all l o.kind o.kinded o.rank o.ranked o.name o.owner o.naming o.values o.own es o.says σ solves (equation_variables es) o.bound));
+      instance_by l o.kind o.kinded o.rank o.ranked o.name o.owner o.naming o.values o.own es o.says σ solves,
+      instance_all σ s (instance_by l o.kind o.kinded o.rank o.ranked o.name o.owner o.naming o.values o.own es o.says σ solves) ρ (puts_at l u) (equation_variables es)
+          (opens_all l o.kind o.kinded o.rank o.ranked o.name o.owner o.naming o.values o.own es o.says σ solves (equation_variables es) o.bound),
+    );
   }
 
   pub solution_of : HasSolution es → IsSolution (subst_by o.loader o.values) es

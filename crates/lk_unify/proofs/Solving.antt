@@ -71,9 +71,10 @@ start_nothing l whole no_shapes kinded no_names = record {
   kind = λ i. OfTypes;
   kinded = kinded (λ i. OfTypes);
   forth = λ ρ. (
-      (λ i. OfRow (only_tail Closed)),
-      record { builds = λ i under. absurd (nothing i under); respects = λ i under. absurd (nothing i (subst (λ n. i < n) whole.arena.named.count under)) },
-      record { at = λ x n is. absurd (unnamed x n is) });
+    (λ i. OfRow (only_tail Closed)),
+    record { builds = λ i under. absurd (nothing i under); respects = λ i under. absurd (nothing i (subst (λ n. i < n) whole.arena.named.count under)) },
+    record { at = λ x n is. absurd (unnamed x n is) },
+  );
 }
   where
     nothing : (i : ℕ) → i < length l.arena.shapes → ⊥

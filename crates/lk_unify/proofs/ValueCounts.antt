@@ -52,9 +52,9 @@ module _ (closed : ℕ) (kind : ℕ → Kind) (w : ℕ → Value) where
       let b = row_count_fields closed fs w r.tail r.row d row in
       let c : value_count closed k y ≡ row_count closed (row_type r.tail) = ap₂ (value_count closed) e r.tail_is in
       let f : sum_of (map (λ f. 1 + plain_count closed (w f.node)) fs) ≡ sum_of (map (λ f. 1 + of_node f.node) fs) =
-          sums_same (λ (f : Field). 1 + plain_count closed (w f.node)) (λ f. 1 + of_node f.node) fs
-          (Each-map (λ (f : Field). kind f.node ≡ OfTypes) (λ f. 1 + plain_count closed (w f.node) ≡ 1 + of_node f.node)
-          (λ f e. ap (λ n. 1 + n) (plain_of_kind (kind f.node) (w f.node) e)) fs kinds) in
+      sums_same (λ (f : Field). 1 + plain_count closed (w f.node)) (λ f. 1 + of_node f.node) fs
+      (Each-map (λ (f : Field). kind f.node ≡ OfTypes) (λ f. 1 + plain_count closed (w f.node) ≡ 1 + of_node f.node)
+      (λ f e. ap (λ n. 1 + n) (plain_of_kind (kind f.node) (w f.node) e)) fs kinds) in
       omega arith
 
   effects_row : (fs : List Field) (k : Kind) (y x : Value) → k ≡ OfEffects → IsDistinct fs → IsRowOf fs w y x → value_count closed OfEffects x ≡ length fs + value_count closed k y
@@ -171,7 +171,7 @@ counted_below closed OfFields (Made h ps) f g e = omega arith
 counted_below closed OfFields (shape.Row fs t) f g e =
     let a = e.0 in
     let b = sums_below (λ (x : Field). 1 + f x.node) (λ x. 1 + g x.node) fs
-        (Each-map (λ (x : Field). f x.node ≤ g x.node) (λ x. 1 + f x.node ≤ 1 + g x.node) (λ x h. omega arith) fs (Each-from_map (λ p. f p ≤ g p) (λ (x : Field). x.node) fs e.1)) in
+    (Each-map (λ (x : Field). f x.node ≤ g x.node) (λ x. 1 + f x.node ≤ 1 + g x.node) (λ x h. omega arith) fs (Each-from_map (λ p. f p ≤ g p) (λ (x : Field). x.node) fs e.1)) in
     omega arith
 counted_below closed OfEffects Free f g e = omega arith
 counted_below closed OfEffects Open f g e = omega arith
@@ -189,8 +189,8 @@ module _ (shapes : List Shape) (classes : List ℕ) (kind : ℕ → Kind) (rank 
       let c = class_at classes i in
       let a = own_counted shapes classes kind arena kinded name u own 1 i b in
       let e = counted_below 1 (kind i) (shape_at shapes c) (of_node 1 kind u) (of_node 1 kind v)
-          (Each-zip (λ p. rank (class_at classes p) < rank c) (λ p. p < length shapes) (λ p. of_node 1 kind u p ≤ of_node 1 kind v p) (λ p r l. least_below n p l (omega arith))
-          (parts_of (shape_at shapes c)) (ranked c (arena.named.below i b) (arena.named.named i b)) (arena.nodes c (arena.named.below i b))) in
+      (Each-zip (λ p. rank (class_at classes p) < rank c) (λ p. p < length shapes) (λ p. of_node 1 kind u p ≤ of_node 1 kind v p) (λ p r l. least_below n p l (omega arith))
+      (parts_of (shape_at shapes c)) (ranked c (arena.named.below i b) (arena.named.named i b)) (arena.nodes c (arena.named.below i b))) in
       let f = least_class shapes classes kind arena kinded v fits i b in
       omega arith
 

@@ -189,8 +189,8 @@ module _ (closed : ℕ) {es : List Equation} (o : OwnNodes es) (counts : List Co
   its_count e n side kind =
       let t = of_plain (opened (opening_by o.loader o.values) e.left) (o.values n) (side.meaning o.values (opening_by o.loader o.values) o.own.fits (own_agrees o)) in
       let counts_are =
-          counted o.kind (λ i. value_count closed (o.kind i) (o.values i)) o.kinded.nodes
-          (own_counted o.loader.arena.shapes o.loader.arena.classes o.kind o.says.whole.arena o.kinded.nodes o.name o.values o.own closed) n side.below in
+      counted o.kind (λ i. value_count closed (o.kind i) (o.values i)) o.kinded.nodes
+      (own_counted o.loader.arena.shapes o.loader.arena.classes o.kind o.says.whole.arena o.kinded.nodes o.name o.values o.own closed) n side.below in
       (t.0, t.1, of_types (o.kind n) (count_at o.loader.arena.classes counts n) (o.values n) t.0 kind t.2 counts_are)
 
   within_at : (e : Equation) (n : ℕ) → IsSideWith e n → side_count n ≤ most_nodes → IsSideOf o closed (λ n. n ≤ most_nodes) e

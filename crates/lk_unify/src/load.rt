@@ -6,8 +6,8 @@ ghost use Rattle.lk_arena.specs.Kinds.{OfTypes, OfFields, OfEffects};
 ghost use Rattle.lk_arena.specs.Shapes.{IsDistinct};
 ghost use Rattle.lk_unify.specs.Loading.{type_meaning, types_meaning, row_meaning, effects_meaning, end_value, shape_for, kind_of, IsLoader, Adds, AddsRow, AddsFunction, Loads, LoadsEnd, Loaded, LoadedAll, LoadedFields, LoadedEquation, effect_fields, node_for};
 
-use lk_arena::{Field, Head, Pair, Shape, node_of};
 use crate::loader::Loader;
+use lk_arena::{Field, Head, Pair, Shape, node_of};
 use lk_ast::{List, NoMemory, Text};
 use lk_types::{Effect, Effects, Equation, Ty, TyField, TyRow, Variable};
 use std::alloc::Global;

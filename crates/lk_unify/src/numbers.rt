@@ -6,8 +6,8 @@ ghost use Rattle.lk_arena.specs.Kinds.{Kind};
 ghost use Rattle.lk_unify.specs.Loading.{node_for, IsKinded, IsLoader};
 ghost use Rattle.lk_unify.specs.Reading.{is_own_class, name_in, IsNaming, IsUnused};
 
-use lk_arena::is_loose;
 use crate::loader::Loader;
+use lk_arena::is_loose;
 use lk_ast::NoMemory;
 use lk_types::Variable;
 use std::alloc::Global;

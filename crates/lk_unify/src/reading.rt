@@ -11,10 +11,10 @@ ghost use Rattle.lk_arena.specs.Order.{IsRanked};
 ghost use Rattle.lk_unify.specs.Reading.{image_of, name_in, number_of, row_in, subst_by, type_in, with_fields, CanRead, CanReadParts, CanStand};
 ghost use Rattle.lk_arena.specs.Values.{IsMadeOf, Value};
 
-use lk_arena::{Arena, Field, Head, Shape};
 use crate::chain::read_effects;
 use crate::loader::Loader;
 use crate::row_fields::put_field;
+use lk_arena::{Arena, Field, Head, Shape};
 use lk_ast::{Boxed, List, NoMemory};
 use lk_types::{Binding, Image, RowTail, Subst, Ty, TyRow, Variable};
 use std::alloc::Global;

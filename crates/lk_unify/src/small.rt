@@ -9,8 +9,8 @@ ghost use Rattle.lk_arena.specs.Counting.{count_at as the_count_at, IsPartsFirst
 ghost use Rattle.lk_unify.specs.Small.{AreWithin, HasBeyond};
 ghost use Rattle.lk_unify.specs.Solving.{AreLoaded, HasNodes};
 
-use lk_arena::{Count, count_at, counts, parts_first};
 use crate::solve::{Loaded, load_all};
+use lk_arena::{Count, count_at, counts, parts_first};
 use lk_ast::NoMemory;
 use lk_classes::Classes;
 use lk_types::Equation;
@@ -70,8 +70,18 @@ pub fn is_within(alloc: Global, equations: &[Equation], closed: usize) -> Result
     let nodes = load_ordered(alloc, equations)?;
     let arena = &nodes.all.loader.arena;
     let shapes = arena.shapes.as_slice();
-    let counts = counts(alloc, shapes, &arena.classes, nodes.order.as_slice(), closed)?;
-    let within = sides_within(&arena.classes, nodes.all.sides.as_slice(), counts.as_slice());
+    let counts = counts(
+        alloc,
+        shapes,
+        &arena.classes,
+        nodes.order.as_slice(),
+        closed,
+    )?;
+    let within = sides_within(
+        &arena.classes,
+        nodes.all.sides.as_slice(),
+        counts.as_slice(),
+    );
     Ok(within)
 }
 

@@ -6,9 +6,9 @@ ghost use Rattle.lk_unify.specs.Loading.{IsLoader};
 ghost use Rattle.lk_unify.specs.Solving.{AddsEquation, AreBound, AreLoaded, IsFirstWithout, IsStart, NeverMeets};
 ghost use Rattle.std.specs.Prelude.{◌≡◌, false, length, IfNone, IfOk, IfSome, IsTrue, OnOk};
 
-use lk_arena::{is_clean, is_ordered, merge_nodes};
 use crate::load::{load_equation, load_variable};
 use crate::loader::Loader;
+use lk_arena::{is_clean, is_ordered, merge_nodes};
 use lk_ast::{List, NoMemory};
 use lk_types::{Equation, Variable, push_variables};
 use std::alloc::Global;
