@@ -191,17 +191,17 @@ fn sides_count_under_the_solution(rt: HostRuntime) -> Result<(), Fail> {
     check(&rt, alloc, other.as_slice(), "too large 2")
 }
 
-/// `(a:t1,b:t1)`.
-fn twice(alloc: Global, number: u32) -> Result<Ty, Fail> {
+/// `t1 = (a:t0,b:t0)` for these two variables, the second of which stands first.
+fn twice(alloc: Global, number: u32, above: u32) -> Result<Equation, Fail> {
     let text = format!(in alloc; "(a:t{number},b:t{number})")?;
-    read_type(alloc, text.as_str())
+    Ok(is(above, read_type(alloc, text.as_str())?))
 }
 
-/// `t2 = (a:t1,b:t1)`, `t3 = (a:t2,b:t2)`, and so on.
+/// `t1 = (a:t0,b:t0)`, `t2 = (a:t1,b:t1)`, and so on.
 fn doubled(alloc: Global, count: u32) -> Result<Vec<Equation>, Fail> {
     let mut equations = Vec::new(alloc);
-    for number in 1..count + 1 {
-        equations.push(is(number + 1, twice(alloc, number)?))?;
+    for number in 0..count {
+        equations.push(twice(alloc, number, number + 1)?)?;
     }
     Ok(equations)
 }
@@ -209,8 +209,9 @@ fn doubled(alloc: Global, count: u32) -> Result<Vec<Equation>, Fail> {
 /// The same, the last one first.
 fn doubled_from_above(alloc: Global, count: u32) -> Result<Vec<Equation>, Fail> {
     let mut equations = Vec::new(alloc);
-    for number in (1..count + 1).rev() {
-        equations.push(is(number + 1, twice(alloc, number)?))?;
+    for number in 0..count {
+        let above = count - number;
+        equations.push(twice(alloc, above - 1, above)?)?;
     }
     Ok(equations)
 }
@@ -252,10 +253,10 @@ fn the_first_fault_is_found(rt: HostRuntime) -> Result<(), Fail> {
     check(&rt, alloc, one.as_slice(), "no solution 0")?;
     let mut all = doubled(alloc, 40)?;
     all.push(is(1, Ty::Int))?;
-    all.push(is(41, Ty::Int))?;
+    all.push(is(40, Ty::Int))?;
     check(&rt, alloc, all.as_slice(), "too large 10")?;
     let mut all = doubled(alloc, 10)?;
-    all.push(is(11, Ty::Int))?;
+    all.push(is(10, Ty::Int))?;
     all.append(&mut doubled(alloc, 40)?)?;
     check(&rt, alloc, all.as_slice(), "no solution 10")
 }

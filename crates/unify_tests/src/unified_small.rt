@@ -5,11 +5,9 @@ use crate::agreement::{
     EFFECTS, Family, LISTS, MIXED, Numbers, RECORDS, VARIANTS, equations_of, system,
 };
 use crate::images::Images;
-use crate::small_groundings::{
-    Grounding, equation_variables, find_in_effects, find_in_row, find_in_type, is_met,
-};
-use crate::type_reader::{read_equations, read_type};
-use crate::unified::{answer, images_of, text_under};
+use crate::small_groundings::{equation_variables, find_in_effects, find_in_row, find_in_type};
+use crate::type_reader::read_equations;
+use crate::unified::{images_of, text_under};
 use lk_ast::NoMemory;
 use lk_types::{Binding, Equation, Image, Subst, Variable};
 use lk_unify::{UnifyError, first_unsolvable, unify};
@@ -141,4 +139,27 @@ fn solutions_of_small_systems(rt: HostRuntime) -> Result<(), Fail> {
         check_family(&rt, alloc, &family, 1, 1000)?;
     }
     check_family(&rt, alloc, &MIXED, 2, 3000)
+}
+
+// With `rt try --test --fail-alloc N` one allocation fails. This test then fails in reading its texts, if it does, and at no
+// assertion.
+#[test]
+fn want_of_memory_changes_no_other_answer(rt: HostRuntime) -> Result<(), Fail> {
+    let alloc = rt.alloc();
+    let texts = [
+        "(a:Int|t1) = (b:[t3]|t2)",
+        "(t3) {print|t1}-> t4 = (Bool) {|t2}-> [t3]",
+        "t4 = Int",
+    ];
+    let equations = read_equations(alloc, &texts)?;
+    let solved = unify(alloc, &equations[..2]);
+    assert!(rt; matches!(solved, Ok(_) | Err(UnifyError::NoMemory)));
+    let refused = unify(alloc, equations.as_slice());
+    assert!(rt;
+        matches!(
+            refused,
+            Err(UnifyError::NoSolution(2) | UnifyError::NoMemory)
+        )
+    );
+    Ok(())
 }
