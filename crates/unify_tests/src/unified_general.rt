@@ -8,7 +8,7 @@ use crate::type_reader::{read_equations, read_type};
 use crate::unified::{images_of, text_under};
 use lk_ast::NoMemory;
 use lk_types::{Equation, Ty, Variable};
-use lk_unify::{first_unsolvable, unify};
+use lk_unify::{UnifyError, first_unsolvable, unify};
 use std::alloc::Global;
 use std::process::Abort;
 use std::test::Fail;
@@ -93,11 +93,14 @@ fn check_general_of(
     text: &str,
 ) -> Result<(), Fail> {
     let equations = equations_of(alloc, text)?;
-    let Ok(subst) = unify(alloc, equations.as_slice()) else {
-        return Ok(());
-    };
-    let images = images_of(alloc, &subst)?;
-    check_general(rt, alloc, universe, equations.as_slice(), &images)
+    match unify(alloc, equations.as_slice()) {
+        Ok(subst) => {
+            let images = images_of(alloc, &subst)?;
+            check_general(rt, alloc, universe, equations.as_slice(), &images)
+        }
+        Err(UnifyError::NoSolution(_)) => Ok(()),
+        Err(_) => Err(Fail::new(format_args!("{text}"))),
+    }
 }
 
 #[test]

@@ -146,14 +146,12 @@ fn solutions_of_small_systems(rt: HostRuntime) -> Result<(), Fail> {
 #[test]
 fn want_of_memory_changes_no_other_answer(rt: HostRuntime) -> Result<(), Fail> {
     let alloc = rt.alloc();
-    let texts = [
-        "(a:Int|t1) = (b:[t3]|t2)",
-        "(t3) {print|t1}-> t4 = (Bool) {|t2}-> [t3]",
-        "t4 = Int",
-    ];
-    let equations = read_equations(alloc, &texts)?;
-    let solved = unify(alloc, &equations[..2]);
+    let first = "(a:Int|t1) = (b:[t3]|t2)";
+    let second = "(t3) {print|t1}-> t4 = (Bool) {|t2}-> [t3]";
+    let equations = read_equations(alloc, &[first, second])?;
+    let solved = unify(alloc, equations.as_slice());
     assert!(rt; matches!(solved, Ok(_) | Err(UnifyError::NoMemory)));
+    let equations = read_equations(alloc, &[first, second, "t4 = Int"])?;
     let refused = unify(alloc, equations.as_slice());
     assert!(rt;
         matches!(
