@@ -8,6 +8,7 @@ use Rattle.lk_ast.specs.declared.declaration.TableDecl.{TableDecl}
 use Rattle.lk_types.specs.Each.{Each}
 use Rattle.lk_types.specs.Grounding.{Grounding, Known, all_of, before_effects, effect_tail, function_of, under, ty_level, field_level, row_level}
 use Rattle.lk_types.specs.Rows.{Row, EffectSet, no_effects, same_effect}
+use Rattle.lk_types.specs.declared.equation.Equation.{Equation}
 use Rattle.lk_types.specs.declared.ground.Ground.{Ground}
 use Rattle.lk_types.specs.declared.scheme.Scheme.{Scheme}
 use Rattle.lk_types.specs.declared.ty.Effect.{Effect}
@@ -18,7 +19,10 @@ use Rattle.lk_types.specs.declared.ty.Ty.{Ty, fold-Ty}
 use Rattle.lk_types.specs.declared.ty.Ty.TheOpen.{Ty-F, TyField-F, TyRow-F}
 use Rattle.lk_typing.specs.Groups.{group_types, group_walked}
 use Rattle.lk_typing.specs.Names.{Named}
-use Rattle.lk_typing.specs.Steps.{Said, Same, Typed, Step, Meets}
+use Rattle.lk_typing.specs.Steps.{equation_of, Meets}
+use Rattle.lk_typing.specs.declared.step.Said.{Said}
+use Rattle.lk_typing.specs.declared.step.Said.TheVariants.{Same, Typed}
+use Rattle.lk_typing.specs.declared.step.Step.{Step}
 
 -- ---- rows of effects in types
 
@@ -49,7 +53,7 @@ IsEven before t = Each (λ es. HasBefore before es.labels es.tail) (rows_of t)
 
 abbrev pub IsEvenSaid : (ℕ → EffectSet) → Said → Type 0
 IsEvenSaid before (Same equation) = IsEven before equation.left × IsEven before equation.right
-IsEvenSaid before (Typed t) = IsEven before t
+IsEvenSaid before (Typed n t) = IsEven before t
 
 abbrev pub AreEven : (ℕ → EffectSet) → List Step → Type 0
 AreEven before steps = Each (λ step. IsEvenSaid before step.said) steps
@@ -70,9 +74,11 @@ loose_level σ other = ty_level σ other
 unfoldable pub loosely : Grounding → Ty → Option Ground
 loosely σ = fold-Ty (Option Ground) Known (Option Row) (loose_level σ) (field_level σ) (row_level σ)
 
+abbrev pub IsMetLoosely : Grounding → Equation → Type 0
+IsMetLoosely σ equation = (t : Ground) × (loosely σ equation.left ≡ Some t) × (loosely σ equation.right ≡ Some t)
+
 abbrev pub HoldsLoosely : Grounding → Said → Type 0
-HoldsLoosely σ (Same equation) = (t : Ground) × (loosely σ equation.left ≡ Some t) × (loosely σ equation.right ≡ Some t)
-HoldsLoosely σ (Typed t) = IsSome (loosely σ t)
+HoldsLoosely σ said = IsMetLoosely σ (equation_of said)
 
 abbrev pub MeetsLoosely : Grounding → List Step → Type 0
 MeetsLoosely σ steps = Each (λ step. HoldsLoosely σ step.said) steps

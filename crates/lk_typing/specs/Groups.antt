@@ -21,7 +21,8 @@ use Rattle.lk_types.specs.declared.ty.Ty.{Ty}
 use Rattle.lk_types.specs.declared.ty.Ty.TheVariants as ty
 use Rattle.lk_typing.specs.Names.{Named, names_of, types_of, texts, Entry, One, Many}
 use Rattle.lk_typing.specs.Signatures.{HasSignature, signing}
-use Rattle.lk_typing.specs.Steps.{Step, same_at}
+use Rattle.lk_typing.specs.Steps.{same_at}
+use Rattle.lk_typing.specs.declared.step.Step.{Step}
 use Rattle.lk_typing.specs.Types.{function_of}
 use Rattle.lk_typing.specs.Typing.{HasType, HasIf, is_marked}
 use Rattle.lk_typing.specs.Unknowns.{effects_of, same}

@@ -1,26 +1,25 @@
 -- What a walk through a text says of types, in order: that two are the same, and what the type of a node is. Types of
--- expressions are written with variables here, each of which stands for something that isn't known yet.
-use Rattle.std.specs.Prelude.{List, IsSome, map}
+-- expressions are written with variables here, each of which stands for something that isn't known yet. Each node has a
+-- variable for its type, so that what is said of a node is short however large the types of its parts are.
+use Rattle.std.specs.Prelude.{ℕ, List, map}
 use Rattle.lk_ast.specs.declared.place.Span.{Span}
 use Rattle.lk_types.specs.Each.{Each}
-use Rattle.lk_types.specs.Grounding.{Grounding, under}
+use Rattle.lk_types.specs.Grounding.{Grounding}
 use Rattle.lk_types.specs.Solutions.{IsMet}
 use Rattle.lk_types.specs.declared.equation.Equation.{Equation}
 use Rattle.lk_types.specs.declared.ty.Ty.{Ty}
+use Rattle.lk_types.specs.declared.ty.Ty.TheVariants as ty
+use Rattle.lk_typing.specs.declared.step.Said.{Said}
+use Rattle.lk_typing.specs.declared.step.Said.TheVariants.{Same, Typed}
+use Rattle.lk_typing.specs.declared.step.Step.{Step}
 
-pub data Said : Type 0 where
-  Same : Equation → Said
-  -- the type of a node of the text
-  Typed : Ty → Said
+-- what is said, as an equation
+abbrev pub equation_of : Said → Equation
+equation_of (Same equation) = equation
+equation_of (Typed n t) = record { left = ty.Var n; right = t }
 
-pub record Step : Type 0 where
-  pub at : Span
-  pub said : Said
-
--- the equation holds; no row of the type gets a label twice
 abbrev pub Holds : Grounding → Said → Type 0
-Holds σ (Same equation) = IsMet σ equation
-Holds σ (Typed t) = IsSome (under σ t)
+Holds σ said = IsMet σ (equation_of said)
 
 abbrev pub Meets : Grounding → List Step → Type 0
 Meets σ steps = Each (λ step. Holds σ step.said) steps
@@ -31,5 +30,5 @@ CanBeMet steps = (σ : Grounding) × Meets σ steps
 abbrev pub same_at : Span → List Equation → List Step
 same_at at equations = map (λ equation. record { at = at; said = Same equation }) equations
 
-abbrev pub typed_at : Span → Ty → Step
-typed_at at t = record { at = at; said = Typed t }
+abbrev pub typed_at : Span → ℕ → Ty → Step
+typed_at at n t = record { at = at; said = Typed n t }

@@ -28,7 +28,8 @@ use Rattle.lk_types.specs.declared.ty.Ty.TheVariants as ty
 use Rattle.lk_typing.specs.Equations.{Own, own, never, equations_of}
 use Rattle.lk_typing.specs.Heads.{Head, head, parts}
 use Rattle.lk_typing.specs.Names.{Named, types_of, Entry, table_named}
-use Rattle.lk_typing.specs.Steps.{Step, same_at, typed_at}
+use Rattle.lk_typing.specs.Steps.{same_at, typed_at}
+use Rattle.lk_typing.specs.declared.step.Step.{Step}
 use Rattle.lk_typing.specs.Types.{labelled}
 use Rattle.lk_typing.specs.Typing.{is_marked, is_there}
 use Rattle.lk_typing.specs.Unknowns.{record_of, variant_of, unit, effects_of, row_of, same, has}
@@ -79,9 +80,9 @@ abbrev pub has_if : Bool → Effects → Effect → ℕ → Told
 has_if true effects e n = told (has effects e n ∷ []) (1 + n)
 has_if false effects e n = told [] n
 
--- a node behind its parts
+-- a node behind its parts, with a variable for its type
 abbrev pub ended : Span → List Ty → List Step → Own → Walked
-ended at inside steps o = record { ty = o.ty; inside = inside; steps = steps ++ (same_at at o.equations ++ typed_at at o.ty ∷ []); next = o.next }
+ended at inside steps o = record { ty = ty.Var o.next; inside = inside; steps = steps ++ (same_at at o.equations ++ typed_at at o.next o.ty ∷ []); next = 1 + o.next }
 
 -- ---- forms that bind names
 

@@ -3,7 +3,9 @@
 #![tactic(auto)]
 
 mod law;
+mod step;
 #[cfg(test)]
 mod tests;
 
 pub use law::typing_laws;
+pub use step::{Said, Step};

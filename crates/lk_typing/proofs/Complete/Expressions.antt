@@ -18,7 +18,7 @@ use Rattle.lk_typing.proofs.Levels.{walk_plain, walk_lambda_form, walk_var, walk
 use Rattle.lk_typing.proofs.Lists.{length_both, stand_front}
 use Rattle.lk_typing.proofs.Complete.Sequences.{CompleteAll, MetAll, none_complete, more_complete, CompleteCases, no_cases_complete, case_complete}
 use Rattle.lk_typing.proofs.Meaning.{Letter, Stand, Names, Functions, HasEffects, Complete, OwnMet}
-use Rattle.lk_typing.proofs.Nodes.{ended_holds}
+use Rattle.lk_typing.proofs.Nodes.{with_node, stand_before, ended_holds}
 use Rattle.lk_typing.proofs.Complete.Operators.{operator_complete}
 use Rattle.lk_typing.proofs.Complete.Queries.{query_complete, change_complete}
 use Rattle.lk_typing.proofs.Complete.Switches.{switch_complete, switch_open_complete}
@@ -51,14 +51,15 @@ module _ (functions : Named (Entry Ty)) (known_functions : Named (Entry Ground))
   plain_complete at h ws names s ts inside t (la, met_all) rule =
       let own_part : (ls : List Letter) × ((σ : Grounding) (functions : Named (Entry Ty)) (open_names : Named Ty) (f : Effects) (types : List Ty) (n : ℕ) → Functions σ functions known_functions → Names σ open_names names → HasEffects σ f s
       → map (under σ) types ≡ map (λ u. Some u) ts → Stand σ n ls → OwnMet σ (equations_of functions tables open_names f h types n) (length ls + n) t) = operator_complete known_functions tables names s h ts t rule in (
-        la ++ own_part.0,
-        λ σ open_names f n fs ns es stands.
+        with_node (la ++ own_part.0) t,
+        λ σ open_names f n fs ns es all_stand.
+            let stands : Stand σ n (la ++ own_part.0) = stand_before σ (la ++ own_part.0) t n all_stand in
             let all : WalkedAll = walk_all ws open_names f n in
             let a : MetAll σ all (length la + n) ts inside = met_all σ open_names f n fs ns es (stand_front σ la own_part.0 n stands) in
             let then : Stand σ all.next own_part.0 = stand_next σ la own_part.0 n all.next a.next stands in
             let o : Own = equations_of functions tables open_names f h all.types all.next in
             let b : OwnMet σ o (length own_part.0 + all.next) t = own_part.1 σ functions open_names f all.types all.next fs ns es a.types then in
-            ended_holds σ at all.inside all.steps o (length (la ++ own_part.0) + n) t inside a.met
+            ended_holds σ at all.inside all.steps o (la ++ own_part.0) n t inside all_stand a.met
             (record { next = b.next ∙ ap (λ k. length own_part.0 + k) a.next ∙ length_both la own_part.0 n; equations = b.equations; ty = b.ty }) a.nodes,
       )
 

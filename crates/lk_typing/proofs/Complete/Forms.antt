@@ -17,16 +17,17 @@ use Rattle.lk_types.specs.declared.ty.Ty.TheVariants as ty
 use Rattle.lk_typing.proofs.EffectRows.{without, has_complete}
 use Rattle.lk_typing.proofs.Lists.{each_both, length_append, length_both, stand_front, stand_back}
 use Rattle.lk_typing.proofs.Meaning.{Letter, plain, effects, Stand, Names, HasEffects, Met, Complete}
-use Rattle.lk_typing.proofs.Nodes.{ended_holds, equations_hold, one_more, nodes_of, nodes_both, letters_if, has_if_complete, ToldMet}
+use Rattle.lk_typing.proofs.Nodes.{with_node, stand_before, ended_holds, equations_hold, one_more, nodes_of, nodes_both, letters_if, has_if_complete, ToldMet}
 use Rattle.lk_typing.proofs.Scopes.{names_both, same_types}
 use Rattle.lk_typing.proofs.Values.{meets, list_is, function_is, variable_is}
 use Rattle.lk_typing.specs.Equations.{Own, own}
 use Rattle.lk_typing.specs.Names.{Named, Entry, names_of, types_of, texts}
-use Rattle.lk_typing.specs.Steps.{Step, Holds, same_at}
+use Rattle.lk_typing.specs.Steps.{Holds, same_at}
 use Rattle.lk_typing.specs.Types.{function_of}
 use Rattle.lk_typing.specs.Typing.{HasIf, is_marked}
 use Rattle.lk_typing.specs.Unknowns as unknown
 use Rattle.lk_typing.specs.Walk.{Walking, Walked, Told, all_types, has_if, params_from, lambda_walked, var_walked, for_list_walked, for_table_walked}
+use Rattle.lk_typing.specs.declared.step.Step.{Step}
 
 -- what stands for parameters of these types
 abbrev pub letters_of_params : Named Ground → List Letter
@@ -55,14 +56,15 @@ module _ (functions : Named (Entry Ty)) (known_functions : Named (Entry Ground))
   pub var_complete : (at : Span) (x : Label) (first last : Walking) (names : Named Ground) (s : EffectSet) (a t : Ground) (inside more : List Ground)
       → IsComplete first names s a inside → IsComplete last ((x, a) ∷ names) s t more → IsComplete (var_walked at x first last) names s t ((a ∷ inside) ++ (t ∷ more))
   var_complete at x first last names s a t inside more (la, met_first) (lb, met_last) = (
-    la ++ lb,
-    λ σ open_names row n fs ns es stands.
+    with_node (la ++ lb) t,
+    λ σ open_names row n fs ns es all_stand.
+        let stands : Stand σ n (la ++ lb) = stand_before σ (la ++ lb) t n all_stand in
         let w : Walked = first open_names row n in
         let v : Walked = last ((x, w.ty) ∷ open_names) row w.next in
         let f : Met σ w (length la + n) a inside = met_first σ open_names row n fs ns es (stand_front σ la lb n stands) in
         let g : Met σ v (length lb + w.next) t more =
         met_last σ ((x, w.ty) ∷ open_names) row w.next fs (one_more σ open_names names x w.ty a f.ty ns) es (subst (λ k. Stand σ k lb) (sym f.next) (stand_back σ la lb n stands)) in
-        ended_holds σ at (all_types w ++ all_types v) (w.steps ++ v.steps) (own v.ty [] v.next) (length (la ++ lb) + n) t ((a ∷ inside) ++ (t ∷ more))
+        ended_holds σ at (all_types w ++ all_types v) (w.steps ++ v.steps) (own v.ty [] v.next) (la ++ lb) n t ((a ∷ inside) ++ (t ∷ more)) all_stand
         (each_both (λ step. Holds σ step.said) w.steps v.steps f.met g.met)
         (record { next = g.next ∙ ap (λ k. length lb + k) f.next ∙ length_both la lb n; equations = tt; ty = g.ty })
         (nodes_both σ w v a t inside more f.ty f.nodes g.ty g.nodes),
@@ -75,8 +77,9 @@ module _ (functions : Named (Entry Ty)) (known_functions : Named (Entry Ground))
       let lp : List Letter = letters_of_params params in
       let lm : List Letter = letters_if (is_marked place) effect.Move own_set in
       let ll : List Letter = effects (without effect.Local s) ∷ [] in (
-        effects own_set ∷ (lp ++ (lm ++ (lb ++ ll))),
-        λ σ open_names row n fs ns es stands.
+        with_node (effects own_set ∷ (lp ++ (lm ++ (lb ++ ll)))) (function_of (types_of params) own_set b),
+        λ σ open_names row n fs ns es all_stand.
+            let stands : Stand σ n (effects own_set ∷ (lp ++ (lm ++ (lb ++ ll)))) = stand_before σ (effects own_set ∷ (lp ++ (lm ++ (lb ++ ll)))) (function_of (types_of params) own_set b) n all_stand in
             let own_row : Effects = unknown.effects_of [] (Var n) in
             let own_has : HasEffects σ own_row own_set = record { same = ap (λ u. Some u) stands.0.effects } in
             let open_params : Named Ty = params_from (1 + n) xs in
@@ -97,7 +100,7 @@ module _ (functions : Named (Entry Ty)) (known_functions : Named (Entry Ground))
             let sum_2 : length (lm ++ (lb ++ ll)) ≡ length lm + length (lb ++ ll) = length_append lm (lb ++ ll) in
             let sum_3 : length (lp ++ (lm ++ (lb ++ ll))) ≡ length lp + length (lm ++ (lb ++ ll)) = length_append lp (lm ++ (lb ++ ll)) in
             let behind : 1 + w.next ≡ length (effects own_set ∷ (lp ++ (lm ++ (lb ++ ll)))) + n = omega arith in
-            ended_holds σ at (all_types w) (same_at at marked.equations ++ w.steps) o (length (effects own_set ∷ (lp ++ (lm ++ (lb ++ ll)))) + n) (function_of (types_of params) own_set b) (b ∷ inside)
+            ended_holds σ at (all_types w) (same_at at marked.equations ++ w.steps) o (effects own_set ∷ (lp ++ (lm ++ (lb ++ ll)))) n (function_of (types_of params) own_set b) (b ∷ inside) all_stand
             (each_both (λ step. Holds σ step.said) (same_at at marked.equations) w.steps (equations_hold σ at marked.equations told.equations) g.met)
             (record { next = behind; equations = (has_complete σ row s effect.Local w.next es local last.0.effects, tt); ty = function_is σ (types_of open_params) (types_of params) own_row own_set w.ty b (same_types σ open_params params seen_params) own_has g.ty })
             (nodes_of σ w b inside g.ty g.nodes),
@@ -109,8 +112,9 @@ module _ (functions : Named (Entry Ty)) (known_functions : Named (Entry Ground))
       → IsComplete (for_list_walked at x first body) names s (known.List b) ((known.List a ∷ inside) ++ (known.List b ∷ more))
   for_list_complete at x first body names s a b inside more (la, met_first) (lb, met_body) =
       let ll : List Letter = plain b ∷ [] in (
-        plain a ∷ (la ++ (lb ++ ll)),
-        λ σ open_names row n fs ns es stands.
+        with_node (plain a ∷ (la ++ (lb ++ ll))) (known.List b),
+        λ σ open_names row n fs ns es all_stand.
+            let stands : Stand σ n (plain a ∷ (la ++ (lb ++ ll))) = stand_before σ (plain a ∷ (la ++ (lb ++ ll))) (known.List b) n all_stand in
             let element : Ty = ty.Var n in
             let is_element : under σ element ≡ Some a = variable_is σ n a stands.0.plain in
             let w : Walked = first open_names row (1 + n) in
@@ -126,7 +130,7 @@ module _ (functions : Named (Entry Ty)) (known_functions : Named (Entry Ground))
             let sum_1 : length (lb ++ ll) ≡ length lb + length ll = length_append lb ll in
             let sum_2 : length (la ++ (lb ++ ll)) ≡ length la + length (lb ++ ll) = length_append la (lb ++ ll) in
             let behind : 1 + v.next ≡ length (plain a ∷ (la ++ (lb ++ ll))) + n = omega arith in
-            ended_holds σ at (all_types w ++ all_types v) (w.steps ++ v.steps) (own answer (unknown.same w.ty (ty.List element) ∷ unknown.same v.ty answer ∷ []) (1 + v.next)) (length (plain a ∷ (la ++ (lb ++ ll))) + n) (known.List b) ((known.List a ∷ inside) ++ (known.List b ∷ more))
+            ended_holds σ at (all_types w ++ all_types v) (w.steps ++ v.steps) (own answer (unknown.same w.ty (ty.List element) ∷ unknown.same v.ty answer ∷ []) (1 + v.next)) (plain a ∷ (la ++ (lb ++ ll))) n (known.List b) ((known.List a ∷ inside) ++ (known.List b ∷ more)) all_stand
             (each_both (λ step. Holds σ step.said) w.steps v.steps f.met g.met)
             (record { next = behind; equations = (meets σ w.ty (ty.List element) (known.List a) f.ty (list_is σ element a is_element), (meets σ v.ty answer (known.List b) g.ty is_answer, tt)); ty = is_answer })
             (nodes_both σ w v (known.List a) (known.List b) inside more f.ty f.nodes g.ty g.nodes),
@@ -137,8 +141,9 @@ module _ (functions : Named (Entry Ty)) (known_functions : Named (Entry Ground))
       → IsComplete (for_table_walked at x first body) names s (known.List b) ((known.List a ∷ inside) ++ (known.List b ∷ more))
   for_table_complete at x first body names s a b inside more (la, met_first) (lb, met_body) =
       let ll : List Letter = plain b ∷ [] in (
-        plain a ∷ (la ++ (lb ++ ll)),
-        λ σ open_names row n fs ns es stands.
+        with_node (plain a ∷ (la ++ (lb ++ ll))) (known.List b),
+        λ σ open_names row n fs ns es all_stand.
+            let stands : Stand σ n (plain a ∷ (la ++ (lb ++ ll))) = stand_before σ (plain a ∷ (la ++ (lb ++ ll))) (known.List b) n all_stand in
             let element : Ty = ty.Var n in
             let is_element : under σ element ≡ Some a = variable_is σ n a stands.0.plain in
             let w : Walked = first open_names row (1 + n) in
@@ -155,7 +160,7 @@ module _ (functions : Named (Entry Ty)) (known_functions : Named (Entry Ground))
             let sum_2 : length (la ++ (lb ++ ll)) ≡ length la + length (lb ++ ll) = length_append la (lb ++ ll) in
             let behind : 1 + v.next ≡ length (plain a ∷ (la ++ (lb ++ ll))) + n = omega arith in
             let rows : List Step = same_at at (unknown.same w.ty (ty.List element) ∷ []) in
-            ended_holds σ at (all_types w ++ all_types v) (w.steps ++ (rows ++ v.steps)) (own answer (unknown.same v.ty answer ∷ []) (1 + v.next)) (length (plain a ∷ (la ++ (lb ++ ll))) + n) (known.List b) ((known.List a ∷ inside) ++ (known.List b ∷ more))
+            ended_holds σ at (all_types w ++ all_types v) (w.steps ++ (rows ++ v.steps)) (own answer (unknown.same v.ty answer ∷ []) (1 + v.next)) (plain a ∷ (la ++ (lb ++ ll))) n (known.List b) ((known.List a ∷ inside) ++ (known.List b ∷ more)) all_stand
             (each_both (λ step. Holds σ step.said) w.steps (rows ++ v.steps) f.met (meets σ w.ty (ty.List element) (known.List a) f.ty (list_is σ element a is_element), g.met))
             (record { next = behind; equations = (meets σ v.ty answer (known.List b) g.ty is_answer, tt); ty = is_answer })
             (nodes_both σ w v (known.List a) (known.List b) inside more f.ty f.nodes g.ty g.nodes),

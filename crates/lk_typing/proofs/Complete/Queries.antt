@@ -24,7 +24,7 @@ use Rattle.lk_typing.proofs.Groups.Functions.{stand_next}
 use Rattle.lk_typing.proofs.Lists.{each_both, length_append, stand_front, become_both}
 use Rattle.lk_typing.proofs.Complete.Sequences.{CompleteAll, MetAll}
 use Rattle.lk_typing.proofs.Meaning.{Letter, plain, row, effects, Stand, Names, HasEffects, Met, Complete, OwnMet, seen}
-use Rattle.lk_typing.proofs.Nodes.{ended_holds, one_more, nodes_of, letters_if, has_if_complete, ToldMet}
+use Rattle.lk_typing.proofs.Nodes.{with_node, stand_before, ended_holds, one_more, nodes_of, letters_if, has_if_complete, ToldMet}
 use Rattle.lk_typing.proofs.Operators.{labelled_both, Labelled, under_row_of}
 use Rattle.lk_typing.proofs.Sound.Queries.{scan_only, none_at_all}
 use Rattle.lk_typing.proofs.Values.{meets, list_is, variable_is, under_record, under_unit}
@@ -130,8 +130,9 @@ module _ (functions : Named (Entry Ty)) (known_functions : Named (Entry Ground))
       let lk : List Letter = letters_of_keys a keys each in
       let ls : Letter = effects (without effect.Scan s) in
       let lc : List Letter = letters_if (is_there keys) effect.Local s in (
-        lb ++ (plain a ∷ (lk ++ (ls ∷ lc))),
-        λ σ open_names f n fs ns es stands.
+        with_node (lb ++ (plain a ∷ (lk ++ (ls ∷ lc)))) (known.List a),
+        λ σ open_names f n fs ns es all_stand.
+            let stands : Stand σ n (lb ++ (plain a ∷ (lk ++ (ls ∷ lc)))) = stand_before σ (lb ++ (plain a ∷ (lk ++ (ls ∷ lc)))) (known.List a) n all_stand in
             let scanning : Effects = unknown.effects_of (effect.Scan ∷ []) Closed in
             let w : Walked = body open_names scanning n in
             let m : ℕ = w.next in
@@ -150,7 +151,7 @@ module _ (functions : Named (Entry Ty)) (known_functions : Named (Entry Ground))
             let sum_1 : length (lk ++ (ls ∷ lc)) ≡ length lk + length (ls ∷ lc) = length_append lk (ls ∷ lc) in
             let sum_2 : length (lb ++ (plain a ∷ (lk ++ (ls ∷ lc)))) ≡ length lb + length (plain a ∷ (lk ++ (ls ∷ lc))) = length_append lb (plain a ∷ (lk ++ (ls ∷ lc))) in
             let behind : client.next ≡ length (lb ++ (plain a ∷ (lk ++ (ls ∷ lc)))) + n = omega arith in
-            ended_holds σ at (all_types w) w.steps o (length (lb ++ (plain a ∷ (lk ++ (ls ∷ lc)))) + n) (known.List a) (known.List a ∷ inside) v.met
+            ended_holds σ at (all_types w) w.steps o (lb ++ (plain a ∷ (lk ++ (ls ∷ lc)))) n (known.List a) (known.List a ∷ inside) all_stand v.met
             (record {
               next = behind;
               equations = (meets σ w.ty (ty.List (ty.Var m)) (known.List a) v.ty (list_is σ (ty.Var m) a (variable_is σ m a second.0.plain)), each_both (IsMet σ) ordered.equations (scan ∷ client.equations) k.equations (has_complete σ f s effect.Scan ordered.next es scans third.0.effects, c.equations));
@@ -169,8 +170,9 @@ module _ (functions : Named (Entry Ty)) (known_functions : Named (Entry Ground))
   change_complete at c x labels names s r sets ts cond rest name are (lc, met_cond) (la, met_sets) labelled_are each writes None is = absurd is
   change_complete at c x labels names s r sets ts cond rest name are (lc, met_cond) (la, met_sets) labelled_are each writes (Some table) is =
       let lo : List Letter = letters_of_sets (record_of r) sets each ++ effects (without effect.Write s) ∷ [] in (
-        lc ++ (la ++ lo),
-        λ σ open_names f n fs ns es stands.
+        with_node (lc ++ (la ++ lo)) unit,
+        λ σ open_names f n fs ns es all_stand.
+            let stands : Stand σ n (lc ++ (la ++ lo)) = stand_before σ (lc ++ (la ++ lo)) unit n all_stand in
             let t : Ty = unknown.row_of table in
             let g : Ground = record_of r in
             let becomes : under σ t ≡ Some g = under_row_of σ table ∙ ap (option_map record_of) is in
@@ -194,7 +196,7 @@ module _ (functions : Named (Entry Ty)) (known_functions : Named (Entry Ground))
             let sum_1 : length (la ++ lo) ≡ length la + length lo = length_append la lo in
             let sum_2 : length (lc ++ (la ++ lo)) ≡ length lc + length (la ++ lo) = length_append lc (la ++ lo) in
             let behind : o.next ≡ length (lc ++ (la ++ lo)) + n = omega arith in
-            ended_holds σ at (all_types w ++ all.inside) (w.steps ++ all.steps) o (length (lc ++ (la ++ lo)) + n) unit ((known.Bool ∷ cond) ++ rest)
+            ended_holds σ at (all_types w ++ all.inside) (w.steps ++ all.steps) o (lc ++ (la ++ lo)) n unit ((known.Bool ∷ cond) ++ rest) all_stand
             (each_both (λ step. Holds σ step.said) w.steps all.steps v.met a.met)
             (record { next = behind; equations = b.equations; ty = b.ty })
             (become_both σ (all_types w) all.inside (known.Bool ∷ cond) rest (nodes_of σ w known.Bool cond v.ty v.nodes) a.nodes),

@@ -18,7 +18,7 @@ use Rattle.lk_typing.proofs.Groups.Functions.{stand_next}
 use Rattle.lk_typing.proofs.Lists.{each_both, length_append, stand_front, become_more, become_both}
 use Rattle.lk_typing.proofs.Complete.Sequences.{CompleteCases, MetCases, letters_of_none, one_type_complete}
 use Rattle.lk_typing.proofs.Meaning.{Letter, row, effects, Stand, Names, Met, Complete, OwnMet}
-use Rattle.lk_typing.proofs.Nodes.{ended_holds, one_more, nodes_of}
+use Rattle.lk_typing.proofs.Nodes.{with_node, stand_before, ended_holds, one_more, nodes_of}
 use Rattle.lk_typing.proofs.Values.{meets, under_variant}
 use Rattle.lk_typing.specs.Equations.{Own, own}
 use Rattle.lk_typing.specs.Law.{Become}
@@ -45,8 +45,9 @@ module _ (functions : Named (Entry Ty)) (known_functions : Named (Entry Ground))
   switch_complete at value cs names s t r tags ts inside bodies (la, met_value) (lc, met_cases) each tagged local =
       let lo : List Letter = letters_of_none ts t in
       let ll : List Letter = effects (without effect.Local s) ∷ [] in (
-        la ++ (lc ++ (lo ++ ll)),
-        λ σ open_names f n fs ns es stands.
+        with_node (la ++ (lc ++ (lo ++ ll))) t,
+        λ σ open_names f n fs ns es all_stand.
+            let stands : Stand σ n (la ++ (lc ++ (lo ++ ll))) = stand_before σ (la ++ (lc ++ (lo ++ ll))) t n all_stand in
             let w : Walked = value open_names f n in
             let c : WalkedCases = walk_cases cs open_names f w.next in
             let m : ℕ = c.bodies.next in
@@ -66,7 +67,7 @@ module _ (functions : Named (Entry Ty)) (known_functions : Named (Entry Ground))
             let sum_2 : length (lc ++ (lo ++ ll)) ≡ length lc + length (lo ++ ll) = length_append lc (lo ++ ll) in
             let sum_3 : length (la ++ (lc ++ (lo ++ ll))) ≡ length la + length (lc ++ (lo ++ ll)) = length_append la (lc ++ (lo ++ ll)) in
             let behind : 1 + one.next ≡ length (la ++ (lc ++ (lo ++ ll))) + n = omega arith in
-            ended_holds σ at (all_types w ++ c.bodies.inside) (w.steps ++ c.bodies.steps) o (length (la ++ (lc ++ (lo ++ ll))) + n) t ((variant_of r ∷ inside) ++ bodies)
+            ended_holds σ at (all_types w ++ c.bodies.inside) (w.steps ++ c.bodies.steps) o (la ++ (lc ++ (lo ++ ll))) n t ((variant_of r ∷ inside) ++ bodies) all_stand
             (each_both (λ step. Holds σ step.said) w.steps c.bodies.steps v.met g.bodies.met)
             (record {
               next = behind;
@@ -84,8 +85,9 @@ module _ (functions : Named (Entry Ty)) (known_functions : Named (Entry Ground))
       let ts' : List Ground = ts ++ t ∷ [] in
       let lo : List Letter = letters_of_none ts' t in
       let ll : List Letter = effects (without effect.Local s) ∷ [] in (
-        la ++ (lc ++ (row other ∷ (lb ++ (lo ++ ll)))),
-        λ σ open_names f n fs ns es stands.
+        with_node (la ++ (lc ++ (row other ∷ (lb ++ (lo ++ ll))))) t,
+        λ σ open_names f n fs ns es all_stand.
+            let stands : Stand σ n (la ++ (lc ++ (row other ∷ (lb ++ (lo ++ ll))))) = stand_before σ (la ++ (lc ++ (row other ∷ (lb ++ (lo ++ ll))))) t n all_stand in
             let w : Walked = value open_names f n in
             let c : WalkedCases = walk_cases cs open_names f w.next in
             let m : ℕ = c.bodies.next in
@@ -115,7 +117,7 @@ module _ (functions : Named (Entry Ty)) (known_functions : Named (Entry Ground))
             let sum_3 : length (lc ++ (row other ∷ (lb ++ (lo ++ ll)))) ≡ length lc + length (row other ∷ (lb ++ (lo ++ ll))) = length_append lc (row other ∷ (lb ++ (lo ++ ll))) in
             let sum_4 : length (la ++ (lc ++ (row other ∷ (lb ++ (lo ++ ll))))) ≡ length la + length (lc ++ (row other ∷ (lb ++ (lo ++ ll)))) = length_append la (lc ++ (row other ∷ (lb ++ (lo ++ ll)))) in
             let behind : 1 + one.next ≡ length (la ++ (lc ++ (row other ∷ (lb ++ (lo ++ ll))))) + n = omega arith in
-            ended_holds σ at (all_types w ++ (c.bodies.inside ++ all_types z)) (w.steps ++ (c.bodies.steps ++ z.steps)) o (length (la ++ (lc ++ (row other ∷ (lb ++ (lo ++ ll))))) + n) t ((variant_of r ∷ inside) ++ (bodies ++ (t ∷ more)))
+            ended_holds σ at (all_types w ++ (c.bodies.inside ++ all_types z)) (w.steps ++ (c.bodies.steps ++ z.steps)) o (la ++ (lc ++ (row other ∷ (lb ++ (lo ++ ll))))) n t ((variant_of r ∷ inside) ++ (bodies ++ (t ∷ more))) all_stand
             (each_both (λ step. Holds σ step.said) w.steps (c.bodies.steps ++ z.steps) v.met (each_both (λ step. Holds σ step.said) c.bodies.steps z.steps g.bodies.met y.met))
             (record {
               next = behind;

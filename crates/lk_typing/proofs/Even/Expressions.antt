@@ -6,7 +6,7 @@ use Rattle.lk_ast.specs.declared.expression.ChangeExpr.{ChangeExpr, out-ChangeEx
 use Rattle.lk_ast.specs.declared.expression.Expr.{Expr}
 use Rattle.lk_ast.specs.declared.place.Span.{Span}
 use Rattle.lk_types.specs.declared.ty.Ty.{Ty}
-use Rattle.lk_typing.proofs.Even.Found.{mapped, weaker, onward, beside}
+use Rattle.lk_typing.proofs.Even.Found.{mapped, one_further, weaker, onward, beside}
 use Rattle.lk_typing.proofs.Even.Forms.{var_even, lambda_even, for_list_even, for_table_even}
 use Rattle.lk_typing.proofs.Even.Lists.{EvenThrough, none_even, more_even, EvenThroughCases, no_cases_even, case_even, switch_even, switch_open_even}
 use Rattle.lk_typing.proofs.Even.Nodes.{Even, ended_even}
@@ -31,9 +31,9 @@ module _ (functions : Named (Entry Ty)) (tables : List TableDecl) where
   plain_even at h ws even names effects n b known =
       let all_parts : WalkedAll = walk_all ws names effects n in
       let o : Own = equations_of functions tables names effects h all_parts.types all_parts.next in
-      onward known (even names effects n b known) (λ c two.
+      one_further (onward known (even names effects n b known) (λ c two.
       mapped (beside two (operator_found functions tables names effects all_parts.next c h all_parts.types (weaker two (λ d all. record { context = all.0; parts = all.1.are })))) (λ d all.
-      ended_even at all_parts.inside all_parts.steps o d all.0.1.nodes all.0.1.said all.1))
+      ended_even at all_parts.inside all_parts.steps o d all.0.1.nodes all.0.1.said all.1)))
 
   abbrev case_walks : List Case → List CaseWalk
   case_walks cases = map (walk_case functions tables) cases

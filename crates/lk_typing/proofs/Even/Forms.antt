@@ -10,17 +10,18 @@ use Rattle.lk_types.specs.declared.ty.Effects.{Effects}
 use Rattle.lk_types.specs.declared.ty.RowTail.TheVariants.{Var}
 use Rattle.lk_types.specs.declared.ty.Ty.{Ty}
 use Rattle.lk_types.specs.declared.ty.Ty.TheVariants as ty
-use Rattle.lk_typing.proofs.Even.Found.{Before, mapped, weaker, onward, beside, new, any_sets}
+use Rattle.lk_typing.proofs.Even.Found.{Before, mapped, one_further, weaker, onward, beside, new, any_sets}
 use Rattle.lk_typing.proofs.Even.Nodes.{Context, Even, EvenTold, EvenWalked, all_even, both_even, steps_both, said_at, ended_even, has_if_found}
 use Rattle.lk_typing.proofs.Even.Types.{HasRow, AreEvenTypes, AreEvenNames, even_variable, even_list, even_function, even_has, alone}
 use Rattle.lk_typing.proofs.Lists.{each_both}
 use Rattle.lk_typing.specs.EffectRows.{IsEven}
 use Rattle.lk_typing.specs.Equations.{own}
 use Rattle.lk_typing.specs.Names.{Named, Entry, types_of}
-use Rattle.lk_typing.specs.Steps.{Step, same_at}
+use Rattle.lk_typing.specs.Steps.{same_at}
 use Rattle.lk_typing.specs.Typing.{is_marked}
 use Rattle.lk_typing.specs.Unknowns.{effects_of, same, has}
 use Rattle.lk_typing.specs.Walk.{Walking, Walked, Told, all_types, has_if, params_from, lambda_walked, var_walked, for_list_walked, for_table_walked}
+use Rattle.lk_typing.specs.declared.step.Step.{Step}
 
 -- ---- names
 
@@ -47,10 +48,10 @@ module _ (functions : Named (Entry Ty)) where
       let w : Walked = first names effects n in
       let inner : Named Ty = (x, w.ty) ∷ names in
       let v : Walked = last inner effects w.next in
-      onward known (even_first names effects n b known) (λ c one.
+      one_further (onward known (even_first names effects n b known) (λ c one.
       mapped (beside one (even_last inner effects w.next c (weaker one (λ d all. more_names ((x, w.ty) ∷ []) names effects d all.0 (all.1.is, tt))))) (λ d all.
       ended_even at (all_types w ++ all_types v) (w.steps ++ v.steps) (own v.ty [] v.next) d (both_even w v d all.0.1 all.1) (steps_both w.steps v.steps d all.0.1.said all.1.said)
-      (record { is = all.1.is; equations = tt })))
+      (record { is = all.1.is; equations = tt }))))
 
   pub lambda_even : (at : Span) (xs : List Word) (place : Loc) (body : Walking) → Even functions body → Even functions (lambda_walked at xs place body)
   lambda_even at xs place body even_body names effects n b known =
@@ -59,7 +60,7 @@ module _ (functions : Named (Entry Ty)) where
       let k : ℕ = length xs + (1 + n) in
       let marked : Told = has_if (is_marked place) row effect.Move k in
       let w : Walked = body (params ++ names) row marked.next in
-      onward known (new n b no_effects) (λ c one.
+      one_further (onward known (new n b no_effects) (λ c one.
       onward one (any_sets (1 + n) k c (omega arith)) (λ c two.
       onward two (has_if_found (is_marked place) row effect.Move k c two (λ d all. alone d n all.0.1)) (λ c three.
       onward three (even_body (params ++ names) row marked.next c (weaker three (λ d all.
@@ -74,7 +75,7 @@ module _ (functions : Named (Entry Ty)) where
       (record {
         is = even_function d (types_of params) row w.ty (types_even d params (params_even d (1 + n) xs)) is_alone inner.is;
         equations = (even_has d effects effect.Local w.next given.row all.1, tt);
-      })))))))
+      }))))))))
 
   pub for_list_even : (at : Span) (x : Label) (first body : Walking) → Even functions first → Even functions body → Even functions (for_list_walked at x first body)
   for_list_even at x first body even_first even_body names effects n b known =
@@ -83,7 +84,7 @@ module _ (functions : Named (Entry Ty)) where
       let inner : Named Ty = (x, element) ∷ names in
       let v : Walked = body inner effects w.next in
       let answer : Ty = ty.List (ty.Var v.next) in
-      onward known (any_sets n (1 + n) b (omega arith)) (λ c one.
+      one_further (onward known (any_sets n (1 + n) b (omega arith)) (λ c one.
       onward one (even_first names effects (1 + n) c (weaker one (λ d all. all.0))) (λ c two.
       onward two (even_body inner effects w.next c (weaker two (λ d all. more_names ((x, element) ∷ []) names effects d all.0.0 (even_variable d n, tt)))) (λ c three.
       mapped (beside three (any_sets v.next (1 + v.next) c (omega arith))) (λ d all. (
@@ -92,7 +93,7 @@ module _ (functions : Named (Entry Ty)) where
       let body_is : EvenWalked v d = all.0.1 in
       ended_even at (all_types w ++ all_types v) (w.steps ++ v.steps) (own answer (same w.ty (ty.List element) ∷ same v.ty answer ∷ []) (1 + v.next)) d (both_even w v d first_is body_is)
       (steps_both w.steps v.steps d first_is.said body_is.said)
-      (record { is = is_answer; equations = ((first_is.is, even_list d element (even_variable d n)), ((body_is.is, is_answer), tt)) }))))))
+      (record { is = is_answer; equations = ((first_is.is, even_list d element (even_variable d n)), ((body_is.is, is_answer), tt)) })))))))
 
   pub for_table_even : (at : Span) (x : Label) (first body : Walking) → Even functions first → Even functions body → Even functions (for_table_walked at x first body)
   for_table_even at x first body even_first even_body names effects n b known =
@@ -102,7 +103,7 @@ module _ (functions : Named (Entry Ty)) where
       let v : Walked = body inner effects w.next in
       let answer : Ty = ty.List (ty.Var v.next) in
       let rows : List Step = same_at at (same w.ty (ty.List element) ∷ []) in
-      onward known (any_sets n (1 + n) b (omega arith)) (λ c one.
+      one_further (onward known (any_sets n (1 + n) b (omega arith)) (λ c one.
       onward one (even_first names effects (1 + n) c (weaker one (λ d all. all.0))) (λ c two.
       onward two (even_body inner effects w.next c (weaker two (λ d all. more_names ((x, element) ∷ []) names effects d all.0.0 (even_variable d n, tt)))) (λ c three.
       mapped (beside three (any_sets v.next (1 + v.next) c (omega arith))) (λ d all. (
@@ -111,4 +112,4 @@ module _ (functions : Named (Entry Ty)) where
       let body_is : EvenWalked v d = all.0.1 in
       ended_even at (all_types w ++ all_types v) (w.steps ++ (rows ++ v.steps)) (own answer (same v.ty answer ∷ []) (1 + v.next)) d (both_even w v d first_is body_is)
       (steps_both w.steps (rows ++ v.steps) d first_is.said ((first_is.is, even_list d element (even_variable d n)), body_is.said))
-      (record { is = is_answer; equations = ((body_is.is, is_answer), tt) }))))))
+      (record { is = is_answer; equations = ((body_is.is, is_answer), tt) })))))))

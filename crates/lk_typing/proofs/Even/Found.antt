@@ -40,6 +40,17 @@ nothing_known n b = record { at = λ c alike. tt }
 pub mapped : {n m : ℕ} {b : Before} {P Q : Before → Type 0} → Found n b m P → ((c : Before) → P c → Q c) → Found n b m Q
 mapped found then = record { after = found.after; reaches = found.reaches; same = found.same; holds = weaker found.holds then }
 
+-- the same where one number more comes behind, whatever its set is
+pub one_further : {n m : ℕ} {b : Before} {P : Before → Type 0} → Found n b m P → Found n b (1 + m) P
+one_further {n} {m} found =
+    let reaches : n ≤ m = found.reaches in
+    record {
+      after = found.after;
+      reaches = omega arith;
+      same = found.same;
+      holds = record { at = λ c alike. found.holds.at c (record { below = λ v less. alike.below v (omega arith) }) };
+    }
+
 -- what holds whatever goes with the next numbers
 pub here : {n : ℕ} {b : Before} {P : Before → Type 0} → Stays n b P → Found n b n P
 here {n} {b} stays = record { after = b; reaches = omega arith; same = itself n b; holds = stays }

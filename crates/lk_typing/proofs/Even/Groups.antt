@@ -24,10 +24,11 @@ use Rattle.lk_typing.proofs.Even.Loose.{same_loosely, holds_loosely}
 use Rattle.lk_typing.specs.EffectRows.{IsEven, AreEven, IsEvenScheme, EffectsLaw}
 use Rattle.lk_typing.specs.Groups.{is_mutual, is_recursive, own_entries, scheme_entries, Unknown, after_unknown, type_of, unknowns, after_unknowns, signature_told, main_told, FunctionWalked, function_walked, functions_walked, group_types, group_walked}
 use Rattle.lk_typing.specs.Names.{Named, Entry, types_of}
-use Rattle.lk_typing.specs.Steps.{Step, same_at}
+use Rattle.lk_typing.specs.Steps.{same_at}
 use Rattle.lk_typing.specs.Typing.{is_marked}
 use Rattle.lk_typing.specs.Unknowns.{same}
 use Rattle.lk_typing.specs.Walk.{Walked, Told, has_if, walk}
+use Rattle.lk_typing.specs.declared.step.Step.{Step}
 
 -- ---- what is unknown of a function
 

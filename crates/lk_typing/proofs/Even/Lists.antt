@@ -7,7 +7,7 @@ use Rattle.lk_types.specs.declared.ty.Effect.TheVariants as effect
 use Rattle.lk_types.specs.declared.ty.Effects.{Effects}
 use Rattle.lk_types.specs.declared.ty.RowTail.TheVariants.{Closed, Var}
 use Rattle.lk_types.specs.declared.ty.Ty.{Ty}
-use Rattle.lk_typing.proofs.Even.Found.{Before, Stays, Found, mapped, weaker, here, onward, beside, new, any_sets}
+use Rattle.lk_typing.proofs.Even.Found.{Before, Stays, Found, mapped, one_further, weaker, here, onward, beside, new, any_sets}
 use Rattle.lk_typing.proofs.Even.Forms.{more_names}
 use Rattle.lk_typing.proofs.Even.Nodes.{Context, Even, EvenOwn, EvenWalked, EvenAll, all_even, steps_both, ended_even, own_found}
 use Rattle.lk_typing.proofs.Even.Operators.{all_same}
@@ -16,9 +16,9 @@ use Rattle.lk_typing.proofs.Lists.{each_both}
 use Rattle.lk_typing.specs.EffectRows.{IsEven, AreEven}
 use Rattle.lk_typing.specs.Equations.{Own, own}
 use Rattle.lk_typing.specs.Names.{Named, Entry}
-use Rattle.lk_typing.specs.Steps.{Step}
 use Rattle.lk_typing.specs.Unknowns.{variant_of, same, has}
 use Rattle.lk_typing.specs.Walk.{Walking, Walked, WalkedAll, walk_all, before_all, all_types, CaseWalk, WalkedCases, walk_cases, Held, held_by, one_type, switch_ended, switch_walked}
+use Rattle.lk_typing.specs.declared.step.Step.{Step}
 
 pub record EvenCases (w : WalkedCases) (c : Before) : Type 0 where
   pub named : AreEvenNames c w.tags
@@ -98,12 +98,12 @@ module _ (functions : Named (Entry Ty)) where
       let w : Walked = value names effects n in
       let k : WalkedCases = walk_cases cs names effects w.next in
       let one : Own = one_type k.bodies.types k.bodies.next in
-      onward known (even_value names effects n b known) (λ c two.
+      one_further (onward known (even_value names effects n b known) (λ c two.
       onward two (even_cases names effects w.next c (weaker two (λ d all. all.0))) (λ c three.
       onward three (one_type_found k.bodies.types k.bodies.next c three (λ d all. all.1.bodies_are.are)) (λ c four.
       mapped (beside four (new one.next c (same_effect effect.Local))) (λ d all.
       switch_ends at effects w (variant_of k.tags Closed) k.bodies.inside k.bodies.steps one d
-      all.0.0.0.1 (even_variant d k.tags Closed all.0.0.1.named) all.0.0.1.bodies_are.nodes all.0.0.1.bodies_are.said all.0.1 (even_has d effects effect.Local one.next all.0.0.0.0.row all.1)))))
+      all.0.0.0.1 (even_variant d k.tags Closed all.0.0.1.named) all.0.0.1.bodies_are.nodes all.0.0.1.bodies_are.said all.0.1 (even_has d effects effect.Local one.next all.0.0.0.0.row all.1))))))
 
   pub switch_open_even : (at : Span) (value : Walking) (cs : List CaseWalk) (x : Label) (body : Walking) → Even functions value → EvenThroughCases cs → Even functions body
       → Even functions (switch_walked at value cs (Some (x, body)))
@@ -115,7 +115,7 @@ module _ (functions : Named (Entry Ty)) where
       let z : Walked = body ((x, others) ∷ names) effects (1 + m) in
       let types : List Ty = k.bodies.types ++ z.ty ∷ [] in
       let one : Own = one_type types z.next in
-      onward known (even_value names effects n b known) (λ c two.
+      one_further (onward known (even_value names effects n b known) (λ c two.
       onward two (even_cases names effects w.next c (weaker two (λ d all. all.0))) (λ c three.
       onward three (any_sets m (1 + m) c (omega arith)) (λ c four.
       onward four (even_body ((x, others) ∷ names) effects (1 + m) c (weaker four (λ d all. more_names functions ((x, others) ∷ []) names effects d all.0.0.0 (even_variant d [] (Var m) tt, tt)))) (λ c five.
@@ -126,4 +126,4 @@ module _ (functions : Named (Entry Ty)) where
       let given : Context functions names effects d = all.0.0.0.0.0.0 in
       switch_ends at effects w (variant_of k.tags (Var m)) (k.bodies.inside ++ all_types z) (k.bodies.steps ++ z.steps) one d
       all.0.0.0.0.0.1 (even_variant d k.tags (Var m) cases_are.named) (each_both (IsEven d) k.bodies.inside (all_types z) cases_are.bodies_are.nodes (all_even z d body_is))
-      (steps_both k.bodies.steps z.steps d cases_are.bodies_are.said body_is.said) all.0.1 (even_has d effects effect.Local one.next given.row all.1))))))))
+      (steps_both k.bodies.steps z.steps d cases_are.bodies_are.said body_is.said) all.0.1 (even_has d effects effect.Local one.next given.row all.1)))))))))

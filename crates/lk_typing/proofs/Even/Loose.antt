@@ -1,6 +1,6 @@
 -- Where the rows of effects in a type are even, an effect may stand before a tail that has it too: what the type becomes is
 -- the same as where what stands for the tail is taken without it.
-use Rattle.std.proofs.Common.{◌≡◌, ℕ, Bool, true, false, ◌||◌, List, [], ◌∷◌, map, flat_map, refl, sym, ap, ap₂, subst, ◌∙◌, Option, Some, None, IsSome, if◌then◌else◌}
+use Rattle.std.proofs.Common.{◌≡◌, ℕ, Bool, true, false, ◌||◌, List, [], ◌∷◌, map, flat_map, refl, sym, ap, ap₂, subst, ◌∙◌, Option, Some, None, if◌then◌else◌}
 use Rattle.std.specs.List.{list_any}
 use Rattle.std.specs.Option.{option_map}
 use Rattle.lk_types.specs.Each.{Each}
@@ -14,8 +14,9 @@ use Rattle.lk_types.specs.declared.ty.Effects.{Effects}
 use Rattle.lk_types.specs.declared.ty.RowTail.{RowTail}
 use Rattle.lk_types.specs.declared.ty.RowTail.TheVariants.{Closed, Var}
 use Rattle.lk_types.specs.declared.ty.Ty.{Ty, roll-Ty}
-use Rattle.lk_types.specs.declared.ty.Ty.TheFolds.{ind-Ty, map-Ty, fold-roll-Ty, fold-roll-TyRow, fold-roll-TyField}
+use Rattle.lk_types.specs.declared.ty.Ty.TheFolds.{the_lemmas, ind-Ty, map-Ty, fold-roll-Ty, fold-roll-TyRow, fold-roll-TyField}
 use Rattle.lk_types.specs.declared.ty.Ty.TheOpen.{Ty-F, TyField-F, TyRow-F}
+use Rattle.lk_types.specs.declared.ty.Ty.TheVariants as ty
 use Rattle.lk_types.specs.declared.ty.TyField.{TyField, roll-TyField, fold-TyField}
 use Rattle.lk_types.specs.declared.ty.TyRow.{TyRow, roll-TyRow, fold-TyRow}
 use Rattle.lk_typing.proofs.EffectRows.{itself, for_each}
@@ -24,7 +25,10 @@ use Rattle.lk_typing.proofs.Lists.{each_front, each_back}
 use Rattle.lk_typing.proofs.Nodes.{there}
 use Rattle.lk_typing.proofs.Values.{just}
 use Rattle.lk_typing.specs.EffectRows.{ty_rows, row_rows, field_rows, rows_of, HasBefore, IsEven, IsEvenSaid, AreEven, union, loose_level, loosely, HoldsLoosely, MeetsLoosely, apart}
-use Rattle.lk_typing.specs.Steps.{Said, Same, Typed, Step, Holds, Meets}
+use Rattle.lk_typing.specs.Steps.{Holds, Meets}
+use Rattle.lk_typing.specs.declared.step.Said.{Said}
+use Rattle.lk_typing.specs.declared.step.Said.TheVariants.{Same, Typed}
+use Rattle.lk_typing.specs.declared.step.Step.{Step}
 
 -- ---- sets of effects
 
@@ -142,6 +146,10 @@ pub rows_rolled : (x : Ty-F Ty TyField TyRow) → rows_of (roll-Ty x) ≡ ty_row
 unfolding rows_of rows_of_field rows_of_row
 rows_rolled x = fold-roll-Ty (List Effects) (List Effects) (List Effects) ty_rows field_rows row_rows x
 
+pub rows_variable : (n : ℕ) → rows_of (ty.Var n) ≡ []
+unfolding rows_of
+rows_variable n = search the_lemmas
+
 pub rows_rolled_row : (x : TyRow-F Ty TyField TyRow) → rows_of_row (roll-TyRow x) ≡ flat_map (λ rows. rows) (map rows_of_field x.fields)
 unfolding rows_of rows_of_field rows_of_row
 rows_rolled_row x = fold-roll-TyRow (List Effects) (List Effects) (List Effects) ty_rows field_rows row_rows x
@@ -238,7 +246,7 @@ module _ (before : ℕ → EffectSet) (σ : Grounding) where
 
   said_holds : (said : Said) → IsEvenSaid before said → HoldsLoosely σ said → Holds (apart before σ) said
   said_holds (Same equation) even holds = (holds.0, same_loosely equation.left even.0 ∙ holds.1, same_loosely equation.right even.1 ∙ holds.2)
-  said_holds (Typed t) even holds = subst (λ o. IsSome o) (sym (same_loosely t even)) holds
+  said_holds (Typed n t) even holds = (holds.0, same_loosely (ty.Var n) (subst Even (sym (rows_variable n)) tt) ∙ holds.1, same_loosely t even ∙ holds.2)
 
   -- where the rows are even, all holds that holds of unions
   pub holds_loosely : (steps : List Step) → AreEven before steps → MeetsLoosely σ steps → Meets (apart before σ) steps

@@ -8,13 +8,14 @@ use Rattle.lk_types.specs.declared.ty.Effect.{Effect}
 use Rattle.lk_types.specs.declared.ty.Effects.{Effects}
 use Rattle.lk_types.specs.declared.ty.Ty.{Ty}
 use Rattle.lk_typing.proofs.Even.Found.{Before, Stays, Found, mapped, here, new, beside, Has, new_sets}
-use Rattle.lk_typing.proofs.Even.Types.{HasRow, AreEvenTypes, AreEvenNames, IsEvenEquation, even_has}
+use Rattle.lk_typing.proofs.Even.Types.{HasRow, AreEvenTypes, AreEvenNames, IsEvenEquation, even_variable, even_has}
 use Rattle.lk_typing.proofs.Lists.{each_both}
 use Rattle.lk_typing.specs.EffectRows.{IsEven, IsEvenSaid, AreEven, IsEvenScheme}
 use Rattle.lk_typing.specs.Equations.{Own}
 use Rattle.lk_typing.specs.Names.{Named, named, Entry, One, Many}
-use Rattle.lk_typing.specs.Steps.{Step, same_at, typed_at}
+use Rattle.lk_typing.specs.Steps.{same_at, typed_at}
 use Rattle.lk_typing.specs.Walk.{Walking, Walked, WalkedAll, all_types, Told, has_if, ended}
+use Rattle.lk_typing.specs.declared.step.Step.{Step}
 
 -- ---- what names stand for
 
@@ -87,10 +88,10 @@ said_at at (e ∷ es) c even = (even.0, said_at at es c even.1)
 -- a node behind its parts
 pub ended_even : (at : Span) (inside : List Ty) (steps : List Step) (o : Own) (c : Before) → AreEvenTypes c inside → AreEven c steps → EvenOwn o c → EvenWalked (ended at inside steps o) c
 ended_even at inside steps o c nodes before own = record {
-  is = own.is;
+  is = even_variable c o.next;
   nodes = nodes;
-  said = steps_both steps (same_at at o.equations ++ typed_at at o.ty ∷ []) c before
-      (steps_both (same_at at o.equations) (typed_at at o.ty ∷ []) c (said_at at o.equations c own.equations) (own.is, tt));
+  said = steps_both steps (same_at at o.equations ++ typed_at at o.next o.ty ∷ []) c before
+      (steps_both (same_at at o.equations) (typed_at at o.next o.ty ∷ []) c (said_at at o.equations c own.equations) (own.is, tt));
 }
 
 -- ---- new numbers

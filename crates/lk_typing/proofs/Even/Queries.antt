@@ -10,7 +10,7 @@ use Rattle.lk_types.specs.declared.ty.Effects.{Effects}
 use Rattle.lk_types.specs.declared.ty.RowTail.TheVariants.{Closed, Var}
 use Rattle.lk_types.specs.declared.ty.Ty.{Ty}
 use Rattle.lk_types.specs.declared.ty.Ty.TheVariants as ty
-use Rattle.lk_typing.proofs.Even.Found.{Before, Stays, Found, mapped, weaker, here, onward, beside, new, any_sets}
+use Rattle.lk_typing.proofs.Even.Found.{Before, Stays, Found, mapped, one_further, weaker, here, onward, beside, new, any_sets}
 use Rattle.lk_typing.proofs.Even.Forms.{more_names, other_row}
 use Rattle.lk_typing.proofs.Even.Lists.{EvenThrough}
 use Rattle.lk_typing.proofs.Even.Nodes.{IfThere, Context, Even, EvenOwn, EvenTold, EvenWalked, EvenAll, all_even, steps_both, ended_even, own_found, has_if_found}
@@ -64,7 +64,7 @@ module _ (functions : Named (Entry Ty)) where
       let m : ℕ = w.next in
       let ordered : Told = keys_told w.ty keys (1 + m) in
       let client : Told = has_if (is_there keys) effects effect.Local (1 + ordered.next) in
-      onward known (even_body names scanning n b (weaker known (λ d all. other_row functions names effects scanning d all refl))) (λ c two.
+      one_further (onward known (even_body names scanning n b (weaker known (λ d all. other_row functions names effects scanning d all refl))) (λ c two.
       onward two (any_sets m (1 + m) c (omega arith)) (λ c three.
       onward three (keys_found w.ty keys (1 + m) c three (λ d all. all.0.1.is)) (λ c four.
       onward four (new ordered.next c (same_effect effect.Scan)) (λ c five.
@@ -76,11 +76,11 @@ module _ (functions : Named (Entry Ty)) where
       (record {
         is = body_is.is;
         equations = ((body_is.is, even_list d (ty.Var m) (even_variable d m)), each_both (IsEvenEquation d) ordered.equations (has effects effect.Scan ordered.next ∷ client.equations) keys_are.equations (even_has d effects effect.Scan ordered.next given.row all.0.1, all.1.equations));
-      })))))))
+      }))))))))
 
   -- an update or a deletion of a table
   pub change_even : (at : Span) (k : ChangeWalk) (o : Option TableDecl) → Even functions k.cond → EvenThrough functions (map (λ set. set.1) k.sets) → Even functions (change_in at k o)
-  change_even at k None even_cond even_sets names effects n b known = mapped (here known) (λ c given. ended_even at [] [] (never n) c tt tt (never_even c n))
+  change_even at k None even_cond even_sets names effects n b known = one_further (mapped (here known) (λ c given. ended_even at [] [] (never n) c tt tt (never_even c n)))
   change_even at k (Some table) even_cond even_sets names effects n b known =
       let t : Ty = row_of table in
       let inner : Named Ty = (k.name, t) ∷ names in
@@ -90,10 +90,10 @@ module _ (functions : Named (Entry Ty)) where
       let all_sets : WalkedAll = walk_all ws inner none w.next in
       let labels : List Label = map (λ set. set.0) k.sets in
       let o : Own = set_own effects t w.ty (labelled labels all_sets.types) all_sets.next in
-      onward known (even_cond inner none n b (weaker known (λ d all. other_row functions inner effects none d (more_names functions ((k.name, t) ∷ []) names effects d all (even_row_of d table, tt)) refl))) (λ c two.
+      one_further (onward known (even_cond inner none n b (weaker known (λ d all. other_row functions inner effects none d (more_names functions ((k.name, t) ∷ []) names effects d all (even_row_of d table, tt)) refl))) (λ c two.
       onward two (even_sets inner none w.next c (weaker two (λ d all. other_row functions inner effects none d (more_names functions ((k.name, t) ∷ []) names effects d all.0 (even_row_of d table, tt)) refl))) (λ c three.
       mapped (beside three (set_own_found effects t w.ty (labelled labels all_sets.types) all_sets.next c three (λ d all. ((all.0.0.row, even_row_of d table), (all.0.1.is, labelled_even d labels all_sets.types all.1.are))))) (λ d all. (
       let cond_is : EvenWalked w d = all.0.0.1 in
       let sets_are : EvenAll all_sets d = all.0.1 in
       ended_even at (all_types w ++ all_sets.inside) (w.steps ++ all_sets.steps) o d (each_both (IsEven d) (all_types w) all_sets.inside (all_even w d cond_is) sets_are.nodes)
-      (steps_both w.steps all_sets.steps d cond_is.said sets_are.said) all.1))))
+      (steps_both w.steps all_sets.steps d cond_is.said sets_are.said) all.1)))))

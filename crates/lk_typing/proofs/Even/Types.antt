@@ -17,7 +17,7 @@ use Rattle.lk_types.specs.declared.ty.Ty.TheVariants as ty
 use Rattle.lk_types.specs.declared.ty.TyField.{TyField}
 use Rattle.lk_types.specs.declared.ty.TyRow.{TyRow}
 use Rattle.lk_typing.proofs.Lists.{each_both}
-use Rattle.lk_typing.proofs.Even.Loose.{rows_of_row, rows_of_field, rows_rolled_row}
+use Rattle.lk_typing.proofs.Even.Loose.{rows_of_row, rows_of_field, rows_rolled_row, rows_variable}
 use Rattle.lk_typing.specs.EffectRows.{rows_of, HasBefore, IsEven}
 use Rattle.lk_typing.specs.Names.{Named}
 use Rattle.lk_typing.specs.Unknowns.{base, field, row, record_of, variant_of, unit, effects_of, row_of, has}
@@ -35,10 +35,6 @@ rows_bool = search the_lemmas
 rows_text : rows_of ty.Text ≡ []
 unfolding rows_of
 rows_text = search the_lemmas
-
-rows_variable : (n : ℕ) → rows_of (ty.Var n) ≡ []
-unfolding rows_of
-rows_variable n = search the_lemmas
 
 rows_list : (t : Ty) → rows_of (ty.List t) ≡ rows_of t
 unfolding rows_of

@@ -43,7 +43,7 @@ module _ (functions : Named (Entry Ty)) (known_functions : Named (Entry Ground))
       let found : FoundAll functions known_functions tables σ all (parts_of e) known_names s = all_sound functions known_functions tables ws (parts_of e) sound σ names known_names effects s n fs ns es parts.before in
       let own_found : (t : Ground) × (under σ o.ty ≡ Some t) × Rule known_functions tables known_names s h found.ts t =
       operator_sound σ functions known_functions tables names known_names effects s h all.types found.ts all.next fs ns es found.types parts.equations parts.ty in
-      record { t = own_found.0; inside = found.inside; ty = own_found.1; nodes = found.nodes; typed = plain h found.ts is found.typed own_found.2 }
+      record { t = own_found.0; inside = found.inside; ty = parts.node ∙ own_found.1; nodes = found.nodes; typed = plain h found.ts is found.typed own_found.2 }
 
   at_walk : (e : Expr) (w : Walking) → by_walk e ≡ w → IsSound w e → IsSound (by_walk e) e
   at_walk e w is sound = subst (λ v. IsSound v e) (sym is) sound

@@ -24,11 +24,12 @@ use Rattle.lk_typing.proofs.Scopes.{names_both, same_types, params_known, params
 use Rattle.lk_typing.proofs.Values.{just, met, list_is, function_is}
 use Rattle.lk_typing.specs.Equations.{Own, own}
 use Rattle.lk_typing.specs.Names.{Named, Entry, types_of}
-use Rattle.lk_typing.specs.Steps.{Step, Meets, Holds, same_at}
+use Rattle.lk_typing.specs.Steps.{Meets, Holds, same_at}
 use Rattle.lk_typing.specs.Types.{function_of}
 use Rattle.lk_typing.specs.Typing.{HasType, lambda, var, for_list, for_table, HasIf, is_marked}
 use Rattle.lk_typing.specs.Unknowns as unknown
 use Rattle.lk_typing.specs.Walk.{Walking, Walked, Told, all_types, has_if, params_from, lambda_walked, var_walked, for_list_walked, for_table_walked}
+use Rattle.lk_typing.specs.declared.step.Step.{Step}
 
 module _ (functions : Named (Entry Ty)) (known_functions : Named (Entry Ground)) (tables : List TableDecl) where
   abbrev IsSound : Walking → Expr → Type 0
@@ -52,7 +53,7 @@ module _ (functions : Named (Entry Ty)) (known_functions : Named (Entry Ground))
       record {
         t = has_rest.t;
         inside = (has_d.t ∷ has_d.inside) ++ (has_rest.t ∷ has_rest.inside);
-        ty = has_rest.ty;
+        ty = parts.node ∙ has_rest.ty;
         nodes = nodes_both σ w v has_d.t has_rest.t has_d.inside has_rest.inside has_d.ty has_d.nodes has_rest.ty has_rest.nodes;
         typed = var x d rest has_d.t has_d.inside has_rest.inside is has_d.typed has_rest.typed;
       }
@@ -78,7 +79,7 @@ module _ (functions : Named (Entry Ty)) (known_functions : Named (Entry Ground))
       record {
         t = function_of (types_of known_params) own_set has_body.t;
         inside = has_body.t ∷ has_body.inside;
-        ty = function_is σ (types_of params) (types_of known_params) own_effects own_set w.ty has_body.t (same_types σ params known_params seen_params) own_has has_body.ty;
+        ty = parts.node ∙ function_is σ (types_of params) (types_of known_params) own_effects own_set w.ty has_body.t (same_types σ params known_params seen_params) own_has has_body.ty;
         nodes = nodes_of σ w has_body.t has_body.inside has_body.ty has_body.nodes;
         typed = lambda l known_params own_set has_body.t is (params_named σ (1 + n) l.params) moves has_body.typed (has_sound σ effects s effect.Local w.next es parts.equations.0);
       }
@@ -102,7 +103,7 @@ module _ (functions : Named (Entry Ty)) (known_functions : Named (Entry Ground))
       record {
         t = known.List b;
         inside = (known.List a ∷ has_d.inside) ++ (known.List b ∷ has_body.inside);
-        ty = list_is σ (ty.Var v.next) b (under_variable σ v.next);
+        ty = parts.node ∙ list_is σ (ty.Var v.next) b (under_variable σ v.next);
         nodes = nodes_both σ w v (known.List a) (known.List b) has_d.inside has_body.inside (has_d.ty ∙ ap (λ t. Some t) is_list) has_d.nodes (has_body.ty ∙ ap (λ t. Some t) is_answer) has_body.nodes;
         typed = for_list x d inner a b has_d.inside has_body.inside is (subst (λ t. Typing known_names s d t has_d.inside) is_list has_d.typed) (subst (λ t. Typing ((x.text, a) ∷ known_names) s inner t has_body.inside) is_answer has_body.typed);
       }
@@ -128,7 +129,7 @@ module _ (functions : Named (Entry Ty)) (known_functions : Named (Entry Ground))
       record {
         t = known.List b;
         inside = (known.List a ∷ has_d.inside) ++ (known.List b ∷ has_body.inside);
-        ty = list_is σ (ty.Var v.next) b (under_variable σ v.next);
+        ty = parts.node ∙ list_is σ (ty.Var v.next) b (under_variable σ v.next);
         nodes = nodes_both σ w v (known.List a) (known.List b) has_d.inside has_body.inside (has_d.ty ∙ ap (λ t. Some t) is_list) has_d.nodes (has_body.ty ∙ ap (λ t. Some t) is_answer) has_body.nodes;
         typed = for_table x d inner a b has_d.inside has_body.inside is (subst (λ t. Typing known_names s d t has_d.inside) is_list has_d.typed) (subst (λ t. Typing ((x.text, a) ∷ known_names) s inner t has_body.inside) is_answer has_body.typed);
       }

@@ -127,7 +127,7 @@ module _ (functions : Named (Entry Ty)) (known_functions : Named (Entry Ground))
       record {
         t = known.List a;
         inside = known.List a ∷ has_body.inside;
-        ty = becomes;
+        ty = parts.node ∙ becomes;
         nodes = nodes_of σ w (known.List a) has_body.inside becomes has_body.nodes;
         typed = query keys inner a has_body.inside is (subst (λ t. Typing known_names only_scan inner t has_body.inside) is_list has_body.typed) (keys_sound σ w.ty a keys (1 + m) becomes rest.0)
             (has_sound σ effects s effect.Scan ordered.next es rest.1.0) (has_if_sound σ effects s effect.Local (1 + ordered.next) es (is_there keys) rest.1.1);
@@ -213,7 +213,7 @@ module _ (functions : Named (Entry Ty)) (known_functions : Named (Entry Ground))
       let name : known_inner ≡ ((out-ChangeExpr change).name.text, g) ∷ known_names = ap (λ x. (x, g) ∷ known_names) sound.name in
       record {
         inside = (known.Bool ∷ has_cond.inside) ++ has_sets.inside;
-        ty = sets.ty;
+        ty = parts.node ∙ sets.ty;
         nodes = become_both σ (all_types w) all.inside (known.Bool ∷ has_cond.inside) has_sets.inside (nodes_of σ w known.Bool has_cond.inside sets.is_test has_cond.nodes) has_sets.nodes;
         typed = changed row sets.sets has_sets.ts has_cond.inside has_sets.inside
             (subst (λ o. IsRowOf o row) (sym is ∙ ap (table_named tables) sound.table) of_table.1)

@@ -25,11 +25,12 @@ use Rattle.lk_typing.proofs.Nodes.{EndedMet, ended_met, one_more, nodes_of}
 use Rattle.lk_typing.proofs.Values.{just, met, under_variant}
 use Rattle.lk_typing.specs.Equations.{Own, own}
 use Rattle.lk_typing.specs.Names.{Named, Entry}
-use Rattle.lk_typing.specs.Steps.{Step, Meets, Holds}
+use Rattle.lk_typing.specs.Steps.{Meets, Holds}
 use Rattle.lk_typing.specs.Types.{variant_of, with_fields}
 use Rattle.lk_typing.specs.Typing.{HasType, switch, switch_open}
 use Rattle.lk_typing.specs.Unknowns as unknown
 use Rattle.lk_typing.specs.Walk.{Walking, Walked, all_types, CaseWalk, WalkedCases, walk_cases, one_type, switch_walked}
+use Rattle.lk_typing.specs.declared.step.Step.{Step}
 
 pub made : {A B : Type 0} (f : A → B) (o : Option A) (b : B) → option_map f o ≡ Some b → (a : A) × (o ≡ Some a) × (b ≡ f a)
 made f None b is = let wrong : None ≡ Some b = is in cc
@@ -84,7 +85,7 @@ module _ (functions : Named (Entry Ty)) (known_functions : Named (Entry Ground))
       record {
         t = one.0;
         inside = (variant_of seen.row ∷ has_d.inside) ++ has_cases.inside;
-        ty = one.1;
+        ty = parts.node ∙ one.1;
         nodes = become_both σ (all_types w) c.bodies.inside (variant_of seen.row ∷ has_d.inside) has_cases.inside (nodes_of σ w (variant_of seen.row) has_d.inside (has_d.ty ∙ ap (λ t. Some t) seen.is) has_d.nodes) has_cases.nodes;
         typed = switch d cases seen.row has_cases.tags has_cases.ts has_d.inside has_cases.inside is (subst (λ t. Typing known_names s d t has_d.inside) seen.is has_d.typed) has_cases.typed one.2 seen.tagged (has_sound σ effects s effect.Local bodies.next es rest.1.0);
       }
@@ -121,7 +122,7 @@ module _ (functions : Named (Entry Ty)) (known_functions : Named (Entry Ground))
       record {
         t = one.0;
         inside = (variant_of seen.row ∷ has_d.inside) ++ (has_cases.inside ++ (one.0 ∷ has_last.inside));
-        ty = one.1;
+        ty = parts.node ∙ one.1;
         nodes = become_both σ (all_types w) (c.bodies.inside ++ all_types v) (variant_of seen.row ∷ has_d.inside) (has_cases.inside ++ (one.0 ∷ has_last.inside))
             (nodes_of σ w (variant_of seen.row) has_d.inside (has_d.ty ∙ ap (λ t. Some t) seen.is) has_d.nodes)
             (become_both σ c.bodies.inside (all_types v) has_cases.inside (one.0 ∷ has_last.inside) has_cases.nodes (nodes_of σ v one.0 has_last.inside (has_last.ty ∙ ap (λ t. Some t) each.1.0) has_last.nodes));

@@ -1,0 +1,18 @@
+use lk_ast::Span;
+use lk_types::{Equation, Ty};
+
+/// What a walk through a text says of types.
+#[derive(Debug, Drop)]
+pub enum Said {
+    /// Two types are the same.
+    Same(Equation),
+    /// A node of the text has this type, and the variable of that number stands for it from there on.
+    Typed(u32, Ty),
+}
+
+/// What is said at a place of the text: at a node, or at the name of a function.
+#[derive(Debug, Drop)]
+pub struct Step {
+    pub at: Span,
+    pub said: Said,
+}
