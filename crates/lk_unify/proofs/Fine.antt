@@ -92,14 +92,14 @@ too_large es beyond solution =
 
 -- ---- the first equations
 
-first_solution : (k : ℕ) (es : List Equation) → HasSolution es → HasSolution (take k es)
+pub first_solution : (k : ℕ) (es : List Equation) → HasSolution es → HasSolution (take k es)
 first_solution k es solution = (solution.0, each_first (IsMet solution.0) k es solution.1)
 
 module _ (es : List Equation) (o : OwnNodes es) (k : ℕ) (part : HasNodes (take k es)) (solution : HasSolution (take k es)) where
-  abbrev p : OwnNodes (take k es)
+  abbrev pub p : OwnNodes (take k es)
   p = own_of_nodes part solution
 
-  abbrev ρ : Opening
+  abbrev pub ρ : Opening
   ρ = opening_by o.loader o.values
 
   -- what all equations put for the variables gives values of the nodes of the first ones
@@ -114,7 +114,7 @@ module _ (es : List Equation) (o : OwnNodes es) (k : ℕ) (part : HasNodes (take
   side_value v ρ e n t side fits agrees is = sym (some_once (Plain t) (v n) (sym (ap (option_map Plain) is) ∙ side.meaning v ρ fits agrees))
 
   -- a side counts no more than under all equations
-  side_below : (e : Equation) (n : ℕ) (t u : Ty) → IsSide part.loader e n → part.kind n ≡ OfTypes → opened (opening_by p.loader p.values) e.left ≡ Some t → opened ρ e.left ≡ Some u → count 0 t ≤ count 1 u
+  pub side_below : (e : Equation) (n : ℕ) (t u : Ty) → IsSide part.loader e n → part.kind n ≡ OfTypes → opened (opening_by p.loader p.values) e.left ≡ Some t → opened ρ e.left ≡ Some u → count 0 t ≤ count 1 u
   side_below e n t u side types is whole =
       let least : value_count 1 (part.kind n) (p.values n) ≤ value_count 1 (part.kind n) (values.0 n) =
       own_least part.loader.arena.shapes part.loader.arena.classes part.kind p.rank p.name p.values values.0 part.says.whole.arena part.kinded.nodes p.ranked p.own weak_values n side.below in

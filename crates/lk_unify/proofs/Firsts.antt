@@ -15,7 +15,7 @@ pub solution_first : (es : List Equation) (n : ℕ) → HasSolution es → HasSo
 solution_first es n solution = (solution.0, each_first (IsMet solution.0) n es solution.1)
 
 -- the first of the first
-pub first_of_first : (es : List Equation) (j k : ℕ) → j ≤ k → take j (take k es) ≡ take j es
+pub first_of_first : {A : Type 0} (es : List A) (j k : ℕ) → j ≤ k → take j (take k es) ≡ take j es
 first_of_first es zero k h = refl
 first_of_first [] (suc j) zero h = absurd (omega arith)
 first_of_first (e ∷ es) (suc j) zero h = absurd (omega arith)

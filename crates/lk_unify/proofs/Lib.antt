@@ -3,6 +3,8 @@ pub mod Decided
 pub mod EffectRows
 pub mod EffectSets
 pub mod Fine
+pub mod FineFirsts
+pub mod FineSides
 pub mod Firsts
 pub mod Generality
 pub mod GroundInduction
@@ -11,6 +13,7 @@ pub mod GroundModel
 pub mod GroundValues
 pub mod Grounded
 pub mod Instances
+pub mod Joined
 pub mod LabelMaps
 pub mod LoadEffects
 pub mod LoadEquations
@@ -49,6 +52,8 @@ pub mod RowCounts
 pub mod RowsBefore
 pub mod SameVariable
 pub mod Shaping
+pub mod SideCounts
+pub mod SideTypes
 pub mod Solved
 pub mod SolvedForm
 pub mod Solving

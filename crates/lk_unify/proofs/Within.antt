@@ -174,7 +174,7 @@ module _ (closed : ℕ) {es : List Equation} (o : OwnNodes es) (counts : List Co
   abbrev pub side_count : ℕ → ℕ
   side_count n = (count_at o.loader.arena.classes counts n).as_type
 
-  IsSideWith : Equation → ℕ → Type 0
+  unfoldable pub IsSideWith : Equation → ℕ → Type 0
   IsSideWith e n = (t : Ty) × (opened (opening_by o.loader o.values) e.left ≡ Some t) × (side_count n ≡ saturated (count closed t))
 
   of_plain : (s : Option Ty) (x : Value) → option_map Plain s ≡ Some x → (t : Ty) × (s ≡ Some t) × (x ≡ Plain t)
@@ -184,7 +184,7 @@ module _ (closed : ℕ) {es : List Equation} (o : OwnNodes es) (counts : List Co
   of_types : (k : Kind) (c : Count) (x : Value) (t : Ty) → k ≡ OfTypes → x ≡ Plain t → IsCountOf k c (value_count closed k x) → c.as_type ≡ saturated (count closed t)
   of_types k c x t kind is counts = subst (λ x. IsCountOf OfTypes c (value_count closed OfTypes x)) is (subst (λ k. IsCountOf k c (value_count closed k x)) kind counts)
 
-  its_count : (e : Equation) (n : ℕ) → IsSide o.loader e n → o.kind n ≡ OfTypes → IsSideWith e n
+  pub its_count : (e : Equation) (n : ℕ) → IsSide o.loader e n → o.kind n ≡ OfTypes → IsSideWith e n
   unfolding IsSideWith
   its_count e n side kind =
       let t = of_plain (opened (opening_by o.loader o.values) e.left) (o.values n) (side.meaning o.values (opening_by o.loader o.values) o.own.fits (own_agrees o)) in
@@ -217,7 +217,7 @@ module _ (closed : ℕ) {es : List Equation} (o : OwnNodes es) (counts : List Co
   one_beyond (e ∷ xs) [] sides types one = absurd sides
 
 module _ (l : Loader) (sides : List ℕ) (es : List Equation) (loaded : AreLoaded l sides es (length es)) where
-  whole_sides : AreSides l es sides
+  pub whole_sides : AreSides l es sides
   whole_sides = subst (λ xs. AreSides l xs sides) (take_all (length es) es (omega arith)) loaded.sides_are
 
   pub sides_in_classes : Each (λ n. n < length l.arena.classes) sides

@@ -2,25 +2,33 @@
 //!
 //! Equations become nodes that are merged into classes (`lk_arena`). `specs/Loading` and `specs/Solving` say what nodes have to do
 //! with equations, `specs/Models` that there are values of the nodes, and with a variable for each class of which nothing is known;
-//! `specs/Reading` what is read back of those, and `specs/Small` how large the sides of equations are.
+//! `specs/Reading` what is read back of those, and `specs/Small` how large the sides of equations are. `specs/Constraints` says what
+//! solves constraints, equations whose sizes needn't matter everywhere, and `specs/SideSizes` which sizes are looked at.
 #![tactic(auto)]
 
 mod chain;
+mod constrained;
+#[cfg(test)]
+mod constrained_tests;
+mod constraint;
 mod load;
 mod loader;
 mod numbers;
 mod reading;
 mod row_fields;
+mod side_sizes;
 mod small;
-mod solve;
+mod solvable;
 #[cfg(test)]
 mod solve_tests;
 mod unifying;
 
+pub use constrained::solve;
+pub use constraint::{Constraint, Sizing};
 pub use load::load_equation;
 pub use loader::Loader;
 pub use numbers::numbers_for;
 pub use reading::read_all;
 pub use small::MOST_NODES;
-pub use solve::{Loaded, first_unsolvable, is_solvable, load_all};
+pub use solvable::{Loaded, first_unsolvable, is_solvable, load_all};
 pub use unifying::{UnifyError, unify};

@@ -81,7 +81,7 @@ fn read_made(
 
 /// The types of nodes.
 #[cycle(reading)]
-fn read_types(
+pub fn read_types(
     alloc: Global,
     arena: &Arena,
     numbers: &[u32],

@@ -9,7 +9,7 @@ ghost use Rattle.lk_arena.specs.Counting.{count_at as the_count_at, IsPartsFirst
 ghost use Rattle.lk_unify.specs.Small.{AreWithin, HasBeyond};
 ghost use Rattle.lk_unify.specs.Solving.{AreLoaded, HasNodes};
 
-use crate::solve::{Loaded, load_all};
+use crate::solvable::{Loaded, load_all};
 use lk_arena::{Count, count_at, counts, parts_first};
 use lk_ast::NoMemory;
 use lk_classes::Classes;

@@ -9,7 +9,7 @@ ghost use Rattle.std.specs.Prelude.{◌≡◌, ℕ, Err, IfOk};
 use crate::numbers::numbers_for;
 use crate::reading::read_all;
 use crate::small::{first_too_large, load_ordered};
-use crate::solve::first_unsolvable;
+use crate::solvable::first_unsolvable;
 use lk_ast::NoMemory;
 use lk_types::{Equation, Subst};
 use std::alloc::Global;

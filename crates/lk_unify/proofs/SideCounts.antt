@@ -1,0 +1,76 @@
+-- Numbers of which some matter, by the sizings beside them: all within what a type may have, or one beyond.
+use Rattle.std.proofs.Common.{◌≡◌, ℕ, zero, suc, ◌+◌, ◌<◌, ◌≤◌, true, inl, inr, List, [], ◌∷◌, length, map, take, get_or, Option, Some, None, refl, subst, arith}
+use Rattle.lk_types.specs.Sizes.{most_nodes}
+use Rattle.lk_types.specs.declared.ty.Ty.{Ty}
+use Rattle.lk_unify.proofs.OpenCounts.{count_nodes}
+use Rattle.lk_unify.specs.Constraints.{matters, AreFew, AreTooMany}
+use Rattle.lk_unify.specs.Nodes.{count}
+use Rattle.lk_unify.specs.SideSizes.{is_late, last_by, sizings_of, AreAllWithin, IsOneBeyond}
+use Rattle.lk_unify.specs.declared.constraint.Constraint.{Constraint}
+use Rattle.lk_unify.specs.declared.constraint.Sizing.{Sizing}
+use Rattle.lk_unify.specs.declared.constraint.Sizing.TheVariants.{Always, Late, Never}
+
+-- ---- which matter
+
+-- it is enough to know of the last whether it is late
+pub by_late : (s t : Sizing) → matters (last_by (is_late s)) t ≡ matters (Some s) t
+by_late Always Always = refl
+by_late Always Late = refl
+by_late Always Never = refl
+by_late Late Always = refl
+by_late Late Late = refl
+by_late Late Never = refl
+by_late Never Always = refl
+by_late Never Late = refl
+by_late Never Never = refl
+
+-- what matters at all matters where the last is late
+pub most_late : (end : Option Sizing) (t : Sizing) → matters end t ≡ true → matters (Some Late) t ≡ true
+most_late end Always e = refl
+most_late end Late e = refl
+most_late None Never e = e
+most_late (Some Always) Never e = e
+most_late (Some Late) Never e = e
+most_late (Some Never) Never e = e
+
+-- ---- one number after another
+
+module _ (end : Option Sizing) (f : ℕ → ℕ) (d : Sizing) where
+  within_next : (ss : List Sizing) (ns : List ℕ) (i : ℕ) → i < length ss → i < length ns → AreAllWithin end (take i ss) (map f (take i ns)) →
+      (matters end (get_or ss i d) ≡ true → f (get_or ns i 0) ≤ most_nodes) → AreAllWithin end (take (suc i) ss) (map f (take (suc i) ns))
+  within_next [] ns i below under all one = absurd (omega arith)
+  within_next (s ∷ ss) [] i below under all one = absurd (omega arith)
+  within_next (s ∷ ss) (n ∷ ns) zero below under all one = (one, tt)
+  within_next (s ∷ ss) (n ∷ ns) (suc i) below under all one = (all.0, within_next ss ns i (omega arith) (omega arith) all.1 one)
+
+  pub within_more : (ss : List Sizing) (ns : List ℕ) (i : ℕ) → i < length ss → i < length ns → AreAllWithin end (take i ss) (map f (take i ns)) →
+      (matters end (get_or ss i d) ≡ true → f (get_or ns i 0) ≤ most_nodes) → AreAllWithin end (take (i + 1) ss) (map f (take (i + 1) ns))
+  within_more ss ns i below under all one =
+      subst (λ k. AreAllWithin end (take k ss) (map f (take k ns))) (let next : suc i ≡ i + 1 = omega arith in next) (within_next ss ns i below under all one)
+
+  pub beyond_at : (ss : List Sizing) (ns : List ℕ) (i : ℕ) → i < length ss → i < length ns → matters end (get_or ss i d) ≡ true → most_nodes < f (get_or ns i 0) → IsOneBeyond end ss (map f ns)
+  beyond_at [] ns i below under is more = absurd (omega arith)
+  beyond_at (s ∷ ss) [] i below under is more = absurd (omega arith)
+  beyond_at (s ∷ ss) (n ∷ ns) zero below under is more = inl (is, more)
+  beyond_at (s ∷ ss) (n ∷ ns) (suc i) below under is more = inr (beyond_at ss ns i (omega arith) (omega arith) is more)
+
+-- the first of them
+pub within_first : (end : Option Sizing) (k : ℕ) (ss : List Sizing) (ns : List ℕ) → AreAllWithin end ss ns → AreAllWithin end (take k ss) (take k ns)
+within_first end zero ss ns all = tt
+within_first end (suc k) [] ns all = tt
+within_first end (suc k) (s ∷ ss) [] all = tt
+within_first end (suc k) (s ∷ ss) (n ∷ ns) all = (all.0, within_first end k ss ns all.1)
+
+-- ---- as sizes of types
+
+module _ (end last : Option Sizing) where
+  pub few : ((s : Sizing) → matters last s ≡ true → matters end s ≡ true) → (cs : List Constraint) (types : List Ty) → AreAllWithin end (sizings_of cs) (map (count 0) types) → AreFew last cs types
+  few more [] types all = tt
+  few more (c ∷ cs) [] all = tt
+  few more (c ∷ cs) (t ∷ ts) all = ((λ (e : matters last c.sizing ≡ true). subst (λ n. n ≤ most_nodes) (count_nodes t) (all.0 (more c.sizing e))), few more cs ts all.1)
+
+  pub too_many : ((s : Sizing) → matters end s ≡ true → matters last s ≡ true) → (cs : List Constraint) (types : List Ty) → IsOneBeyond end (sizings_of cs) (map (count 0) types) → AreTooMany last cs types
+  too_many less [] types one = one
+  too_many less (c ∷ cs) [] one = one
+  too_many less (c ∷ cs) (t ∷ ts) (inl is) = inl (less c.sizing is.0, subst (λ n. most_nodes < n) (count_nodes t) is.1)
+  too_many less (c ∷ cs) (t ∷ ts) (inr one) = inr (too_many less cs ts one)

@@ -1,0 +1,14 @@
+use Rattle.std.specs.Prelude.{◌-◌, ◌≤◌, length, take}
+use Rattle.lk_unify.proofs.side_sizes.surely_fine.Given as goal
+use Rattle.lk_unify.specs.Constraints.{AllFine}
+use Rattle.lk_unify.specs.SideSizes.{joined}
+
+abbrev pub invariant-halving : goal.invariant-halving
+invariant-halving l = record {
+  ordered : l.low ≤ l.high;
+  within : l.high ≤ length l.equations;
+  fine : AllFine (take l.low (joined l.equations l.sizings));
+}
+
+abbrev pub decreases-halving : goal.decreases-halving
+decreases-halving l = l.high - l.low

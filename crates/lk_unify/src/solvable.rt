@@ -1,0 +1,132 @@
+//! Lists of equations as nodes, and whether they have a solution.
+
+ghost use Rattle.lk_types.specs.Solutions.{HasSolution};
+ghost use Rattle.lk_types.specs.Variables.{equation_variables};
+ghost use Rattle.lk_unify.specs.Loading.{IsLoader};
+ghost use Rattle.lk_unify.specs.Solving.{AddsEquation, AreBound, AreLoaded, IsFirstWithout, IsStart, NeverMeets};
+ghost use Rattle.std.specs.Prelude.{◌≡◌, false, length, IfNone, IfOk, IfSome, IsTrue, OnOk};
+
+use crate::load::{load_equation, load_variable};
+use crate::loader::Loader;
+use lk_arena::{is_clean, is_ordered, merge_nodes};
+use lk_ast::{List, NoMemory};
+use lk_types::{Equation, Variable, push_variables};
+use std::alloc::Global;
+
+/// Equations as nodes, and for each of them the node that stands for its sides.
+#[derive(Drop)]
+pub struct Loaded {
+    pub loader: Loader,
+    pub sides: List<usize>,
+}
+
+/// The variables of all equations, each where it stands in the text.
+fn variables_in(alloc: Global, equations: &[Equation]) -> Result<List<Variable>, NoMemory>
+    ensures { IfOk result (λ variables. variables ≡ equation_variables equations.now) }
+{
+    let mut variables = List::new(alloc);
+    for equation in equations {
+        push_variables(&mut variables, &equation.left)?;
+        push_variables(&mut variables, &equation.right)?;
+    }
+    Ok(variables)
+}
+
+/// Gives each variable a node.
+fn bind_all(loader: &mut Loader, variables: &[Variable]) -> Result<(), NoMemory>
+    requires { IsStart loader.old }
+    ensures start { OnOk result (IsStart loader.new) }
+    ensures bound { OnOk result (AreBound loader.new variables.now) }
+{
+    for variable in variables {
+        load_variable(loader, *variable)?;
+    }
+    Ok(())
+}
+
+/// Nodes for all variables of the equations, of which nothing is said yet.
+fn start(alloc: Global, equations: &[Equation]) -> Result<Loader, NoMemory>
+    ensures start { IfOk result (λ loader. IsStart loader) }
+    ensures bound { IfOk result (λ loader. AreBound loader (equation_variables equations.now)) }
+{
+    let variables = variables_in(alloc, equations)?;
+    let mut loader = Loader::new(alloc);
+    bind_all(&mut loader, variables.as_slice())?;
+    Ok(loader)
+}
+
+/// Makes the sides of an equation into nodes and merges them. The answer is the node of both, or none where the equation can't be
+/// met.
+fn add_equation(
+    alloc: Global,
+    loader: &mut Loader,
+    equation: &Equation,
+) -> Result<Option<usize>, NoMemory>
+    requires { IsLoader loader.old }
+    ensures added { IfOk result (λ found. IfSome found (λ node. AddsEquation loader.old loader.new equation.now node)) }
+    ensures never { IfOk result (λ found. IfNone found (NeverMeets loader.old equation.now)) }
+{
+    let Some(pair) = load_equation(alloc, loader, equation)? else {
+        return Ok(None);
+    };
+    if merge_nodes(alloc, &mut loader.arena, pair.left, pair.right)? {
+        return Ok(Some(pair.left));
+    }
+    Ok(None)
+}
+
+/// Makes nodes of all equations. The answer is none where they have no solution.
+pub fn load_all(alloc: Global, equations: &[Equation]) -> Result<Option<Loaded>, NoMemory>
+    ensures loaded { IfOk result (λ found. IfSome found (λ all. AreLoaded all.loader all.sides equations.now (length equations.now))) }
+    ensures never { IfOk result (λ found. IfNone found (HasSolution equations.now → ⊥)) }
+{
+    let mut loader = start(alloc, equations)?;
+    let mut sides = List::new(alloc);
+    for equation in equations {
+        let Some(side) = add_equation(alloc, &mut loader, equation)? else {
+            return Ok(None);
+        };
+        sides.push(side)?;
+    }
+    Ok(Some(Loaded { loader, sides }))
+}
+
+/// Whether the equations have a solution.
+pub fn is_solvable(alloc: Global, equations: &[Equation]) -> Result<bool, NoMemory>
+    ensures solvable { IfOk result (λ solvable. IsTrue solvable → HasSolution equations.now) }
+    ensures never { IfOk result (λ solvable. (solvable ≡ false) → HasSolution equations.now → ⊥) }
+{
+    let Some(all) = load_all(alloc, equations)? else {
+        return Ok(false);
+    };
+    if !is_clean(alloc, &all.loader.arena)? {
+        return Ok(false);
+    }
+    let ordered = is_ordered(
+        alloc,
+        all.loader.arena.shapes.as_slice(),
+        &all.loader.arena.classes,
+    )?;
+    Ok(ordered)
+}
+
+/// The first equation with which those up to it have no solution, if there is one. It is searched for by halves.
+pub fn first_unsolvable(alloc: Global, equations: &[Equation]) -> Result<Option<usize>, NoMemory>
+    ensures solvable { IfOk result (λ found. IfNone found (HasSolution equations.now)) }
+    ensures first { IfOk result (λ found. IfSome found (λ k. IsFirstWithout equations.now k)) }
+{
+    if is_solvable(alloc, equations)? {
+        return Ok(None);
+    }
+    let mut low = 0;
+    let mut high = equations.len();
+    'halving: while high - low > 1 {
+        let middle = low + (high - low) / 2;
+        if is_solvable(alloc, &equations[..middle])? {
+            low = middle;
+        } else {
+            high = middle;
+        }
+    }
+    Ok(Some(low))
+}
