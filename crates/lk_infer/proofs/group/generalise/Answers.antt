@@ -1,0 +1,15 @@
+use Rattle.std.proofs.Common.{◌≡◌, ◌≤◌, length, ap, subst, sym, ◌∙◌}
+use Rattle.std.specs.Prelude.{take, drop}
+use Rattle.lk_infer.proofs.SolvedWalks.{enough, solved_by}
+use Rattle.lk_infer.proofs.group.generalise.Goals as goal
+use Rattle.lk_infer.specs.Generalised.{AreGeneralised}
+
+pub schemes_of-requires : goal.schemes_of-requires
+schemes_of-requires c = subst (λ n. n ≤ length c.in_ok-types.types) (sym c.len-functions.ensures) (enough c.args.walk c.in_ok-types.types c.in_ok-types.ensures.sides)
+
+pub returns-clause-solved : goal.returns-clause-solved
+returns-clause-solved c =
+    solved_by c.args.walk c.in_ok-types.types c.in_ok-schemes.schemes c.in_ok-schemes.others c.first_types-types.result c.in_ok-types.ensures.sides
+    (c.in_ok-schemes.ensures.others ∙ ap (λ n. drop n c.in_ok-types.types) c.len-functions.ensures)
+    (c.first_types-types.ensures ∙ ap (λ n. take n c.in_ok-schemes.others) c.len-nodes.ensures)
+    (subst (λ n. AreGeneralised c.in_ok-types.types (take n c.in_ok-types.types) c.in_ok-schemes.schemes) c.len-functions.ensures c.in_ok-schemes.ensures.schemes)

@@ -1,0 +1,63 @@
+//! Functions with schemes, for those that come later.
+
+ghost use Rattle.lk_ast.specs.Functions.{functions_in};
+ghost use Rattle.lk_typing.specs.Programs.{entries};
+ghost use Rattle.std.specs.Prelude.{◌≡◌, ◌++◌, IfOk, OnOk};
+
+use lk_ast::{Decl, FunDef, List, NoMemory};
+use lk_types::{Lack, Scheme};
+use lk_walk::{Scope, copy_type};
+use std::alloc::Global;
+use std::slice;
+
+/// The functions of a declaration.
+fn functions_in(decl: &Decl) -> &[FunDef]
+    ensures { result.now ≡ functions_in decl.now }
+{
+    match decl {
+        Decl::Table(_) => &[],
+        Decl::Fun(function) => slice::from_ref(function),
+        Decl::Mutual(functions) => functions.as_slice(),
+    }
+}
+
+fn copy_lacks(alloc: Global, lacks: &[Lack]) -> Result<List<Lack>, NoMemory>
+    ensures { IfOk result (λ copies. copies ≡ lacks.now) }
+{
+    let mut copies = List::new(alloc);
+    for lack in lacks {
+        copies.push(Lack {
+            var: lack.var,
+            label: lack.label.copy(alloc)?,
+        })?;
+    }
+    Ok(copies)
+}
+
+fn copy_scheme(alloc: Global, scheme: &Scheme) -> Result<Scheme, NoMemory>
+    ensures { IfOk result (λ copy. copy ≡ scheme.now) }
+{
+    Ok(Scheme {
+        body: copy_type(alloc, &scheme.body)?,
+        lacks: copy_lacks(alloc, scheme.lacks.as_slice())?,
+    })
+}
+
+/// The functions of a declaration with their schemes, before those that are there.
+pub fn declare<'p>(
+    alloc: Global,
+    earlier: &mut Scope<'p, Scheme>,
+    decl: &'p Decl,
+    schemes: &[Scheme],
+) -> Result<(), NoMemory>
+    ensures { OnOk result (earlier.new ≡ entries (functions_in decl.now) schemes.now ++ earlier.old) }
+{
+    let functions = functions_in(decl);
+    let mut count = functions.len().min(schemes.len());
+    'last_first: while count > 0 {
+        count -= 1;
+        let scheme = copy_scheme(alloc, &schemes[count])?;
+        earlier.push(functions[count].name.text.as_str(), scheme)?;
+    }
+    Ok(())
+}

@@ -1,0 +1,101 @@
+//! Inference for whole programs.
+
+ghost use Rattle.lk_infer.specs.Inferred.{HasTypes};
+ghost use Rattle.lk_infer.specs.Programs.{EndsIllTyped, EndsTooLarge};
+ghost use Rattle.lk_infer.specs.Refusals.{some_large};
+ghost use Rattle.lk_infer.specs.declared.error.InferError.TheVariants as errors;
+ghost use Rattle.lk_ast.specs.Functions.{functions_in};
+ghost use Rattle.lk_ast.specs.declared.place.Span.{Span as TheSpan};
+ghost use Rattle.lk_typing.specs.Programs.{ArePrincipal, IsWellTyped, entries};
+ghost use Rattle.std.specs.Prelude.{◌≡◌, ◌++◌, ◌||◌, Err, IfOk, OnOk};
+
+use crate::declare::declare;
+use crate::error::InferError;
+use crate::group::{Group, infer_group};
+use crate::sizes::any_large;
+use crate::typed::Typed;
+use lk_ast::{Decl, List, NoMemory};
+use lk_names::Scoped;
+use lk_types::{Scheme, Ty};
+use lk_typing::typing_laws;
+use lk_walk::{Scope, Tables};
+use std::alloc::Global;
+
+/// Adds schemes to others.
+fn append_schemes(schemes: &mut List<Scheme>, others: List<Scheme>) -> Result<(), NoMemory>
+    ensures { OnOk result (schemes.new ≡ schemes.old ++ others) }
+{
+    for scheme in others.into_vec() {
+        schemes.push(scheme)?;
+    }
+    Ok(())
+}
+
+/// Adds types to others.
+fn append_types(types: &mut List<Ty>, others: List<Ty>) -> Result<(), NoMemory>
+    ensures { OnOk result (types.new ≡ types.old ++ others) }
+{
+    for ty in others.into_vec() {
+        types.push(ty)?;
+    }
+    Ok(())
+}
+
+/// What is inferred of the declarations so far.
+#[derive(Drop)]
+struct Inference<'p> {
+    /// The functions with their schemes, as later ones see them.
+    earlier: Scope<'p, Scheme>,
+    schemes: List<Scheme>,
+    types: List<Ty>,
+    /// Whether a type of a node is too large.
+    large: bool,
+}
+
+/// Adds what is inferred of one declaration more.
+fn add_group<'p>(
+    alloc: Global,
+    so_far: &mut Inference<'p>,
+    decl: &'p Decl,
+    group: Group,
+) -> Result<(), NoMemory>
+    ensures earlier { OnOk result (so_far.new.earlier ≡ entries (functions_in decl.now) group.schemes ++ so_far.old.earlier) }
+    ensures schemes { OnOk result (so_far.new.schemes ≡ so_far.old.schemes ++ group.schemes) }
+    ensures types { OnOk result (so_far.new.types ≡ so_far.old.types ++ group.types) }
+    ensures large { OnOk result (so_far.new.large ≡ (so_far.old.large || some_large group.types)) }
+{
+    so_far.large |= any_large(group.types.as_slice());
+    declare(alloc, &mut so_far.earlier, decl, group.schemes.as_slice())?;
+    append_schemes(&mut so_far.schemes, group.schemes)?;
+    append_types(&mut so_far.types, group.types)?;
+    Ok(())
+}
+
+/// The principal schemes of a program's functions and the principal types of its nodes, or the first place in the walk at
+/// which what is said can't hold or a type is too large.
+pub fn infer(alloc: Global, program: &Scoped) -> Result<Typed, InferError>
+    ensures principal { IfOk result (λ typed. ArePrincipal program.now typed.schemes) }
+    ensures types { IfOk result (λ typed. HasTypes program.now typed.schemes typed.types) }
+    ensures ill_typed { (at : TheSpan) → result ≡ Err (errors.IllTyped at) → EndsIllTyped program.now at }
+    ensures not_well_typed { (at : TheSpan) → result ≡ Err (errors.IllTyped at) → IsWellTyped program.now → ⊥ }
+    ensures too_large { (at : TheSpan) → result ≡ Err (errors.TypeTooLarge at) → EndsTooLarge program.now at }
+{
+    typing_laws();
+    let program = program.program();
+    let tables = Tables::of(alloc, program)?;
+    let mut so_far = Inference {
+        earlier: Scope::new(alloc),
+        schemes: List::new(alloc),
+        types: List::new(alloc),
+        large: false,
+    };
+    for decl in program.decls.as_slice() {
+        let group = match infer_group(alloc, &so_far.earlier, &tables, decl, so_far.large) {
+            Ok(group) => group,
+            Err(error) => return Err(error),
+        };
+        add_group(alloc, &mut so_far, decl, group)?;
+    }
+    let Inference { schemes, types, .. } = so_far;
+    Ok(Typed { schemes, types })
+}

@@ -1,0 +1,97 @@
+//! The schemes of functions, made of their types.
+
+ghost use Rattle.lk_infer.specs.Generalised.{AreGeneralised, IsGeneralised};
+ghost use Rattle.lk_infer.specs.Lacks.{shown};
+ghost use Rattle.lk_infer.specs.LacksInOrder.{AreInOrder, has_row, in_order, lacks_for, row_number, scheme_for};
+ghost use Rattle.lk_types.specs.Each.{Each};
+ghost use Rattle.lk_types.specs.declared.ty.Ty.{Ty as TheTy};
+ghost use Rattle.std.specs.BTreeSet.{IsFromIterResult, contains};
+ghost use Rattle.std.specs.List.{filter_map};
+ghost use Rattle.std.specs.Ordering.{nat_cmp};
+ghost use Rattle.std.specs.Prelude.{◌≡◌, ◌≤◌, ℕ, List as TheList, IfOk, drop, flat_map, length, map, take};
+
+use crate::lacks::{Shown, all_shown, insert_shown};
+use lk_ast::{List, NoMemory};
+use lk_types::{Lack, Scheme, Ty, Variable, push_variables};
+use std::alloc::Global;
+use std::collections::BTreeSet;
+
+/// The schemes of the first of these types, and the other types. The variables of rows lack what any of the types shows.
+pub fn schemes_of(
+    alloc: Global,
+    types: List<Ty>,
+    count: usize,
+) -> Result<(List<Scheme>, List<Ty>), NoMemory>
+    requires { count ≤ length types }
+    ensures schemes { IfOk result (λ parts. AreGeneralised types (take count types) parts.0) }
+    ensures ordered { IfOk result (λ parts. Each (λ scheme. AreInOrder scheme.lacks) parts.0) }
+    ensures others { IfOk result (λ parts. parts.1 ≡ drop count types) }
+{
+    let all = all_shown(alloc, types.as_slice())?;
+    let mut bodies = types.into_vec();
+    let others = bodies.split_off(count)?;
+    let schemes = schemes_for(alloc, bodies, &all)?;
+    Ok((schemes, List::from_vec(others)))
+}
+
+/// The scheme of each type, where its variables of rows lack what is shown.
+fn schemes_for(alloc: Global, bodies: Vec<Ty>, all: &Shown) -> Result<List<Scheme>, NoMemory>
+    ensures { IfOk result (λ schemes. schemes ≡ map (scheme_for all.now) bodies.items) }
+{
+    let mut schemes = List::new(alloc);
+    for body in bodies {
+        schemes.push(scheme_of(alloc, body, all)?)?;
+    }
+    Ok(schemes)
+}
+
+/// The scheme of a type, where its variables of rows lack what is shown, but for what it shows itself.
+pub fn scheme_of(alloc: Global, body: Ty, all: &Shown) -> Result<Scheme, NoMemory>
+    ensures made { IfOk result (λ scheme. scheme ≡ scheme_for all.now body) }
+    ensures general { IfOk result (λ scheme. (types : TheList TheTy) → all.now ≡ in_order (flat_map shown types) → IsGeneralised types body scheme) }
+{
+    let lacks = lacks_of(alloc, &body, all)?;
+    Ok(Scheme { body, lacks })
+}
+
+/// What the variables of rows of a type lack because of what is shown, but for what it shows itself.
+fn lacks_of(alloc: Global, body: &Ty, all: &Shown) -> Result<List<Lack>, NoMemory>
+    ensures { IfOk result (λ lacks. lacks ≡ lacks_for all.now body.now) }
+{
+    let rows = rows_of(alloc, body)?;
+    let mut own = Shown::new(alloc);
+    insert_shown(alloc, &mut own, body)?;
+    Ok(all.without(alloc, &rows, &own)?)
+}
+
+/// The numbers of the variables of rows of a type.
+fn rows_of(alloc: Global, ty: &Ty) -> Result<BTreeSet<u32>, NoMemory>
+    ensures { IfOk result (λ rows. (n : ℕ) → contains nat_cmp rows n ≡ has_row n ty.now) }
+{
+    let mut variables = List::new(alloc);
+    push_variables(&mut variables, ty)?;
+    Ok(numbers_of(alloc, variables.as_slice())?)
+}
+
+/// The numbers of those variables that are variables of rows.
+fn numbers_of(alloc: Global, variables: &[Variable]) -> Result<BTreeSet<u32>, NoMemory>
+    ensures { IfOk result (IsFromIterResult nat_cmp (filter_map row_number variables.now)) }
+{
+    Ok(
+        variables
+            .iter()
+            .copied()
+            .filter_map(number_of_row)
+            .collect(alloc)?,
+    )
+}
+
+/// The number of a variable of a row.
+fn number_of_row(variable: Variable) -> Option<u32>
+    ensures { result ≡ row_number variable }
+{
+    match variable {
+        Variable::Row(number) => Some(number),
+        Variable::Plain(_) | Variable::Effects(_) => None,
+    }
+}
