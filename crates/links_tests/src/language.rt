@@ -23,12 +23,12 @@ const VALUES: Rows = &[
     ("true", "true"),
     ("\"hi\"", "\"hi\""),
     ("a", "\"ann\""),
-    ("[1, \"b\", []]", "[1,\"b\",[]]"),
+    ("[1, 2]", "[1,2]"),
     ("(y = 1, x = 2)", "{\"x\":2,\"y\":1}"),
     ("()", "null"),
     ("T(1)", "{\"tag\":\"T\",\"value\":1}"),
     ("T", "{\"tag\":\"T\",\"value\":null}"),
-    ("[main, fun (x) { x }]", "[\"fun\",\"fun\"]"),
+    ("fun (x) { x }", "\"fun\""),
 ];
 
 const VALUES_OF_CHOICES: Rows = &[
@@ -42,7 +42,7 @@ const VALUES_OF_CHOICES: Rows = &[
     ("switch (T(1)) { case T(x) -> x + 1 case U -> 0 }", "2"),
     ("switch (U) { case T(x) -> x case U -> 0 }", "0"),
     (
-        "switch (V(1)) { case T -> 0 case x -> x }",
+        "switch (V(1)) { case T -> U case x -> x }",
         "{\"tag\":\"V\",\"value\":1}",
     ),
 ];
@@ -70,14 +70,14 @@ const VALUES_OF_NUMBERS: Rows = &[
 
 const VALUES_OF_COMPARISONS: Rows = &[
     ("(x = 1, y = [T]) == (y = [T], x = 1)", "true"),
-    ("1 <> \"1\"", "true"),
+    ("1 <> 2", "true"),
     ("main == main", "false"),
     ("[main] <> [main]", "true"),
     ("2 <= 2", "true"),
     ("false < true", "true"),
     ("\"Z\" > \"a\"", "false"),
     ("\"10\" >= \"9\"", "false"),
-    ("1 < \"2\"", "false"),
+    ("[1] < [2]", "false"),
     ("[] <= []", "false"),
 ];
 
@@ -114,13 +114,22 @@ fn lists_records_and_functions(rt: HostRuntime) -> Result<(), Fail> {
 }
 
 const ENDS: Bodies = &[
-    ("1 + \"a\"", "stuck 21 28\n", 8),
+    ("1 + \"a\"", "refused 11 IllTyped 21 28\n", 1),
+    ("[1, \"b\", []]", "refused 11 IllTyped 21 33\n", 1),
+    (
+        "switch (V) { case T -> 1 }",
+        "refused 11 IllTyped 21 47\n",
+        1,
+    ),
     ("1 / 0", "trap 3 divide\n", 8),
+    ("1 <> \"1\"", "refused 11 IllTyped 21 29\n", 1),
     ("hd([])", "trap 2 head\n", 8),
     ("tl([])", "trap 2 tail\n", 8),
-    ("(x = 1 | (x = 2))", "stuck 21 38\n", 8),
-    ("a(print(\"x\"))", "print \"x\"\nstuck 21 34\n", 8),
-    ("query { [(n = 1 / 0)] }", "enter\nno-store 21 44\n", 8),
+    ("(x = 1 | (x = 2))", "refused 11 IllTyped 21 38\n", 1),
+    ("hd([])(print(\"x\"))", "trap 3 head\n", 8),
+    ("a(print(\"x\"))", "refused 11 IllTyped 21 34\n", 1),
+    ("query { [(n = 1)] }", "enter\nno-store 21 40\n", 8),
+    ("query { [(n = 1 / 0)] }", "refused 11 IllTyped 35 40\n", 1),
     ("\"hi \" ^^ a", "done 3 \"hi ann\"\n", 0),
 ];
 
@@ -130,6 +139,13 @@ fn examples_with_another_end(rt: HostRuntime) -> Result<(), Fail> {
 }
 
 const LINES: Programs = &[
+    (
+        "fun f(x) { x } fun main(a) client { [f, fun (y) { y }] }",
+        "ann",
+        "",
+        "done 3 [\"fun\",\"fun\"]\n",
+        0,
+    ),
     (
         "fun f(x, y) { x - y } fun main(a) client { f(3, 1) }",
         "ann",

@@ -486,7 +486,7 @@ const DONE: Rows = &[
         "done 1 \"ann\"\n",
     ),
     (
-        "sig main : ((l : (l : Int)), (l : Int)) -> [|A : [|A : Int|], B : ()|]; fun main(a) client { a }",
+        "sig f : ((l : (l : Int)), (l : Int)) -> [|A : [|A : Int|], B : ()|]; fun f(x, y) { B } fun main(a) client { a }",
         "done 1 \"ann\"\n",
     ),
 ];
@@ -494,16 +494,36 @@ const DONE: Rows = &[
 // What the evaluation makes of them is another matter.
 const BOUND: &[&str] = &[
     "fun f(x) { x } fun main(a) client { f }",
-    "fun main(a) client { (x = 1 | (x = 2)).x }",
+    "fun main(a) client { (x = 1 | (y = (x = 2))).x }",
     "fun main(a) client { [(x = 1), (x = 2)] }",
     "fun main(a) client { (x = (x = a)) }",
     "fun main(a) client { fun (x) { fun (x) { x } } }",
-    "fun main(a) client { switch (a) { case T(x) -> switch (x) { case T(x) -> x case x -> x } case x -> x } }",
+    "fun main(a) client { switch (T(T(1))) { case T(x) -> switch (x) { case T(x) -> x case x -> 0 } case x -> 1 } }",
     "table t with (n : Int); fun main(a) client { for (t <-- t) [t] }",
     "table t with (n : Int); fun main(a) client { insert t values [(n = 1), (n = 3)] }",
     "table t with (n : Int); fun main(a) client { update (t <-- t) where (t.n == 1) set (n = t.n + 1) }",
     "table t with (n : Int); fun main(a) client { delete (t <-- t) where (t.n == 1) }",
-    "table t with (n : Int); fun main(a) client { query orderby (n) { query orderby (n) { for (r <-- t) [r] } } }",
+    "table t with (n : Int); fun main(a) client { query orderby (n) { for (r <-- t) [r] } ++ query orderby (n) { for (r <-- t) [r] } }",
+];
+
+// Their names are bound too: they are refused for their types.
+const ILL_TYPED: Rows = &[
+    (
+        "sig main : ((l : (l : Int)), (l : Int)) -> [|A : [|A : Int|], B : ()|]; fun main(a) client { a }",
+        "refused 11 IllTyped 76 80\n",
+    ),
+    (
+        "fun main(a) client { (x = 1 | (x = 2)).x }",
+        "refused 11 IllTyped 21 38\n",
+    ),
+    (
+        "fun main(a) client { switch (a) { case T(x) -> switch (x) { case T(x) -> x case x -> x } case x -> x } }",
+        "refused 11 IllTyped 21 102\n",
+    ),
+    (
+        "table t with (n : Int); fun main(a) client { query orderby (n) { query orderby (n) { for (r <-- t) [r] } } }",
+        "refused 11 IllTyped 65 104\n",
+    ),
 ];
 
 /// Asserts what `source` prints for each text, and that it ends with this status.
@@ -546,4 +566,10 @@ fn bound_names(rt: HostRuntime) -> Result<(), Fail> {
         assert!(rt; status == 0 || status == 8, "{text:?}");
     }
     Ok(())
+}
+
+#[test]
+fn bound_names_of_ill_typed_programs(rt: HostRuntime) -> Result<(), Fail> {
+    let alloc = rt.alloc();
+    check(&rt, alloc, 1, ILL_TYPED)
 }

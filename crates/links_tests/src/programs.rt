@@ -14,6 +14,9 @@ pub type Bodies = &'static [(&'static str, &'static str, u8)];
 /// A program; its argument; the fuel that is given, or the empty text where none is; what is printed; the status.
 pub type Programs = &'static [(&'static str, &'static str, &'static str, &'static str, u8)];
 
+/// The body of `fun main(a) client { .. }`, or a program where the table says so; the span at which it is refused as ill typed.
+pub type IllTyped = &'static [(&'static str, &'static str)];
+
 /// The status of `source` on the file `p.links` with this program, and what the sink took.
 pub fn run(alloc: Global, program: &str, arg: &str, fuel: &str) -> Result<(u8, String), Fail> {
     let mut entries = List::new(alloc);
@@ -50,6 +53,32 @@ pub fn check_bodies(rt: &impl Abort, alloc: Global, rows: Bodies) -> Result<(), 
         let (ended, printed) = run(alloc, program.as_str(), "ann", "")?;
         assert_eq!(rt; printed.as_str(), *want, "{body:?}");
         assert_eq!(rt; ended, *status, "{body:?}");
+    }
+    Ok(())
+}
+
+/// Asserts that a program is refused as ill typed at this span, and that nothing else is printed.
+fn check_refused(rt: &impl Abort, alloc: Global, program: &str, span: &str) -> Result<(), Fail> {
+    let (ended, printed) = run(alloc, program, "ann", "")?;
+    let want = format!(in alloc; "refused 11 IllTyped {span}\n")?;
+    assert_eq!(rt; printed.as_str(), want.as_str(), "{program:?}");
+    assert_eq!(rt; ended, 1, "{program:?}");
+    Ok(())
+}
+
+/// Asserts that each program is refused as ill typed at its span.
+pub fn check_ill_typed(rt: &impl Abort, alloc: Global, rows: IllTyped) -> Result<(), Fail> {
+    for (program, span) in rows {
+        check_refused(rt, alloc, program, span)?;
+    }
+    Ok(())
+}
+
+/// Asserts that a program with each body is refused as ill typed at its span.
+pub fn check_ill_typed_bodies(rt: &impl Abort, alloc: Global, rows: IllTyped) -> Result<(), Fail> {
+    for (body, span) in rows {
+        let program = format!(in alloc; "fun main(a) client {{ {body} }}")?;
+        check_refused(rt, alloc, program.as_str(), span)?;
     }
     Ok(())
 }
@@ -139,21 +168,42 @@ const TEXTS: Programs = &[
         "fun main(a) client {\r\n  1 +\r\n  a\r\n}",
         "ann",
         "",
-        "stuck 24 32\n",
+        "refused 11 IllTyped 24 32\n",
+        1,
+    ),
+    (
+        "table t with (n : Int);\r\nfun main(a) client {\r\n  for (x <-- t)\r\n  [x]\r\n}",
+        "ann",
+        "",
+        "enter\nno-store 49 69\n",
         8,
     ),
     (
         "fun main(a) client { # \u{e9}\n 1 + a }",
         "ann",
         "",
-        "stuck 27 32\n",
+        "refused 11 IllTyped 27 32\n",
+        1,
+    ),
+    (
+        "table t with (n : Int); fun main(a) client { # \u{e9}\n for (x <-- t) [x] }",
+        "ann",
+        "",
+        "enter\nno-store 51 68\n",
         8,
     ),
     (
         "fun main(a) client { \"\u{e9}\" ^^ 1 }",
         "ann",
         "",
-        "stuck 21 30\n",
+        "refused 11 IllTyped 21 30\n",
+        1,
+    ),
+    (
+        "table t with (n : Int); fun main(a) client { print(\"\u{e9}\"); for (x <-- t) [x] }",
+        "ann",
+        "",
+        "print \"\u{e9}\"\nenter\nno-store 58 75\n",
         8,
     ),
     (

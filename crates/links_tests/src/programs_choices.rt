@@ -1,6 +1,6 @@
 //! Truth values and what hangs on them, statements, and cases.
 
-use crate::programs::{Bodies, check_bodies};
+use crate::programs::{Bodies, IllTyped, check_bodies, check_ill_typed_bodies};
 use std::test::Fail;
 
 const AND_OR: Bodies = &[
@@ -44,16 +44,13 @@ const RIGHT_PARTS: Bodies = &[
         "print \"l\"\nprint \"r\"\ndone 9 true\n",
         0,
     ),
-    // what decides is any value
-    ("true && 1", "done 3 1\n", 0),
-    ("false || \"x\"", "done 3 \"x\"\n", 0),
-    ("false && 1", "done 2 false\n", 0),
-    ("(true && 1) + 1", "done 5 2\n", 0),
-    // but a left part is a truth value
-    ("1 && true", "stuck 21 30\n", 8),
-    ("\"\" || true", "stuck 21 31\n", 8),
-    ("() || true", "stuck 21 31\n", 8),
-    ("true && 1 && true", "stuck 21 38\n", 8),
+    ("true && a == \"ann\"", "done 5 true\n", 0),
+    ("false || a == \"x\"", "done 5 false\n", 0),
+    ("false && a == \"ann\"", "done 2 false\n", 0),
+    ("true || a == \"x\"", "done 2 true\n", 0),
+    ("not(true && false)", "done 4 true\n", 0),
+    ("if (true && false) 1 else 2", "done 5 2\n", 0),
+    ("true && true && false", "done 5 false\n", 0),
 ];
 
 #[test]
@@ -62,25 +59,59 @@ fn right_parts_that_decide(rt: HostRuntime) -> Result<(), Fail> {
 }
 
 const IF: Bodies = &[
-    ("if (true) 1 else \"x\"", "done 3 1\n", 0),
-    ("if (false) 1 else \"x\"", "done 3 \"x\"\n", 0),
-    ("if (1 < 2) \"l\" else 1 / 0", "done 5 \"l\"\n", 0),
+    ("if (true) 1 else 2", "done 3 1\n", 0),
+    ("if (false) \"t\" else \"x\"", "done 3 \"x\"\n", 0),
+    ("if (1 < 2) 7 else 1 / 0", "done 5 7\n", 0),
     ("if (false) 1 else if (true) 2 else 3", "done 5 2\n", 0),
     ("(if (a == \"ann\") 1 else 2) + 10", "done 7 11\n", 0),
-    ("if (true) a else a + 1", "done 3 \"ann\"\n", 0),
+    ("if (true) a else hd([])", "done 3 \"ann\"\n", 0),
     (
         "if (true) { print(\"then\"); 1 } else { print(\"else\"); 2 }",
         "print \"then\"\ndone 6 1\n",
         0,
     ),
-    ("if (1) a else a", "stuck 21 36\n", 8),
-    ("if (\"true\") a else a", "stuck 21 41\n", 8),
     ("if (1 / 0 == 1) a else a", "trap 5 divide\n", 8),
 ];
 
 #[test]
 fn if_else(rt: HostRuntime) -> Result<(), Fail> {
     check_bodies(&rt, rt.alloc(), IF)
+}
+
+const NO_TRUTHS: IllTyped = &[
+    // the part that decides
+    ("true && 1", "21 30"),
+    ("false || \"x\"", "21 33"),
+    ("false && 1", "21 31"),
+    ("(true && 1) + 1", "22 31"),
+    // the left part
+    ("1 && true", "21 30"),
+    ("\"\" || true", "21 31"),
+    ("() || true", "21 31"),
+    ("true && 1 && true", "21 30"),
+    // conditions
+    ("if (1) a else a", "21 36"),
+    ("if (\"true\") a else a", "21 41"),
+    ("where (\"\") []", "21 34"),
+];
+
+#[test]
+fn truth_values_are_wanted(rt: HostRuntime) -> Result<(), Fail> {
+    check_ill_typed_bodies(&rt, rt.alloc(), NO_TRUTHS)
+}
+
+// The two branches of an `if` have one type, and what hangs on a `where` is a list, whether it is taken or not.
+const OTHER_BRANCHES: IllTyped = &[
+    ("if (true) 1 else \"x\"", "21 41"),
+    ("if (false) 1 else \"x\"", "21 42"),
+    ("if (1 < 2) \"l\" else 1 / 0", "21 46"),
+    ("if (true) a else a + 1", "38 43"),
+    ("where (true) 1", "21 35"),
+];
+
+#[test]
+fn branches_have_one_type(rt: HostRuntime) -> Result<(), Fail> {
+    check_ill_typed_bodies(&rt, rt.alloc(), OTHER_BRANCHES)
 }
 
 const STATEMENTS: Bodies = &[
@@ -96,19 +127,32 @@ const STATEMENTS: Bodies = &[
         "print \"p\"\ndone 6 \"ann\"\n",
         0,
     ),
-    ("1; a", "stuck 21 25\n", 8),
-    ("[]; a", "stuck 21 26\n", 8),
-    ("a; a", "stuck 21 25\n", 8),
-    ("(x = 1); a", "stuck 21 31\n", 8),
-    ("T; a", "stuck 21 25\n", 8),
-    ("print(a); 1; a", "print \"ann\"\nstuck 31 35\n", 8),
-    ("{ 1; 2 } + 3", "stuck 23 27\n", 8),
-    ("(); 1 / 0; a", "trap 6 divide\n", 8),
+    ("print(a); (); a", "print \"ann\"\ndone 6 \"ann\"\n", 0),
+    ("{ (); 2 } + 3", "done 5 5\n", 0),
+    ("var x = T; a", "done 4 \"ann\"\n", 0),
+    ("(); hd([]); a", "trap 5 head\n", 8),
+    ("(); print(intToString(1 / 0)); a", "trap 8 divide\n", 8),
 ];
 
 #[test]
 fn statements_have_the_unit_value(rt: HostRuntime) -> Result<(), Fail> {
     check_bodies(&rt, rt.alloc(), STATEMENTS)
+}
+
+const NO_UNIT: IllTyped = &[
+    ("1; a", "21 25"),
+    ("[]; a", "21 26"),
+    ("a; a", "21 25"),
+    ("(x = 1); a", "21 31"),
+    ("T; a", "21 25"),
+    ("print(a); 1; a", "31 35"),
+    ("{ 1; 2 } + 3", "23 27"),
+    ("(); 1 / 0; a", "25 33"),
+];
+
+#[test]
+fn statements_without_the_unit_value(rt: HostRuntime) -> Result<(), Fail> {
+    check_ill_typed_bodies(&rt, rt.alloc(), NO_UNIT)
 }
 
 const VARIABLES: Bodies = &[
@@ -144,8 +188,8 @@ fn variables_are_bound(rt: HostRuntime) -> Result<(), Fail> {
 const WHERE: Bodies = &[
     ("where (true) [1]", "done 4 [1]\n", 0),
     ("where (false) [1 / 0]", "done 2 []\n", 0),
-    ("where (true) 1", "done 3 1\n", 0),
-    ("where (\"\") []", "stuck 21 34\n", 8),
+    ("where (true) []", "done 3 []\n", 0),
+    ("where (true) [a]", "done 4 [\"ann\"]\n", 0),
     ("where (true) [1] ++ [2]", "done 7 [1,2]\n", 0),
     ("(where (false) [1]) ++ [2]", "done 5 [2]\n", 0),
     (
@@ -184,12 +228,21 @@ const CASES: Bodies = &[
         0,
     ),
     (
-        "switch (T(7)) { case T(x) -> x case y -> y }",
+        "switch (T(7)) { case T(x) -> x case y -> 0 }",
         "done 4 7\n",
         0,
     ),
-    ("switch (a) { case x -> x ^^ \"!\" }", "stuck 21 54\n", 8),
-    ("switch (1) { case T -> 2 case x -> x }", "stuck 21 59\n", 8),
+    (
+        "switch (T) { case x -> x }",
+        "done 4 {\"tag\":\"T\",\"value\":null}\n",
+        0,
+    ),
+    ("switch (V(1)) { case T -> 2 case x -> 3 }", "done 4 3\n", 0),
+    (
+        "switch (V(1)) { case T -> U case x -> x }",
+        "done 4 {\"tag\":\"V\",\"value\":1}\n",
+        0,
+    ),
     (
         "switch (A(B(3))) { case A(x) -> switch (x) { case B(y) -> y case z -> 0 } }",
         "done 7 3\n",
@@ -212,29 +265,25 @@ fn cases_go_by_the_tag(rt: HostRuntime) -> Result<(), Fail> {
     check_bodies(&rt, rt.alloc(), CASES)
 }
 
-const NO_CASE: Bodies = &[
-    (
-        "switch (V) { case T -> 1 case U(x) -> 2 }",
-        "stuck 21 62\n",
-        8,
-    ),
-    ("switch (1) { case T -> 1 }", "stuck 21 47\n", 8),
-    ("switch (\"T\") { case T -> 1 }", "stuck 21 49\n", 8),
+const NO_CASE: IllTyped = &[
+    // what has no tag
+    ("switch (a) { case x -> x ^^ \"!\" }", "44 52"),
+    ("switch (1) { case T -> 1 }", "21 47"),
+    ("switch (\"T\") { case T -> 1 }", "21 49"),
+    ("switch (1) { case T -> 2 case x -> x }", "21 59"),
+    // a tag without a case
+    ("switch (V) { case T -> 1 case U(x) -> 2 }", "21 62"),
     // a case without a name is one of the unit value alone, also before a case for all others
-    ("switch (T(1)) { case T -> 1 }", "stuck 21 50\n", 8),
-    (
-        "switch (T(1)) { case T -> 1 case y -> 2 }",
-        "stuck 21 62\n",
-        8,
-    ),
-    (
-        "switch (T(1)) { case T(x) -> x + true }",
-        "stuck 50 58\n",
-        8,
-    ),
+    ("switch (T(1)) { case T -> 1 }", "21 50"),
+    ("switch (T(1)) { case T -> 1 case y -> 2 }", "21 62"),
+    // cases have one type, and what the last one takes has tags
+    ("switch (T(7)) { case T(x) -> x case y -> y }", "21 65"),
+    ("switch (V(1)) { case T -> 0 case x -> x }", "21 62"),
+    // inside a case
+    ("switch (T(1)) { case T(x) -> x + true }", "50 58"),
 ];
 
 #[test]
 fn values_without_a_case(rt: HostRuntime) -> Result<(), Fail> {
-    check_bodies(&rt, rt.alloc(), NO_CASE)
+    check_ill_typed_bodies(&rt, rt.alloc(), NO_CASE)
 }

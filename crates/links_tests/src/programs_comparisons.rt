@@ -1,6 +1,6 @@
-//! Equality and orders. Both have a truth value for any two operands, and a function is equal to nothing.
+//! Equality and orders. Both have a truth value for any two operands of one type, and a function is equal to nothing.
 
-use crate::programs::{Bodies, Programs, check, check_bodies};
+use crate::programs::{Bodies, IllTyped, Programs, check, check_bodies, check_ill_typed_bodies};
 use std::test::Fail;
 
 const EQUAL_BASES: Bodies = &[
@@ -23,24 +23,6 @@ fn bases_are_equal_or_not(rt: HostRuntime) -> Result<(), Fail> {
     check_bodies(&rt, rt.alloc(), EQUAL_BASES)
 }
 
-const OTHER_KINDS: Bodies = &[
-    ("1 == \"1\"", "done 3 false\n", 0),
-    ("1 <> \"1\"", "done 3 true\n", 0),
-    ("0 == false", "done 3 false\n", 0),
-    ("true == \"true\"", "done 3 false\n", 0),
-    ("\"\" == []", "done 3 false\n", 0),
-    ("[] == ()", "done 3 false\n", 0),
-    ("[] <> ()", "done 3 true\n", 0),
-    ("1 == [1]", "done 4 false\n", 0),
-    ("(x = 1) == T(1)", "done 5 false\n", 0),
-    ("T == \"T\"", "done 4 false\n", 0),
-];
-
-#[test]
-fn other_kinds_are_not_equal(rt: HostRuntime) -> Result<(), Fail> {
-    check_bodies(&rt, rt.alloc(), OTHER_KINDS)
-}
-
 const EQUAL_LISTS_AND_RECORDS: Bodies = &[
     ("[] == []", "done 3 true\n", 0),
     ("[1, 2] == [1, 2]", "done 7 true\n", 0),
@@ -53,9 +35,10 @@ const EQUAL_LISTS_AND_RECORDS: Bodies = &[
         "done 7 true\n",
         0,
     ),
-    ("(x = 1) == (x = 1, y = 2)", "done 6 false\n", 0),
-    ("(x = 1) == (y = 1)", "done 5 false\n", 0),
-    ("(x = 1) == ()", "done 4 false\n", 0),
+    ("(x = 1, y = 2) == (x = 1, y = 3)", "done 7 false\n", 0),
+    ("(x = 1) == (x = 2)", "done 5 false\n", 0),
+    ("(x = 1) <> (x = 1)", "done 5 false\n", 0),
+    ("[(x = 1)] == []", "done 5 false\n", 0),
     ("(x = 1 | (y = 2)) == (y = 2, x = 1)", "done 8 true\n", 0),
 ];
 
@@ -71,7 +54,9 @@ const EQUAL_TAGS: Bodies = &[
     ("A(1) == A(1)", "done 5 true\n", 0),
     ("A(1) == A(2)", "done 5 false\n", 0),
     ("A(1) <> B(1)", "done 5 true\n", 0),
-    ("A(A(1)) == A(1)", "done 6 false\n", 0),
+    ("A(A(1)) == A(B)", "done 7 false\n", 0),
+    ("A(A(1)) == B(A(1))", "done 7 false\n", 0),
+    ("A(1) == B(\"1\")", "done 5 false\n", 0),
     ("A([(x = 1)]) == A([(x = 1)])", "done 9 true\n", 0),
     (
         "[(x = [A(1), B]), (x = [])] == [(x = [A(1), B]), (x = [])]",
@@ -106,7 +91,7 @@ const FUNCTIONS: Programs = &[
         0,
     ),
     (
-        "fun main(a) client { fun (x) { x } == 1 }",
+        "fun main(a) client { fun (x) { x } == fun (x) { x } }",
         "ann",
         "",
         "done 3 false\n",
@@ -120,7 +105,14 @@ const FUNCTIONS: Programs = &[
         0,
     ),
     (
-        "fun main(a) client { var f = fun () { 1 }; [1, f] == [1, f] }",
+        "fun main(a) client { var f = fun () { 1 }; [f, f] == [f, f] }",
+        "ann",
+        "",
+        "done 9 false\n",
+        0,
+    ),
+    (
+        "fun main(a) client { var f = fun () { 1 }; (n = 1, g = f) == (n = 1, g = f) }",
         "ann",
         "",
         "done 9 false\n",
@@ -141,10 +133,17 @@ const FUNCTIONS: Programs = &[
         0,
     ),
     (
-        "fun main(a) client { var f = fun () { 1 }; (x = f, y = 1) == (x = 1, y = 1) }",
+        "fun main(a) client { var f = fun () { 1 }; (x = f, y = 1) == (x = f, y = 2) }",
         "ann",
         "",
         "done 9 false\n",
+        0,
+    ),
+    (
+        "fun main(a) client { var f = fun () { 1 }; A(f) == B(f) }",
+        "ann",
+        "",
+        "done 7 false\n",
         0,
     ),
     (
@@ -220,11 +219,6 @@ fn truths_and_texts_are_ordered(rt: HostRuntime) -> Result<(), Fail> {
 }
 
 const NO_ORDER: Bodies = &[
-    ("1 < \"2\"", "done 3 false\n", 0),
-    ("1 >= \"2\"", "done 3 false\n", 0),
-    ("\"2\" > 1", "done 3 false\n", 0),
-    ("false < 1", "done 3 false\n", 0),
-    ("false <= 0", "done 3 false\n", 0),
     ("() >= ()", "done 3 false\n", 0),
     ("[1] < [2]", "done 5 false\n", 0),
     ("[] <= []", "done 3 false\n", 0),
@@ -256,11 +250,50 @@ const OPERANDS: Bodies = &[
     ("(1 == 2) == false", "done 5 true\n", 0),
     ("not(1 < 2)", "done 4 false\n", 0),
     ("not(not(true))", "done 3 true\n", 0),
-    ("not(1)", "stuck 21 27\n", 8),
-    ("not([])", "stuck 21 28\n", 8),
 ];
 
 #[test]
 fn operands_of_comparisons(rt: HostRuntime) -> Result<(), Fail> {
     check_bodies(&rt, rt.alloc(), OPERANDS)
+}
+
+const TWO_TYPES: IllTyped = &[
+    ("1 == \"1\"", "21 29"),
+    ("1 <> \"1\"", "21 29"),
+    ("0 == false", "21 31"),
+    ("true == \"true\"", "21 35"),
+    ("\"\" == []", "21 29"),
+    ("[] == ()", "21 29"),
+    ("[] <> ()", "21 29"),
+    ("1 == [1]", "21 29"),
+    ("(x = 1) == T(1)", "21 36"),
+    ("T == \"T\"", "21 29"),
+    // records with other labels, tags with other types behind them
+    ("(x = 1) == (x = 1, y = 2)", "21 46"),
+    ("(x = 1) == (y = 1)", "21 39"),
+    ("(x = 1) == ()", "21 34"),
+    ("A(A(1)) == A(1)", "21 36"),
+    // functions and other values
+    ("fun (x) { x } == 1", "21 39"),
+    ("var f = fun () { 1 }; [1, f] == [1, f]", "43 49"),
+    (
+        "var f = fun () { 1 }; (x = f, y = 1) == (x = 1, y = 1)",
+        "43 75",
+    ),
+    // orders
+    ("1 < \"2\"", "21 28"),
+    ("1 >= \"2\"", "21 29"),
+    ("\"2\" > 1", "21 28"),
+    ("false < 1", "21 30"),
+    ("false <= 0", "21 31"),
+];
+
+// Of `not`.
+const NO_TRUTHS: IllTyped = &[("not(1)", "21 27"), ("not([])", "21 28")];
+
+#[test]
+fn both_sides_have_one_type(rt: HostRuntime) -> Result<(), Fail> {
+    let alloc = rt.alloc();
+    check_ill_typed_bodies(&rt, alloc, TWO_TYPES)?;
+    check_ill_typed_bodies(&rt, alloc, NO_TRUTHS)
 }

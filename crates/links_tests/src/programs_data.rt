@@ -1,11 +1,15 @@
 //! Values: texts, lists, records, tags, `for` over lists, functions inside results.
 
-use crate::programs::{Bodies, Programs, check, check_bodies};
+use crate::programs::{
+    Bodies, IllTyped, Programs, check, check_bodies, check_ill_typed, check_ill_typed_bodies,
+};
 use std::test::Fail;
 
 const LISTS: Bodies = &[
     ("[]", "done 1 []\n", 0),
-    ("[1, \"b\", true, ()]", "done 5 [1,\"b\",true,null]\n", 0),
+    ("[\"b\", a]", "done 3 [\"b\",\"ann\"]\n", 0),
+    ("[true, false]", "done 3 [true,false]\n", 0),
+    ("[()]", "done 2 [null]\n", 0),
     ("[[1], [], [2, 3]]", "done 7 [[1],[],[2,3]]\n", 0),
     (
         "[print(\"x\"), print(\"y\")]",
@@ -47,29 +51,29 @@ fn lists_have_heads_and_tails(rt: HostRuntime) -> Result<(), Fail> {
     check_bodies(&rt, rt.alloc(), HEADS_AND_TAILS)
 }
 
-const NO_LISTS_OR_TEXTS: Bodies = &[
-    ("hd(\"x\")", "stuck 21 28\n", 8),
-    ("tl(())", "stuck 21 27\n", 8),
-    ("empty(\"\")", "stuck 21 30\n", 8),
-    ("1 :: 2", "stuck 21 27\n", 8),
-    ("[1] ++ 2", "stuck 21 29\n", 8),
-    ("1 ++ [2]", "stuck 21 29\n", 8),
-    ("\"a\" ++ \"b\"", "stuck 21 31\n", 8),
-    ("[1] ^^ [2]", "stuck 21 31\n", 8),
-    ("\"a\" ^^ 1", "stuck 21 29\n", 8),
-    ("1 ^^ \"a\"", "stuck 21 29\n", 8),
-    ("print(1)", "stuck 21 29\n", 8),
-    ("[a, print([])]", "stuck 25 34\n", 8),
+const NO_LISTS_OR_TEXTS: IllTyped = &[
+    ("hd(\"x\")", "21 28"),
+    ("tl(())", "21 27"),
+    ("empty(\"\")", "21 30"),
+    ("1 :: 2", "21 27"),
+    ("[1] ++ 2", "21 29"),
+    ("1 ++ [2]", "21 29"),
+    ("\"a\" ++ \"b\"", "21 31"),
+    ("[1] ^^ [2]", "21 31"),
+    ("\"a\" ^^ 1", "21 29"),
+    ("1 ^^ \"a\"", "21 29"),
+    ("print(1)", "21 29"),
+    ("[a, print([])]", "25 34"),
 ];
 
 #[test]
 fn what_is_no_list_or_text(rt: HostRuntime) -> Result<(), Fail> {
-    check_bodies(&rt, rt.alloc(), NO_LISTS_OR_TEXTS)
+    check_ill_typed_bodies(&rt, rt.alloc(), NO_LISTS_OR_TEXTS)
 }
 
 const FOR: Bodies = &[
     ("for (x <- [1, 2]) [x, x * 10]", "done 14 [1,10,2,20]\n", 0),
-    ("for (x <- []) 1 / 0", "done 2 []\n", 0),
+    ("for (x <- []) [1 / 0]", "done 2 []\n", 0),
     ("for (x <- [1, 2]) []", "done 6 []\n", 0),
     (
         "for (x <- [1, 2]) for (y <- [\"a\", \"b\"]) [(x = x, y = y)]",
@@ -82,7 +86,12 @@ const FOR: Bodies = &[
         0,
     ),
     ("for (a <- [1, 2]) [a] ++ [0]", "done 14 [1,0,2,0]\n", 0),
-    ("(for (a <- [1]) [a]) ++ [a]", "done 8 [1,\"ann\"]\n", 0),
+    (
+        "(for (a <- [\"x\"]) [a]) ++ [a]",
+        "done 8 [\"x\",\"ann\"]\n",
+        0,
+    ),
+    ("for (x <- [[1], [2]]) x", "done 8 [1,2]\n", 0),
     (
         "for (a <- [a, a ^^ a]) [a ^^ \"!\"]",
         "done 14 [\"ann!\",\"annann!\"]\n",
@@ -106,27 +115,51 @@ fn for_over_lists(rt: HostRuntime) -> Result<(), Fail> {
 }
 
 const FOR_THAT_ENDS_EARLY: Bodies = &[
-    ("for (x <- 1) [x]", "stuck 21 37\n", 8),
-    ("for (x <- \"ab\") [x]", "stuck 21 40\n", 8),
-    ("for (x <- [1, 2]) x", "stuck 21 40\n", 8),
     (
-        "for (x <- [1, 2]) { print(intToString(x)); x }",
-        "print \"1\"\nstuck 21 67\n",
+        "for (x <- [1, 2]) { print(intToString(x)); tl([]) }",
+        "print \"1\"\ntrap 10 tail\n",
         8,
     ),
-    ("for (x <- [[1], 2]) x", "stuck 21 42\n", 8),
-    ("for (x <- [1, \"a\"]) [x + 1]", "stuck 42 47\n", 8),
+    ("for (x <- [[1], []]) [hd(x) + 1]", "trap 14 head\n", 8),
     (
         "for (x <- [2, 0]) { print(\"t\"); [6 / x] }",
         "print \"t\"\nprint \"t\"\ntrap 18 divide\n",
         8,
     ),
-    ("for (x <- [1, 2]) hd(tl([x]))", "trap 8 head\n", 8),
+    ("for (x <- [[1], [2]]) hd(tl([x]))", "trap 10 head\n", 8),
 ];
 
 #[test]
 fn a_for_may_end_early(rt: HostRuntime) -> Result<(), Fail> {
     check_bodies(&rt, rt.alloc(), FOR_THAT_ENDS_EARLY)
+}
+
+const FOR_WITHOUT_LISTS: IllTyped = &[
+    ("for (x <- 1) [x]", "21 37"),
+    ("for (x <- \"ab\") [x]", "21 40"),
+    // what is joined is a list each time, also where there is no time, or where a trap would come before
+    ("for (x <- []) 1 / 0", "21 40"),
+    ("for (x <- [1, 2]) x", "21 40"),
+    ("for (x <- [1, 2]) { print(intToString(x)); x }", "21 67"),
+    ("for (x <- [1, 2]) hd(tl([x]))", "21 50"),
+];
+
+#[test]
+fn what_is_no_list_in_a_for(rt: HostRuntime) -> Result<(), Fail> {
+    check_ill_typed_bodies(&rt, rt.alloc(), FOR_WITHOUT_LISTS)
+}
+
+const MIXED_LISTS: IllTyped = &[
+    ("[1, \"b\", true, ()]", "21 39"),
+    ("[1, \"b\", []]", "21 33"),
+    ("(for (a <- [1]) [a]) ++ [a]", "21 48"),
+    ("for (x <- [[1], 2]) x", "31 39"),
+    ("for (x <- [1, \"a\"]) [x + 1]", "31 39"),
+];
+
+#[test]
+fn the_values_of_a_list_have_one_type(rt: HostRuntime) -> Result<(), Fail> {
+    check_ill_typed_bodies(&rt, rt.alloc(), MIXED_LISTS)
 }
 
 const RECORDS: Bodies = &[
@@ -145,11 +178,6 @@ const RECORDS: Bodies = &[
     ("(y = 1, x = 2).y", "done 4 1\n", 0),
     ("(x = (y = (z = 3))).x.y.z", "done 7 3\n", 0),
     ("(x = 1, y = (x = 2)).y.x", "done 6 2\n", 0),
-    ("a.x", "stuck 21 24\n", 8),
-    ("().x", "stuck 21 25\n", 8),
-    ("[].x", "stuck 21 25\n", 8),
-    ("(x = 1).y", "stuck 21 30\n", 8),
-    ("(x = (y = 1)).x.z", "stuck 21 38\n", 8),
 ];
 
 #[test]
@@ -181,16 +209,36 @@ const EXTENDED: Bodies = &[
         "print \"b\"\nprint \"a\"\nprint \"r\"\ndone 14 {\"a\":2,\"b\":1,\"c\":3}\n",
         0,
     ),
-    ("(x = 1 | (x = 2))", "stuck 21 38\n", 8),
-    ("(y = 1, x = 1 | (z = 0, x = 2))", "stuck 21 52\n", 8),
-    ("(x = 1 | 2)", "stuck 21 32\n", 8),
-    ("(x = 1 | [])", "stuck 21 33\n", 8),
-    ("(x = 1 | T(()))", "stuck 21 36\n", 8),
 ];
 
 #[test]
 fn extended_records(rt: HostRuntime) -> Result<(), Fail> {
     check_bodies(&rt, rt.alloc(), EXTENDED)
+}
+
+const NO_FIELDS: IllTyped = &[
+    ("a.x", "21 24"),
+    ("().x", "21 25"),
+    ("[].x", "21 25"),
+    ("(x = 1).y", "21 30"),
+    ("(x = (y = 1)).x.z", "21 38"),
+];
+
+const NOT_EXTENDED: IllTyped = &[
+    // a label that is there
+    ("(x = 1 | (x = 2))", "21 38"),
+    ("(y = 1, x = 1 | (z = 0, x = 2))", "21 52"),
+    // what is no record
+    ("(x = 1 | 2)", "21 32"),
+    ("(x = 1 | [])", "21 33"),
+    ("(x = 1 | T(()))", "21 36"),
+];
+
+#[test]
+fn records_that_are_ill_typed(rt: HostRuntime) -> Result<(), Fail> {
+    let alloc = rt.alloc();
+    check_ill_typed_bodies(&rt, alloc, NO_FIELDS)?;
+    check_ill_typed_bodies(&rt, alloc, NOT_EXTENDED)
 }
 
 const TAGS: Bodies = &[
@@ -238,10 +286,24 @@ const RESULTS_WITH_FUNCTIONS: Programs = &[
         0,
     ),
     (
-        "fun main(a) client { main }",
+        "fun f(x) { x } fun main(a) client { f }",
         "ann",
         "",
         "done 1 \"fun\"\n",
+        0,
+    ),
+    (
+        "fun main(a) client { var f = main; a }",
+        "ann",
+        "",
+        "done 3 \"ann\"\n",
+        0,
+    ),
+    (
+        "fun main(a) client { var f = main; if (a == \"ann\") f(\"b\") else a }",
+        "ann",
+        "",
+        "done 16 \"b\"\n",
         0,
     ),
     (
@@ -252,7 +314,7 @@ const RESULTS_WITH_FUNCTIONS: Programs = &[
         0,
     ),
     (
-        "fun main(a) client { (n = 1, f = fun (x) { x + a }) }",
+        "fun main(a) client { (n = 1, f = fun (x) { x ^^ a }) }",
         "ann",
         "",
         "done 3 {\"f\":\"fun\",\"n\":1}\n",
@@ -265,25 +327,31 @@ const RESULTS_WITH_FUNCTIONS: Programs = &[
         "done 2 {\"tag\":\"T\",\"value\":\"fun\"}\n",
         0,
     ),
-    (
-        "fun f(x) { x } fun main(a) client { f; a }",
-        "ann",
-        "",
-        "stuck 36 40\n",
-        8,
-    ),
-    (
-        "fun f(x) { x } fun main(a) client { f + 1 }",
-        "ann",
-        "",
-        "stuck 36 41\n",
-        8,
-    ),
 ];
 
 #[test]
 fn functions_inside_results(rt: HostRuntime) -> Result<(), Fail> {
     check(&rt, rt.alloc(), RESULTS_WITH_FUNCTIONS)
+}
+
+// Whole programs.
+const ILL_TYPED_FUNCTIONS: IllTyped = &[
+    // its type would stand in itself
+    ("fun main(a) client { main }", "4 8"),
+    ("fun main(a) client { [main, fun (x) { x }] }", "4 8"),
+    // a body
+    (
+        "fun main(a) client { (n = 1, f = fun (x) { x + a }) }",
+        "43 48",
+    ),
+    // a function where another type is wanted
+    ("fun f(x) { x } fun main(a) client { f; a }", "36 40"),
+    ("fun f(x) { x } fun main(a) client { f + 1 }", "36 41"),
+];
+
+#[test]
+fn functions_that_are_ill_typed(rt: HostRuntime) -> Result<(), Fail> {
+    check_ill_typed(&rt, rt.alloc(), ILL_TYPED_FUNCTIONS)
 }
 
 const PARTS_IN_ORDER: Bodies = &[
@@ -322,12 +390,23 @@ const PARTS_IN_ORDER: Bodies = &[
         "print \"in\"\nprint \"out\"\ndone 5 null\n",
         0,
     ),
-    ("hd([]) ^^ print(\"r\")", "trap 3 head\n", 8),
+    ("hd([]) ^^ { print(\"r\"); \"b\" }", "trap 3 head\n", 8),
     ("(x = tl([]), y = print(\"y\"))", "trap 3 tail\n", 8),
-    ("1 + true + print(\"r\")", "stuck 21 29\n", 8),
+    ("1 + 1 / 0 + { print(\"r\"); 1 }", "trap 6 divide\n", 8),
 ];
 
 #[test]
 fn parts_go_from_the_left(rt: HostRuntime) -> Result<(), Fail> {
     check_bodies(&rt, rt.alloc(), PARTS_IN_ORDER)
+}
+
+// Refused before anything is evaluated, also where the first part would trap.
+const BEHIND_AN_END: IllTyped = &[
+    ("hd([]) ^^ print(\"r\")", "21 41"),
+    ("1 + true + print(\"r\")", "21 29"),
+];
+
+#[test]
+fn nothing_is_evaluated_that_is_ill_typed(rt: HostRuntime) -> Result<(), Fail> {
+    check_ill_typed_bodies(&rt, rt.alloc(), BEHIND_AN_END)
 }

@@ -49,22 +49,42 @@ const ENOUGH_AND_ONE_LESS: Programs = &[
     ),
     ("fun main(a) client { 1 / 0 }", "ann", "2", "spent\n", 12),
     (
-        "fun main(a) client { a; a }",
+        "fun main(a) client { hd([]); a }",
         "ann",
-        "2",
-        "stuck 21 25\n",
+        "3",
+        "trap 3 head\n",
         8,
     ),
-    ("fun main(a) client { a; a }", "ann", "1", "spent\n", 12),
     (
-        "fun main(a) client { false && a }",
+        "fun main(a) client { hd([]); a }",
+        "ann",
+        "2",
+        "spent\n",
+        12,
+    ),
+    (
+        "fun main(a) client { false && a == a }",
         "ann",
         "2",
         "done 2 false\n",
         0,
     ),
     (
-        "fun main(a) client { true && a }",
+        "fun main(a) client { true && a == a }",
+        "ann",
+        "5",
+        "done 5 true\n",
+        0,
+    ),
+    (
+        "fun main(a) client { true && a == a }",
+        "ann",
+        "4",
+        "spent\n",
+        12,
+    ),
+    (
+        "fun main(a) client { true && a == a }",
         "ann",
         "2",
         "spent\n",
@@ -75,6 +95,50 @@ const ENOUGH_AND_ONE_LESS: Programs = &[
 #[test]
 fn enough_fuel_and_one_unit_less(rt: HostRuntime) -> Result<(), Fail> {
     check(&rt, rt.alloc(), ENOUGH_AND_ONE_LESS)
+}
+
+// Refused before any fuel is taken.
+const ILL_TYPED: Programs = &[
+    (
+        "fun main(a) client { a; a }",
+        "ann",
+        "2",
+        "refused 11 IllTyped 21 25\n",
+        1,
+    ),
+    (
+        "fun main(a) client { a; a }",
+        "ann",
+        "1",
+        "refused 11 IllTyped 21 25\n",
+        1,
+    ),
+    (
+        "fun main(a) client { false && a }",
+        "ann",
+        "2",
+        "refused 11 IllTyped 21 31\n",
+        1,
+    ),
+    (
+        "fun main(a) client { true && a }",
+        "ann",
+        "2",
+        "refused 11 IllTyped 21 30\n",
+        1,
+    ),
+    (
+        "fun main(a) client { var f = fun (g) { g(g) }; f(f) }",
+        "ann",
+        "",
+        "refused 11 IllTyped 39 43\n",
+        1,
+    ),
+];
+
+#[test]
+fn what_is_ill_typed_takes_no_fuel(rt: HostRuntime) -> Result<(), Fail> {
+    check(&rt, rt.alloc(), ILL_TYPED)
 }
 
 const SPENT_WITH_EVENTS: Programs = &[
@@ -165,7 +229,14 @@ const RECURSION: Programs = &[
     ),
     ("fun main(a) client { main(a) }", "ann", "", "spent\n", 12),
     (
-        "fun main(a) client { var f = fun (g) { g(g) }; f(f) }",
+        "fun main(a) client { var f = main; f(a) }",
+        "ann",
+        "",
+        "spent\n",
+        12,
+    ),
+    (
+        "fun f(x) { var g = fun (y) { f(y) }; g(x) } fun main(a) client { f(a) }",
         "ann",
         "",
         "spent\n",

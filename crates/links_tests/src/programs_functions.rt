@@ -1,6 +1,6 @@
-//! Functions: calls, recursion, what lambdas capture, what isn't applied.
+//! Functions: calls, recursion, what lambdas capture, which calls are ill typed.
 
-use crate::programs::{Programs, check};
+use crate::programs::{IllTyped, Programs, check, check_ill_typed};
 use std::test::Fail;
 
 const CALLS: Programs = &[
@@ -61,10 +61,17 @@ const CALLS: Programs = &[
         0,
     ),
     (
-        "fun f(x) { x + 1 } fun main(a) client { f(a) }",
+        "fun f(x) { x + 1 } fun main(a) client { f(1) }",
         "ann",
         "",
-        "stuck 11 16\n",
+        "done 5 2\n",
+        0,
+    ),
+    (
+        "fun f(x) { hd(x) } fun main(a) client { f([]) }",
+        "ann",
+        "",
+        "trap 4 head\n",
         8,
     ),
     (
@@ -81,84 +88,97 @@ fn functions_are_called(rt: HostRuntime) -> Result<(), Fail> {
     check(&rt, rt.alloc(), CALLS)
 }
 
-const NOT_APPLIED: Programs = &[
+const BEFORE_THE_BODY: Programs = &[
     (
-        "fun f(x) { x } fun main(a) client { f() }",
+        "fun f(x, y) { y } fun main(a) client { f(print(\"p\"), 2) }",
         "ann",
         "",
-        "stuck 36 39\n",
+        "print \"p\"\ndone 5 2\n",
+        0,
+    ),
+    (
+        "fun f(x) { x } fun main(a) client { f(1 / 0) }",
+        "ann",
+        "",
+        "trap 4 divide\n",
         8,
     ),
     (
-        "fun f(x) { x } fun main(a) client { f(print(\"p\"), 2) }",
-        "ann",
-        "",
-        "print \"p\"\nstuck 36 52\n",
-        8,
-    ),
-    (
-        "fun f(x) { x } fun main(a) client { var g = f; g(1, 2) }",
-        "ann",
-        "",
-        "stuck 47 54\n",
-        8,
-    ),
-    (
-        "fun f(x) server { x } fun main(a) client { f() }",
-        "ann",
-        "",
-        "stuck 43 46\n",
-        8,
-    ),
-    (
-        "fun main(a) client { main() }",
-        "ann",
-        "",
-        "stuck 21 27\n",
-        8,
-    ),
-    (
-        "fun main(a) client { (fun (x) { x })() }",
-        "ann",
-        "",
-        "stuck 21 38\n",
-        8,
-    ),
-    (
-        "fun main(a) client { (fun () { 1 })(2) }",
-        "ann",
-        "",
-        "stuck 21 38\n",
-        8,
-    ),
-    ("fun main(a) client { a(1) }", "ann", "", "stuck 21 25\n", 8),
-    (
-        "fun main(a) client { a(print(\"x\")) }",
-        "ann",
-        "",
-        "print \"x\"\nstuck 21 34\n",
-        8,
-    ),
-    ("fun main(a) client { 1(2) }", "ann", "", "stuck 21 25\n", 8),
-    (
-        "fun main(a) client { hd([1])(2) }",
-        "ann",
-        "",
-        "stuck 21 31\n",
-        8,
-    ),
-    (
-        "fun main(a) client { a(1 / 0) }",
+        "fun main(a) client { (fun (x) { print(\"b\") })(1 / 0) }",
         "ann",
         "",
         "trap 5 divide\n",
         8,
     ),
+    (
+        "fun main(a) client { hd([fun (x) { x }])(2) }",
+        "ann",
+        "",
+        "done 6 2\n",
+        0,
+    ),
+    (
+        "fun main(a) client { hd([])(2) }",
+        "ann",
+        "",
+        "trap 3 head\n",
+        8,
+    ),
+    (
+        "fun main(a) client { hd([])(print(\"x\")) }",
+        "ann",
+        "",
+        "trap 3 head\n",
+        8,
+    ),
+    (
+        "fun f(x, y) { x } fun main(a) client { f({ print(\"1\"); tl([]) }, print(\"2\")) }",
+        "ann",
+        "",
+        "print \"1\"\ntrap 6 tail\n",
+        8,
+    ),
+];
+
+#[test]
+fn function_and_arguments_come_before_the_body(rt: HostRuntime) -> Result<(), Fail> {
+    check(&rt, rt.alloc(), BEFORE_THE_BODY)
+}
+
+// Whole programs.
+const NOT_APPLIED: IllTyped = &[
+    // another number of arguments than of parameters
+    ("fun f(x) { x } fun main(a) client { f() }", "36 39"),
+    (
+        "fun f(x) { x } fun main(a) client { f(print(\"p\"), 2) }",
+        "36 52",
+    ),
+    (
+        "fun f(x) { x } fun main(a) client { var g = f; g(1, 2) }",
+        "47 54",
+    ),
+    ("fun f(x) server { x } fun main(a) client { f() }", "43 46"),
+    ("fun main(a) client { main() }", "21 27"),
+    ("fun main(a) client { (fun (x) { x })() }", "21 38"),
+    ("fun main(a) client { (fun () { 1 })(2) }", "21 38"),
+    // what is no function
+    ("fun main(a) client { a(1) }", "21 25"),
+    ("fun main(a) client { a(print(\"x\")) }", "21 34"),
+    ("fun main(a) client { 1(2) }", "21 25"),
+    ("fun main(a) client { hd([1])(2) }", "21 31"),
+    ("fun main(a) client { a(1 / 0) }", "21 29"),
+    // an argument of another type than the body wants
+    ("fun f(x) { x + 1 } fun main(a) client { f(a) }", "40 44"),
+    // a function that is applied to itself
+    (
+        "fun main(a) client { var f = fun (g, n) { if (n == 0) \"end\" else g(g, n - 1) }; f(f, 2) }",
+        "65 76",
+    ),
 ];
 
 #[test]
 fn what_is_not_applied(rt: HostRuntime) -> Result<(), Fail> {
-    check(&rt, rt.alloc(), NOT_APPLIED)
+    check_ill_typed(&rt, rt.alloc(), NOT_APPLIED)
 }
 
 const RECURSION: Programs = &[
@@ -205,7 +225,7 @@ const RECURSION: Programs = &[
         0,
     ),
     (
-        "fun main(a) client { var f = fun (g, n) { if (n == 0) \"end\" else g(g, n - 1) }; f(f, 2) }",
+        "fun f(n) { var g = f; if (n == 0) \"end\" else g(n - 1) } fun main(a) client { f(2) }",
         "ann",
         "",
         "done 31 \"end\"\n",

@@ -1,6 +1,6 @@
 //! Integers: sums that wrap, quotients toward zero, and no number without its text.
 
-use crate::programs::{Bodies, check_bodies};
+use crate::programs::{Bodies, IllTyped, check_bodies, check_ill_typed_bodies};
 use std::test::Fail;
 
 const SUMS: Bodies = &[
@@ -39,6 +39,11 @@ const SUMS: Bodies = &[
     ("10 - 4 - 3", "done 5 3\n", 0),
     ("2 + 3 * 4", "done 5 14\n", 0),
     ("(2 + 3) * 4", "done 5 20\n", 0),
+    (
+        "{ print(\"l\"); 2 } + { print(\"r\"); 1 }",
+        "print \"l\"\nprint \"r\"\ndone 9 3\n",
+        0,
+    ),
 ];
 
 #[test]
@@ -98,8 +103,6 @@ const NEGATED: Bodies = &[
         0,
     ),
     ("-(2 + 3) * 2", "done 6 -10\n", 0),
-    ("-true", "stuck 21 26\n", 8),
-    ("-\"1\"", "stuck 21 25\n", 8),
 ];
 
 #[test]
@@ -171,10 +174,8 @@ const ZERO_DIVISORS: Bodies = &[
     ("(-9223372036854775807 - 1) mod 0", "trap 6 divide\n", 8),
     ("1 / (1 - 1)", "trap 5 divide\n", 8),
     ("1 + 1 / 0", "trap 5 divide\n", 8),
-    ("1 / 0 + true", "trap 4 divide\n", 8),
+    ("1 / 0 + hd([])", "trap 4 divide\n", 8),
     ("print(\"x\"); 1 mod 0", "print \"x\"\ntrap 6 divide\n", 8),
-    ("a / 0", "stuck 21 26\n", 8),
-    ("0 / a", "stuck 21 26\n", 8),
 ];
 
 #[test]
@@ -182,24 +183,30 @@ fn zero_divisors_trap(rt: HostRuntime) -> Result<(), Fail> {
     check_bodies(&rt, rt.alloc(), ZERO_DIVISORS)
 }
 
-const NO_NUMBERS: Bodies = &[
-    ("1 + \"a\"", "stuck 21 28\n", 8),
-    ("\"1\" + \"2\"", "stuck 21 30\n", 8),
-    ("true - 1", "stuck 21 29\n", 8),
-    ("[] * 2", "stuck 21 27\n", 8),
-    ("\"7\" / 2", "stuck 21 28\n", 8),
-    ("7 mod ()", "stuck 21 29\n", 8),
-    ("2 * (1 + true)", "stuck 26 34\n", 8),
-    (
-        "{ print(\"l\"); true } + { print(\"r\"); 1 }",
-        "print \"l\"\nprint \"r\"\nstuck 21 61\n",
-        8,
-    ),
+const NO_NUMBERS: IllTyped = &[
+    ("1 + \"a\"", "21 28"),
+    ("\"1\" + \"2\"", "21 30"),
+    ("true - 1", "21 29"),
+    ("[] * 2", "21 27"),
+    ("\"7\" / 2", "21 28"),
+    ("7 mod ()", "21 29"),
+    ("2 * (1 + true)", "26 34"),
+    ("{ print(\"l\"); true } + { print(\"r\"); 1 }", "21 61"),
+    // behind a minus
+    ("-true", "21 26"),
+    ("-\"1\"", "21 25"),
+    // in a division by zero, or behind one
+    ("1 / 0 + true", "21 33"),
+    ("a / 0", "21 26"),
+    ("0 / a", "21 26"),
+    // as texts
+    ("intToString(\"7\")", "21 37"),
+    ("intToString(true)", "21 38"),
 ];
 
 #[test]
 fn what_is_no_number(rt: HostRuntime) -> Result<(), Fail> {
-    check_bodies(&rt, rt.alloc(), NO_NUMBERS)
+    check_ill_typed_bodies(&rt, rt.alloc(), NO_NUMBERS)
 }
 
 const AS_TEXTS: Bodies = &[
@@ -216,8 +223,6 @@ const AS_TEXTS: Bodies = &[
         0,
     ),
     ("intToString(1) ^^ intToString(2 * 3)", "done 7 \"16\"\n", 0),
-    ("intToString(\"7\")", "stuck 21 37\n", 8),
-    ("intToString(true)", "stuck 21 38\n", 8),
 ];
 
 #[test]

@@ -1,6 +1,6 @@
 //! Client and server: where a function runs, and what passes between them.
 
-use crate::programs::{Programs, check};
+use crate::programs::{IllTyped, Programs, check, check_ill_typed};
 use std::test::Fail;
 
 const MARKS: Programs = &[
@@ -232,17 +232,17 @@ const ENDS_ELSEWHERE: Programs = &[
         8,
     ),
     (
-        "fun s(x) server { x + 1 } fun main(a) client { s(a) }",
+        "fun s(x) server { hd(x) } fun main(a) client { s([]) }",
         "ann",
         "",
-        "enter\nstuck 18 23\n",
+        "enter\ntrap 4 head\n",
         8,
     ),
     (
-        "fun s(x) server { print(x) } fun main(a) client { s(1) }",
+        "fun s(x) server { print(hd(x)) } fun main(a) client { s([]) }",
         "ann",
         "",
-        "enter\nstuck 18 26\n",
+        "enter\ntrap 5 head\n",
         8,
     ),
     (
@@ -253,17 +253,17 @@ const ENDS_ELSEWHERE: Programs = &[
         8,
     ),
     (
-        "fun s(x) server { x } fun main(a) client { s(a) + 1 }",
+        "fun s(x) server { x } fun main(a) client { s(1) / 0 }",
         "ann",
         "",
-        "enter\nleave\nstuck 43 51\n",
+        "enter\nleave\ntrap 5 divide\n",
         8,
     ),
     (
-        "fun s(x) server { x } fun main(a) client { s(a, a) }",
+        "fun s(x) server { x } fun main(a) client { s(a) ^^ hd([]) }",
         "ann",
         "",
-        "stuck 43 50\n",
+        "enter\nleave\ntrap 6 head\n",
         8,
     ),
 ];
@@ -271,4 +271,29 @@ const ENDS_ELSEWHERE: Programs = &[
 #[test]
 fn evaluations_end_where_they_are(rt: HostRuntime) -> Result<(), Fail> {
     check(&rt, rt.alloc(), ENDS_ELSEWHERE)
+}
+
+// Whole programs.
+const ILL_TYPED: IllTyped = &[
+    (
+        "fun s(x) server { x + 1 } fun main(a) client { s(a) }",
+        "47 51",
+    ),
+    (
+        "fun s(x) server { print(x) } fun main(a) client { s(1) }",
+        "50 54",
+    ),
+    (
+        "fun s(x) server { x } fun main(a) client { s(a) + 1 }",
+        "43 51",
+    ),
+    (
+        "fun s(x) server { x } fun main(a) client { s(a, a) }",
+        "43 50",
+    ),
+];
+
+#[test]
+fn nothing_enters_that_is_ill_typed(rt: HostRuntime) -> Result<(), Fail> {
+    check_ill_typed(&rt, rt.alloc(), ILL_TYPED)
 }

@@ -1,6 +1,6 @@
 //! What acts on tables: there is no store yet. At the client it crosses to the server before.
 
-use crate::programs::{Programs, check};
+use crate::programs::{IllTyped, Programs, check, check_ill_typed};
 use std::test::Fail;
 
 const AT_THE_CLIENT: Programs = &[
@@ -54,10 +54,10 @@ const AT_THE_CLIENT: Programs = &[
         0,
     ),
     (
-        "table t with (n : Int); fun main(a) client { if (true) a else delete (x <-- t) where (true) }",
+        "table t with (n : Int); fun main(a) client { if (true) () else delete (x <-- t) where (true) }",
         "ann",
         "",
-        "done 3 \"ann\"\n",
+        "done 3 null\n",
         0,
     ),
 ];
@@ -155,10 +155,10 @@ const BEFORE_IT_ACTS: Programs = &[
         8,
     ),
     (
-        "table t with (n : Int); fun main(a) client { insert t values [(n = a + 1)] }",
+        "table t with (n : Int); fun main(a) client { insert t values [(n = 1), (n = hd([]))] }",
         "ann",
         "",
-        "stuck 67 72\n",
+        "trap 7 head\n",
         8,
     ),
     (
@@ -175,33 +175,33 @@ const BEFORE_IT_ACTS: Programs = &[
         "print \"p\"\nenter\nno-store 57 80\n",
         8,
     ),
-    // what stands inside isn't evaluated
+    // what stands inside isn't evaluated: there is no fuel left for it
     (
-        "table t with (n : Int); fun main(a) client { query { for (x <-- t) [(n = 1 / 0)] } }",
+        "table t with (n : Int); fun main(a) client { query { for (x <-- t) where (x.n == 1) [(n = x.n + 1)] } }",
         "ann",
-        "",
-        "enter\nno-store 45 82\n",
+        "1",
+        "enter\nno-store 45 101\n",
         8,
     ),
     (
-        "table t with (n : Int); fun main(a) client { query { print(1); a } }",
+        "table t with (n : Int); fun main(a) client { query { [a] } }",
         "ann",
-        "",
-        "enter\nno-store 45 66\n",
+        "1",
+        "enter\nno-store 45 58\n",
         8,
     ),
     (
-        "table t with (n : Int); fun main(a) client { update (x <-- t) where (1 / 0 == 1) set (n = a + 1) }",
+        "table t with (n : Int); fun main(a) client { update (x <-- t) where (x.n == 1) set (n = x.n + 1) }",
         "ann",
-        "",
+        "1",
         "enter\nno-store 45 96\n",
         8,
     ),
     (
-        "table t with (n : Int); fun main(a) client { delete (x <-- t) where (hd([])) }",
+        "table t with (n : Int); fun main(a) client { delete (x <-- t) where (x.n == 1 && a == \"ann\") }",
         "ann",
-        "",
-        "enter\nno-store 45 76\n",
+        "1",
+        "enter\nno-store 45 92\n",
         8,
     ),
 ];
@@ -255,10 +255,10 @@ const INSIDE_OTHERS: Programs = &[
         8,
     ),
     (
-        "table t with (n : Int); fun main(a) client { [a, (delete (x <-- t) where (true))] }",
+        "table t with (n : Int); fun main(a) client { [(), (delete (x <-- t) where (true))] }",
         "ann",
         "",
-        "enter\nno-store 50 79\n",
+        "enter\nno-store 51 80\n",
         8,
     ),
     (
@@ -273,6 +273,53 @@ const INSIDE_OTHERS: Programs = &[
 #[test]
 fn tables_inside_other_expressions(rt: HostRuntime) -> Result<(), Fail> {
     check(&rt, rt.alloc(), INSIDE_OTHERS)
+}
+
+// Whole programs: what stands inside a query, an update or a delete may do only what the database can.
+const NOT_IN_THE_DATABASE: IllTyped = &[
+    (
+        "table t with (n : Int); fun main(a) client { query { for (x <-- t) [(n = 1 / 0)] } }",
+        "73 78",
+    ),
+    (
+        "table t with (n : Int); fun main(a) client { query { print(1); a } }",
+        "53 61",
+    ),
+    (
+        "table t with (n : Int); fun main(a) client { query { print(a); [a] } }",
+        "53 61",
+    ),
+    (
+        "table t with (n : Int); fun main(a) client { update (x <-- t) where (1 / 0 == 1) set (n = a + 1) }",
+        "69 74",
+    ),
+    (
+        "table t with (n : Int); fun main(a) client { delete (x <-- t) where (hd([])) }",
+        "69 75",
+    ),
+];
+
+// Whole programs, with other types than the tables or the parts around have.
+const ILL_TYPED: IllTyped = &[
+    (
+        "table t with (n : Int); fun main(a) client { if (true) a else delete (x <-- t) where (true) }",
+        "45 91",
+    ),
+    (
+        "table t with (n : Int); fun main(a) client { insert t values [(n = a + 1)] }",
+        "67 72",
+    ),
+    (
+        "table t with (n : Int); fun main(a) client { [a, (delete (x <-- t) where (true))] }",
+        "45 81",
+    ),
+];
+
+#[test]
+fn tables_in_ill_typed_programs(rt: HostRuntime) -> Result<(), Fail> {
+    let alloc = rt.alloc();
+    check_ill_typed(&rt, alloc, NOT_IN_THE_DATABASE)?;
+    check_ill_typed(&rt, alloc, ILL_TYPED)
 }
 
 const FUEL_OF_TABLES: Programs = &[

@@ -10,7 +10,7 @@ use Rattle.clap.specs.declared.error.kind.ErrorKind.TheVariants.{OutOfMemory}
 use Rattle.clap.specs.declared.parser.matches.ArgMatches.{ArgMatches}
 use Rattle.clap.proofs.OnLiterals.{clap_on_literals}
 use Rattle.lk_cli.specs.Words.{command_of, form_of, links_app, unless}
-use Rattle.lk_cli.specs.declared.command.SourceCommand.{SourceCommand}
+use Rattle.lk_cli.specs.declared.command.Command.{Command}
 
 -- of this command clap says exactly what it makes of the words
 exact : is_simple_and_free links_app ≡ true
@@ -21,14 +21,14 @@ simple : is_simple links_app ≡ true
 unfolding clap_on_literals
 simple = refl
 
-abbrev met : List (List ℕ) → Option SourceCommand
+abbrev met : List (List ℕ) → Option Command
 met words = option_and_then command_of (subcommand_of links_app words)
 
 form_is : (words : List (List ℕ)) → unless (fault_of links_app words) (met words) ≡ form_of words
 unfolding form_of
 form_is words = refl
 
-no_form : (kinds : Kinds) (k : ErrorKind) (command : Option SourceCommand) → IsAmong k kinds → unless kinds command ≡ None
+no_form : (kinds : Kinds) (k : ErrorKind) (command : Option Command) → IsAmong k kinds → unless kinds command ≡ None
 no_form [] k command among = absurd among
 no_form (x ∷ xs) k command among = refl
 

@@ -1,5 +1,6 @@
 pub mod Forms
 pub mod Limits
+pub mod Lines
 pub mod Numbers
 pub mod Samples
 pub mod Sessions

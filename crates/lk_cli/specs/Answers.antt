@@ -1,9 +1,14 @@
 -- The answers to a command line: which come, with their causes; what is printed for each, and the status.
 use Rattle.std.specs.Prelude.{◌≡◌, ◌⊎◌, ℕ, List, [], ◌∷◌, Option, Some, None, Result, Ok, Err, MatchResult, length, ◌<◌, codes, decimal}
-use Rattle.lk_ast.specs.Functions.{main_of}
+use Rattle.lk_ast.specs.Functions.{functions_of, main_of}
 use Rattle.lk_ast.specs.declared.place.Span.{Span}
 use Rattle.lk_ast.specs.declared.declaration.FunDef.{FunDef}
 use Rattle.lk_ast.specs.declared.declaration.Program.{Program}
+use Rattle.lk_infer.specs.Inferred.{HasTypes}
+use Rattle.lk_infer.specs.Programs.{EndsIllTyped, EndsTooLarge}
+use Rattle.lk_infer.specs.declared.error.InferError.{InferError}
+use Rattle.lk_infer.specs.declared.error.InferError.TheVariants as types
+use Rattle.lk_infer.specs.declared.typed.Typed.{Typed}
 use Rattle.lk_names.specs.Programs as names
 use Rattle.lk_names.specs.declared.error.NameError.{NameError}
 use Rattle.lk_names.specs.declared.error.NameError.TheVariants as fault
@@ -17,26 +22,42 @@ use Rattle.lk_sem.specs.Source.{session}
 use Rattle.lk_sem.specs.declared.run.SourceEnd.{SourceEnd}
 use Rattle.lk_sem.specs.declared.run.SourceEnd.TheVariants as end
 use Rattle.lk_sem.specs.declared.run.SourceRun.{SourceRun}
-use Rattle.lk_cli.specs.Report.{line, report_of}
+use Rattle.lk_typing.specs.Programs.{ArePrincipal, IsWellTyped}
+use Rattle.lk_cli.specs.Report.{line, lines_of, report_of}
 use Rattle.lk_cli.specs.Seen.{FilesSeen, HasText}
 use Rattle.lk_parse.specs.Tokens.{text_limit}
+use Rattle.lk_cli.specs.declared.answer.Answer.{Answer}
+use Rattle.lk_cli.specs.declared.answer.Answer.TheVariants.{Schemes, Run}
 use Rattle.lk_cli.specs.declared.answer.Refusal.{Refusal}
-use Rattle.lk_cli.specs.declared.answer.Refusal.TheVariants.{Words, ReadFault, TextTooLong, NotUtf8, BadToken, TooNested, Unexpected, Unbound, Twice, NoMain, NoMemory}
-use Rattle.lk_cli.specs.declared.command.SourceCommand.{SourceCommand}
+use Rattle.lk_cli.specs.declared.answer.Refusal.TheVariants.{Words, ReadFault, TextTooLong, NotUtf8, BadToken, TooNested, Unexpected, Unbound, Twice, NoMain, TypeTooLarge, IllTyped, NoMemory}
+use Rattle.lk_cli.specs.declared.command.Command.{Command}
+use Rattle.lk_cli.specs.declared.command.Command.TheVariants.{Check, Source}
 
 -- the program that the text of that file is
 abbrev pub IsProgram : FilesSeen → List ℕ → Program → Type 0
 IsProgram files name program = (text : List ℕ) × HasText files name text × IsProgramText text program
 
--- the program's names are bound, and the run is the evaluation of its session with this argument, which begins with
--- this fuel
-abbrev pub IsSession : Program → List ℕ → ℕ → SourceRun → Type 0
-IsSession program arg fuel run = names.IsBound program × (main : FunDef) × (main_of program ≡ Some main) × IsRunOf (session program main arg) fuel run
+-- the program's names are bound, its functions have these principal schemes in text order, and its nodes have these
+-- principal types
+abbrev pub IsTyped : Program → Typed → Type 0
+IsTyped program typed = names.IsBound program × ArePrincipal program typed.schemes × HasTypes program typed.schemes typed.types
 
--- what a command comes to where nothing refuses it
-abbrev pub Gives : FilesSeen → Option SourceCommand → SourceRun → Type 0
-Gives files (Some command) run = (program : Program) × IsProgram files command.program program × IsSession program command.arg command.fuel run
-Gives files None run = ⊥
+-- there are such schemes and types, and the run is the evaluation of the program's session with this argument, which
+-- begins with this fuel
+abbrev pub IsSession : Program → List ℕ → ℕ → SourceRun → Type 0
+IsSession program arg fuel run = (typed : Typed) × IsTyped program typed × (main : FunDef) × (main_of program ≡ Some main) × IsRunOf (session program main arg) fuel run
+
+-- the file that a command names
+abbrev pub program_of : Command → List ℕ
+program_of (Check command) = command.program
+program_of (Source command) = command.program
+
+-- What a command comes to where nothing refuses it. `check`: the program of the file, with its schemes and types.
+-- `source`: a run of that program's session.
+abbrev pub Gives : FilesSeen → Option Command → Answer → Type 0
+Gives files (Some (Check command)) (Schemes checked) = IsProgram files command.program checked.program × IsTyped checked.program checked.typed
+Gives files (Some (Source command)) (Run run) = (program : Program) × IsProgram files command.program program × IsSession program command.arg command.fuel run
+Gives files command answer = ⊥
 
 -- the text of that file is refused for this reason
 abbrev pub IsRefusedText : FilesSeen → List ℕ → ParseError → Type 0
@@ -69,33 +90,44 @@ refusal_of_names (fault.Twice at) = Twice at
 refusal_of_names fault.NoMain = NoMain
 refusal_of_names fault.NoMemory = NoMemory
 
--- why a program has no session: its names aren't bound, for this first reason in text order; or they are, and there is no
--- `main`
-abbrev pub HasNoSession : Program → Refusal → Type 0
-HasNoSession program (Unbound at) = names.IsRefused program (fault.Unbound at)
-HasNoSession program (Twice at) = names.IsRefused program (fault.Twice at)
-HasNoSession program NoMain = names.IsRefused program fault.NoMain
-HasNoSession program NoMemory = Unit {0}
-HasNoSession program refusal = ⊥
+-- a reason why no types are inferred as a refusal
+abbrev pub refusal_of_types : InferError → Refusal
+refusal_of_types (types.IllTyped at) = IllTyped at
+refusal_of_types (types.TypeTooLarge at) = TypeTooLarge at
+refusal_of_types types.NoMemory = NoMemory
 
--- why a command is refused: no form has the words; there is no program; it has no session; want of memory has no cause
-abbrev pub RefusedBy : FilesSeen → Option SourceCommand → Refusal → Type 0
+-- Why a program isn't typed. Its names aren't bound, for this first reason in text order; or they are, and there is no
+-- `main`. Or its names are bound, and this is the first place of the walk through it at which what is said up to there
+-- can't hold, and it isn't well typed; or the first one at which a type that matters is too large.
+abbrev pub IsNotTyped : Program → Refusal → Type 0
+IsNotTyped program (Unbound at) = names.IsRefused program (fault.Unbound at)
+IsNotTyped program (Twice at) = names.IsRefused program (fault.Twice at)
+IsNotTyped program NoMain = names.IsRefused program fault.NoMain
+IsNotTyped program (IllTyped at) = names.IsBound program × EndsIllTyped program at × (IsWellTyped program → ⊥)
+IsNotTyped program (TypeTooLarge at) = names.IsBound program × EndsTooLarge program at
+IsNotTyped program NoMemory = Unit {0}
+IsNotTyped program refusal = ⊥
+
+-- why a command is refused: no form has the words; there is no program; it isn't typed; want of memory has no cause
+abbrev pub RefusedBy : FilesSeen → Option Command → Refusal → Type 0
 RefusedBy files None Words = Unit {0}
 RefusedBy files None NoMemory = Unit {0}
 RefusedBy files None refusal = ⊥
-RefusedBy files (Some command) refusal = HasNoProgram files command.program refusal ⊎ ((program : Program) × IsProgram files command.program program × HasNoSession program refusal)
+RefusedBy files (Some command) refusal = HasNoProgram files (program_of command) refusal ⊎ ((program : Program) × IsProgram files (program_of command) program × IsNotTyped program refusal)
 
 -- an answer with its cause
-abbrev pub Answers : FilesSeen → Option SourceCommand → Result SourceRun Refusal → Type 0
+abbrev pub Answers : FilesSeen → Option Command → Result Answer Refusal → Type 0
 Answers files command answer = MatchResult answer (Gives files command) (RefusedBy files command)
 
 -- a refusal by its number and name, with a place in the program's text
 abbrev pub refused_at : ℕ → List ℕ → Span → List ℕ
 refused_at number name at = line (codes "refused" ∷ decimal number ∷ name ∷ decimal at.start ∷ decimal at.end ∷ [])
 
--- what is printed: `words`, `read fault NAME`, or `refused` with the number, the name and the fields of a refusal
-abbrev pub printed : Result SourceRun Refusal → List ℕ
-printed (Ok run) = report_of run
+-- what is printed: a line for each function in text order, or the report of a run; `words`, `read fault NAME`, or
+-- `refused` with the number, the name and the fields of a refusal
+abbrev pub printed : Result Answer Refusal → List ℕ
+printed (Ok (Schemes checked)) = lines_of (functions_of checked.program) checked.typed.schemes
+printed (Ok (Run run)) = report_of run
 printed (Err Words) = line (codes "words" ∷ [])
 printed (Err (ReadFault name)) = line (codes "read" ∷ codes "fault" ∷ name ∷ [])
 printed (Err (NotUtf8 at)) = line (codes "refused" ∷ codes "1" ∷ codes "NotUtf8" ∷ decimal at ∷ [])
@@ -106,6 +138,8 @@ printed (Err TextTooLong) = line (codes "refused" ∷ codes "5" ∷ codes "TextT
 printed (Err (Unbound at)) = refused_at 6 (codes "Unbound") at
 printed (Err (Twice at)) = refused_at 7 (codes "Twice") at
 printed (Err NoMain) = line (codes "refused" ∷ codes "8" ∷ codes "NoMain" ∷ [])
+printed (Err (TypeTooLarge at)) = refused_at 10 (codes "TypeTooLarge") at
+printed (Err (IllTyped at)) = refused_at 11 (codes "IllTyped") at
 printed (Err NoMemory) = []
 
 abbrev pub end_status : SourceEnd → ℕ
@@ -115,8 +149,9 @@ end_status end.Spent = 12
 end_status (end.Stuck at) = 8
 end_status (end.NoStore at) = 8
 
-abbrev pub status_of : Result SourceRun Refusal → ℕ
-status_of (Ok run) = end_status run.end
+abbrev pub status_of : Result Answer Refusal → ℕ
+status_of (Ok (Schemes checked)) = 0
+status_of (Ok (Run run)) = end_status run.end
 status_of (Err (NotUtf8 at)) = 1
 status_of (Err (BadToken at)) = 1
 status_of (Err (Unexpected at)) = 1
@@ -125,13 +160,15 @@ status_of (Err TextTooLong) = 1
 status_of (Err (Unbound at)) = 1
 status_of (Err (Twice at)) = 1
 status_of (Err NoMain) = 1
+status_of (Err (TypeTooLarge at)) = 1
+status_of (Err (IllTyped at)) = 1
 status_of (Err Words) = 2
 status_of (Err (ReadFault name)) = 3
 status_of (Err NoMemory) = 5
 
 -- How a run ends with an answer: what is printed for it was taken whole, and the status is its own; or a first part of
 -- that was taken, and the status is 4, since the sink failed, or 5, for want of memory.
-abbrev pub Ends : Result SourceRun Refusal → Option (List ℕ) → Option (List ℕ) → ℕ → ℕ → ℕ → Type 0
+abbrev pub Ends : Result Answer Refusal → Option (List ℕ) → Option (List ℕ) → ℕ → ℕ → ℕ → Type 0
 Ends answer before after faults_before faults_after status =
     ((status ≡ status_of answer) × Appends before after (printed answer))
     ⊎ (((status ≡ 4) × Rose faults_before faults_after × AppendsFront before after (printed answer))

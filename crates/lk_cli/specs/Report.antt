@@ -1,8 +1,10 @@
--- What `source` prints: a line for each event in order, and a last line for the end. Values are JSON texts.
+-- What commands print. `check`: a line for each function in text order. `source`: a line for each event in order, and a
+-- last line for the end; values are JSON texts.
 use Rattle.std.specs.Prelude.{ℕ, List, [], ◌∷◌, ◌++◌, codes, decimal}
 use Rattle.std.specs.List.{flat_map}
 use Rattle.lk_ast.specs.JsonText.{value_text_of}
 use Rattle.lk_ast.specs.Rows.{rows_value}
+use Rattle.lk_ast.specs.declared.declaration.FunDef.{FunDef}
 use Rattle.lk_ast.specs.declared.event.Event.{Event}
 use Rattle.lk_ast.specs.declared.event.Event.TheVariants.{Print, Enter, Leave, Read, Write}
 use Rattle.lk_ast.specs.declared.event.Trap.{Trap}
@@ -12,12 +14,28 @@ use Rattle.lk_operators.specs.Values.{text}
 use Rattle.lk_sem.specs.declared.run.SourceEnd.{SourceEnd}
 use Rattle.lk_sem.specs.declared.run.SourceEnd.TheVariants as end
 use Rattle.lk_sem.specs.declared.run.SourceRun.{SourceRun}
+use Rattle.lk_types.specs.TypeText.{type_text}
+use Rattle.lk_types.specs.declared.scheme.Scheme.{Scheme}
 
 -- words with a space between them, and a line feed
 abbrev pub line : List (List ℕ) → List ℕ
 line [] = codes "\n"
 line (word ∷ []) = word ++ codes "\n"
 line (word ∷ words) = word ++ (codes " " ++ line words)
+
+-- ---- what `check` prints
+
+-- `NAME : TYPE`, the type being that of the scheme, its variables named from `t1` on
+abbrev pub scheme_line : FunDef → Scheme → List ℕ
+scheme_line f scheme = line (f.name.text ∷ codes ":" ∷ type_text scheme.body ∷ [])
+
+-- a line for each function with its scheme; where there are more of one than of the other, these have none
+abbrev pub lines_of : List FunDef → List Scheme → List ℕ
+lines_of [] schemes = []
+lines_of (f ∷ fs) [] = []
+lines_of (f ∷ fs) (scheme ∷ schemes) = scheme_line f scheme ++ lines_of fs schemes
+
+-- ---- what `source` prints
 
 -- the place of a query or of a change of tables in the program's text
 abbrev pub site_word : ℕ → List ℕ

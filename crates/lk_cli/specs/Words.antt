@@ -13,7 +13,8 @@ use Rattle.clap.specs.Kinds.{Kinds}
 use Rattle.clap.specs.Simple.{App, new_app, new_rule, with_rule, with_subcommand, on_top, subcommand_of}
 use Rattle.clap.specs.Walk.{Row, Rule, first_of}
 use Rattle.clap.specs.declared.builder.action.ArgAction.TheVariants.{Set}
-use Rattle.lk_cli.specs.declared.command.SourceCommand.{SourceCommand}
+use Rattle.lk_cli.specs.declared.command.Command.{Command}
+use Rattle.lk_cli.specs.declared.command.Command.TheVariants.{Check, Source}
 
 -- ---- the command line as data
 
@@ -24,6 +25,10 @@ needed name = record (new_rule name) { required = true; action = Some Set }
 -- an option, which has one value
 abbrev pub optional : List ℕ → Rule
 optional name = record (new_rule name) { long = Some name; action = Some Set }
+
+-- `check PROGRAM`
+abbrev pub check_app : App
+check_app = with_rule (new_app (codes "check")) (needed (codes "program"))
 
 -- `source PROGRAM ARG`, with `--fuel N`
 abbrev pub source_app : App
@@ -37,7 +42,7 @@ bare_app = on_top
 
 -- the command line
 abbrev pub links_app : App
-links_app = with_subcommand bare_app source_app.top
+links_app = with_subcommand (with_subcommand bare_app check_app.top) source_app.top
 
 -- ---- what the values mean
 
@@ -66,26 +71,32 @@ infixl 10 ◌>>=◌
 abbrev ◌>>=◌ : {A B : Type 0} → Option A → (A → Option B) → Option B
 option >>= f = option_and_then f option
 
+-- `check`, by the value of its argument: the program is any text
+unfoldable pub check_of : List Row → Option Command
+check_of rows = do
+  program ← first_of (codes "program") rows
+  Some (Check (record { program = program }))
+
 -- `source`, by the values of its arguments: the program and the argument are any texts, and the fuel is a number
-unfoldable pub source_of : List Row → Option SourceCommand
+unfoldable pub source_of : List Row → Option Command
 source_of rows = do
   program ← first_of (codes "program") rows
   arg ← first_of (codes "arg") rows
   fuel ← number_or default_fuel (first_of (codes "fuel") rows)
-  Some (record { program = program; arg = arg; fuel = fuel })
+  Some (Source (record { program = program; arg = arg; fuel = fuel }))
 
 -- ---- the words
 
 -- the subcommand that was met, by its name and the values of its arguments
-abbrev pub command_of : List ℕ × List Row → Option SourceCommand
-command_of (name, rows) = if bytes_eq name (codes "source") then source_of rows else None
+abbrev pub command_of : List ℕ × List Row → Option Command
+command_of (name, rows) = if bytes_eq name (codes "check") then check_of rows else (if bytes_eq name (codes "source") then source_of rows else None)
 
 -- a command, where there is no kind of error
-abbrev pub unless : Kinds → Option SourceCommand → Option SourceCommand
+abbrev pub unless : Kinds → Option Command → Option Command
 unless [] command = command
 unless (kind ∷ kinds) command = None
 
 -- The command that the words ask for, or `None` where they have no form: where clap gives an error, or an option's text
 -- isn't the number that it has to be.
-unfoldable pub form_of : List (List ℕ) → Option SourceCommand
+unfoldable pub form_of : List (List ℕ) → Option Command
 form_of words = unless (fault_of links_app words) (option_and_then command_of (subcommand_of links_app words))

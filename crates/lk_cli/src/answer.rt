@@ -4,12 +4,30 @@ ghost use Rattle.std.specs.Prelude.{◌≡◌, IfOk};
 ghost use Rattle.lk_cli.specs.Answers.{printed, refused_at, status_of, end_status};
 
 use crate::report::report;
+use crate::schemes::print_schemes;
 use lk_ast::{NoMemory as OutOfMemory, Span, Text};
-use lk_names::NameError;
+use lk_infer::{InferError, Typed};
+use lk_names::{NameError, Scoped};
 use lk_parse::ParseError;
 use lk_sem::{SourceEnd, SourceRun};
 use std::alloc::Global;
 use thiserror::Error;
+
+/// What a command comes to.
+#[derive(Drop)]
+pub enum Answer {
+    /// Of `check`: the schemes of a program.
+    Schemes(Checked),
+    /// Of `source`: the evaluation of a session.
+    Run(SourceRun),
+}
+
+/// A program whose names are bound, and what is inferred of it.
+#[derive(Drop)]
+pub struct Checked {
+    pub program: Scoped,
+    pub typed: Typed,
+}
 
 /// Why a command is refused.
 #[derive(Debug, Drop, Error)]
@@ -34,6 +52,10 @@ pub enum Refusal {
     Twice(Span),
     #[error("the program has no main function")]
     NoMain,
+    #[error("a type is too large")]
+    TypeTooLarge(Span),
+    #[error("not well typed")]
+    IllTyped(Span),
     #[error("out of memory")]
     NoMemory,
 }
@@ -80,6 +102,20 @@ impl From<NameError> for Refusal {
     }
 }
 
+impl From<InferError> for Refusal {
+    ghost use Rattle.lk_cli.specs.Answers.{refusal_of_types};
+
+    ghost from_gives = { λ error refusal. refusal ≡ refusal_of_types error };
+
+    fn from(error: InferError) -> Self {
+        match error {
+            InferError::IllTyped(at) => Refusal::IllTyped(at),
+            InferError::TypeTooLarge(at) => Refusal::TypeTooLarge(at),
+            InferError::NoMemory => Refusal::NoMemory,
+        }
+    }
+}
+
 /// The line of a refusal that has a place in the program's text.
 fn refused_at(alloc: Global, number: u8, name: &str, at: Span) -> Result<Text, OutOfMemory>
     ensures { IfOk result (λ text. text ≡ refused_at number name.now at) }
@@ -89,11 +125,16 @@ fn refused_at(alloc: Global, number: u8, name: &str, at: Span) -> Result<Text, O
 }
 
 /// What is printed for an answer.
-pub fn print_answer(alloc: Global, answer: &Result<SourceRun, Refusal>) -> Result<Text, OutOfMemory>
+pub fn print_answer(alloc: Global, answer: &Result<Answer, Refusal>) -> Result<Text, OutOfMemory>
     ensures { IfOk result (λ text. text ≡ printed answer.now) }
 {
     match answer {
-        Ok(run) => report(alloc, run),
+        Ok(Answer::Schemes(checked)) => print_schemes(
+            alloc,
+            checked.program.program(),
+            checked.typed.schemes.as_slice(),
+        ),
+        Ok(Answer::Run(run)) => report(alloc, run),
         Err(Refusal::Words) => Ok(Text::from_str(alloc, "words\n")?),
         Err(Refusal::ReadFault(name)) => {
             let line = format!(in alloc; "read fault {}\n", name.as_str())?;
@@ -110,16 +151,19 @@ pub fn print_answer(alloc: Global, answer: &Result<SourceRun, Refusal>) -> Resul
         Err(Refusal::Unbound(at)) => refused_at(alloc, 6, "Unbound", *at),
         Err(Refusal::Twice(at)) => refused_at(alloc, 7, "Twice", *at),
         Err(Refusal::NoMain) => Ok(Text::from_str(alloc, "refused 8 NoMain\n")?),
+        Err(Refusal::TypeTooLarge(at)) => refused_at(alloc, 10, "TypeTooLarge", *at),
+        Err(Refusal::IllTyped(at)) => refused_at(alloc, 11, "IllTyped", *at),
         Err(Refusal::NoMemory) => Ok(Text::new(alloc)),
     }
 }
 
 /// The status of an answer that was printed whole.
-pub fn answer_status(answer: &Result<SourceRun, Refusal>) -> u8
+pub fn answer_status(answer: &Result<Answer, Refusal>) -> u8
     ensures { result ≡ status_of answer.now }
 {
     match answer {
-        Ok(run) => status_of_end(&run.end),
+        Ok(Answer::Schemes(_)) => 0,
+        Ok(Answer::Run(run)) => status_of_end(&run.end),
         Err(Refusal::TextTooLong)
         | Err(Refusal::NotUtf8(_))
         | Err(Refusal::BadToken(_))
@@ -127,7 +171,9 @@ pub fn answer_status(answer: &Result<SourceRun, Refusal>) -> u8
         | Err(Refusal::Unexpected(_))
         | Err(Refusal::Unbound(_))
         | Err(Refusal::Twice(_))
-        | Err(Refusal::NoMain) => 1,
+        | Err(Refusal::NoMain)
+        | Err(Refusal::TypeTooLarge(_))
+        | Err(Refusal::IllTyped(_)) => 1,
         Err(Refusal::Words) => 2,
         Err(Refusal::ReadFault(_)) => 3,
         Err(Refusal::NoMemory) => 5,

@@ -4,10 +4,10 @@ ghost use Rattle.std.specs.Prelude.{◌≡◌, false, IfOk, map, option_and_then
 ghost use Rattle.clap.specs.Walk.{first_of, rows_of, rule_of};
 ghost use Rattle.clap.specs.Words.{app_of, found_of, subcommand_rows_of};
 ghost use Rattle.clap.specs.declared.builder.command.Command.TheViews.{out-Command as fields_of};
-ghost use Rattle.lk_cli.specs.Words.{bare_app, links_app, source_app, needed, optional, form_of, command_of, source_of, number_or, number_of};
+ghost use Rattle.lk_cli.specs.Words.{bare_app, links_app, source_app, needed, optional, form_of, check_app, check_of, command_of, source_of, number_or, number_of};
 
 use clap::error::ErrorKind;
-use clap::{Arg, ArgAction, ArgMatches, Command};
+use clap::{Arg, ArgAction, ArgMatches};
 use lk_ast::{NoMemory, Text};
 use std::alloc::{AllocError, Global};
 
@@ -16,6 +16,20 @@ const DEFAULT_FUEL: u64 = 1_000_000;
 
 /// The most fuel that the words may ask for.
 const MOST_FUEL: u64 = 1_000_000_000;
+
+/// What words ask for.
+#[derive(Debug, Drop)]
+pub enum Command {
+    Check(CheckCommand),
+    Source(SourceCommand),
+}
+
+/// `check PROGRAM`.
+#[derive(Debug, Drop)]
+pub struct CheckCommand {
+    /// The file of the program.
+    pub program: Text,
+}
 
 /// `source PROGRAM ARG`, with `--fuel N`.
 #[derive(Debug, Drop)]
@@ -29,7 +43,7 @@ pub struct SourceCommand {
 }
 
 /// The command that the words ask for, or `None` where they have no form. The program's own name isn't among them.
-pub fn read_words(alloc: Global, words: &[String]) -> Result<Option<SourceCommand>, NoMemory>
+pub fn read_words(alloc: Global, words: &[String]) -> Result<Option<Command>, NoMemory>
     ensures { IfOk result (λ command. command ≡ form_of (map string_bytes words.now)) }
 {
     let command = links_command(alloc)?;
@@ -43,18 +57,31 @@ pub fn read_words(alloc: Global, words: &[String]) -> Result<Option<SourceComman
 }
 
 /// The subcommand that was met.
-fn command_of(alloc: Global, matches: &ArgMatches<'_>) -> Result<Option<SourceCommand>, NoMemory>
+fn command_of(alloc: Global, matches: &ArgMatches<'_>) -> Result<Option<Command>, NoMemory>
     ensures { IfOk result (λ command. command ≡ option_and_then command_of (subcommand_rows_of matches.now)) }
 {
     match matches.subcommand() {
+        Some(("check", matches)) => check_of(alloc, matches),
         Some(("source", matches)) => source_of(alloc, matches),
         _ => Ok(None),
     }
 }
 
+/// `check`, from the value of its argument.
+#[tactic(auto, unfolding(crate::specs::Words::check_of))]
+fn check_of(alloc: Global, matches: &ArgMatches<'_>) -> Result<Option<Command>, NoMemory>
+    ensures { IfOk result (λ command. command ≡ check_of (rows_of (found_of matches.now))) }
+{
+    let Some(program) = value_of(matches, "program") else {
+        return Ok(None);
+    };
+    let program = Text::from_str(alloc, program)?;
+    Ok(Some(Command::Check(CheckCommand { program })))
+}
+
 /// `source`, from the values of its arguments.
 #[tactic(auto, unfolding(crate::specs::Words::source_of))]
-fn source_of(alloc: Global, matches: &ArgMatches<'_>) -> Result<Option<SourceCommand>, NoMemory>
+fn source_of(alloc: Global, matches: &ArgMatches<'_>) -> Result<Option<Command>, NoMemory>
     ensures { IfOk result (λ command. command ≡ source_of (rows_of (found_of matches.now))) }
 {
     let Some(program) = value_of(matches, "program") else {
@@ -68,7 +95,7 @@ fn source_of(alloc: Global, matches: &ArgMatches<'_>) -> Result<Option<SourceCom
     };
     let program = Text::from_str(alloc, program)?;
     let arg = Text::from_str(alloc, arg)?;
-    Ok(Some(SourceCommand { program, arg, fuel }))
+    Ok(Some(Command::Source(SourceCommand { program, arg, fuel })))
 }
 
 /// The value of an argument, by its name.
@@ -105,17 +132,19 @@ fn number_of(text: &str) -> Option<u64>
 }
 
 /// The command line.
-fn links_command<'a>(alloc: Global) -> Result<Command<'a>, AllocError>
+fn links_command<'a>(alloc: Global) -> Result<clap::Command<'a>, AllocError>
     ensures { IfOk result (λ command. app_of command ≡ links_app) }
 {
-    bare_command(alloc).subcommand(source_command(alloc)?)
+    bare_command(alloc)
+        .subcommand(check_command(alloc)?)?
+        .subcommand(source_command(alloc)?)
 }
 
 /// A command line without its subcommands, one of which has to be there.
-fn bare_command<'a>(alloc: Global) -> Command<'a>
+fn bare_command<'a>(alloc: Global) -> clap::Command<'a>
     ensures { app_of result ≡ bare_app }
 {
-    Command::new(alloc, "links")
+    clap::Command::new(alloc, "links")
         .no_binary_name(true)
         .disable_help_flag(true)
         .disable_version_flag(true)
@@ -123,11 +152,18 @@ fn bare_command<'a>(alloc: Global) -> Command<'a>
         .subcommand_required(true)
 }
 
+/// `check PROGRAM`.
+fn check_command<'a>(alloc: Global) -> Result<clap::Command<'a>, AllocError>
+    ensures { IfOk result (λ command. (app_of command ≡ check_app) × ((fields_of command).has_globals ≡ false)) }
+{
+    clap::Command::new(alloc, "check").arg(needed(alloc, "program"))
+}
+
 /// `source PROGRAM ARG`, with `--fuel N`.
-fn source_command<'a>(alloc: Global) -> Result<Command<'a>, AllocError>
+fn source_command<'a>(alloc: Global) -> Result<clap::Command<'a>, AllocError>
     ensures { IfOk result (λ command. (app_of command ≡ source_app) × ((fields_of command).has_globals ≡ false)) }
 {
-    Command::new(alloc, "source")
+    clap::Command::new(alloc, "source")
         .arg(needed(alloc, "program"))?
         .arg(needed(alloc, "arg"))?
         .arg(optional(alloc, "fuel"))

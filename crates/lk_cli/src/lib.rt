@@ -5,10 +5,11 @@
 mod answer;
 mod command;
 mod report;
+mod schemes;
 mod top;
 
-pub use answer::Refusal;
-pub use command::SourceCommand;
+pub use answer::{Answer, Checked, Refusal};
+pub use command::{CheckCommand, Command, SourceCommand};
 pub use top::links_main;
 
 /// How many bytes of a program's file are read: one more than a program's text may have.

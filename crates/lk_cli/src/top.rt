@@ -1,16 +1,18 @@
 //! The top call, and its stages.
 
-ghost use Rattle.std.specs.Prelude.{Result, Some, IfOk, IfErr, map, string_bytes};
-ghost use Rattle.lk_cli.specs.Answers.{Answers, Ends, HasNoProgram, HasNoSession, IsProgram, IsSession};
+ghost use Rattle.std.specs.Prelude.{◌≡◌, Result, Some, IfOk, IfErr, map, string_bytes};
+ghost use Rattle.lk_cli.specs.Answers.{Answers, Ends, HasNoProgram, IsNotTyped, IsProgram, IsSession, IsTyped};
 ghost use Rattle.lk_cli.specs.Seen.{seen};
 ghost use Rattle.lk_cli.specs.Words.{form_of};
+ghost use Rattle.lk_cli.specs.declared.answer.Answer.{Answer as TheAnswer};
 ghost use Rattle.lk_cli.specs.declared.answer.Refusal.{Refusal as TheRefusal};
-ghost use Rattle.lk_sem.specs.declared.run.SourceRun.{SourceRun as TheSourceRun};
+ghost use Rattle.lk_cli.specs.declared.command.Command.TheVariants.{Check, Source};
 
 use crate::READ_MAX;
-use crate::answer::{Refusal, answer_status, print_answer};
-use crate::command::{SourceCommand, read_words};
-use lk_ast::{Program, Text};
+use crate::answer::{Answer, Checked, Refusal, answer_status, print_answer};
+use crate::command::{CheckCommand, Command, SourceCommand, read_words};
+use lk_ast::{NoMemory, Program, Text};
+use lk_infer::infer;
 use lk_names::resolve;
 use lk_outside::{Files, OutFault, Sink};
 use lk_parse::parse;
@@ -25,7 +27,7 @@ pub fn links_main<F: Files, O: Sink>(
     files: &mut F,
     out: &mut O,
 ) -> u8
-    ensures answer { (answer : Result TheSourceRun TheRefusal)
+    ensures answer { (answer : Result TheAnswer TheRefusal)
         × Answers (seen F.contents F.failed F.faults files.old files.new) (form_of (map string_bytes words.now)) answer
         × Ends answer (O.taken out.old) (O.taken out.new) (O.faults out.old) (O.faults out.new) result }
 {
@@ -34,7 +36,7 @@ pub fn links_main<F: Files, O: Sink>(
 }
 
 /// Prints an answer and gives its status, or that of a sink that failed, or of want of memory.
-fn deliver<O: Sink>(alloc: Global, answer: &Result<SourceRun, Refusal>, out: &mut O) -> u8
+fn deliver<O: Sink>(alloc: Global, answer: &Result<Answer, Refusal>, out: &mut O) -> u8
     ensures { Ends answer.now (O.taken out.old) (O.taken out.new) (O.faults out.old) (O.faults out.new) result }
 {
     let Ok(text) = print_answer(alloc, answer) else {
@@ -48,18 +50,27 @@ fn deliver<O: Sink>(alloc: Global, answer: &Result<SourceRun, Refusal>, out: &mu
 }
 
 /// The answer to the words.
-fn answer_words<F: Files>(
-    alloc: Global,
-    words: &[String],
-    files: &mut F,
-) -> Result<SourceRun, Refusal>
+fn answer_words<F: Files>(alloc: Global, words: &[String], files: &mut F) -> Result<Answer, Refusal>
     ensures { Answers (seen F.contents F.failed F.faults files.old files.new) (form_of (map string_bytes words.now)) result }
 {
     match read_words(alloc, words) {
         Err(_) => Err(Refusal::NoMemory),
         Ok(None) => Err(Refusal::Words),
-        Ok(Some(command)) => answer_source(alloc, &command, files),
+        Ok(Some(Command::Check(command))) => answer_check(alloc, &command, files),
+        Ok(Some(Command::Source(command))) => answer_source(alloc, &command, files),
     }
+}
+
+/// The answer to `check`.
+fn answer_check<F: Files>(
+    alloc: Global,
+    command: &CheckCommand,
+    files: &mut F,
+) -> Result<Answer, Refusal>
+    ensures { Answers (seen F.contents F.failed F.faults files.old files.new) (Some (Check command.now)) result }
+{
+    let program = read_program(alloc, command.program.as_str(), files)?;
+    Ok(Answer::Schemes(check_program(alloc, program)?))
 }
 
 /// The answer to `source`.
@@ -67,11 +78,13 @@ fn answer_source<F: Files>(
     alloc: Global,
     command: &SourceCommand,
     files: &mut F,
-) -> Result<SourceRun, Refusal>
-    ensures { Answers (seen F.contents F.failed F.faults files.old files.new) (Some command.now) result }
+) -> Result<Answer, Refusal>
+    ensures { Answers (seen F.contents F.failed F.faults files.old files.new) (Some (Source command.now)) result }
 {
     let program = read_program(alloc, command.program.as_str(), files)?;
-    Ok(run_session(alloc, program, &command.arg, command.fuel)?)
+    let checked = check_program(alloc, program)?;
+    let run = run_session(alloc, &checked, &command.arg, command.fuel)?;
+    Ok(Answer::Run(run))
 }
 
 /// The program of the file of that name.
@@ -89,11 +102,29 @@ fn read_program<F: Files>(alloc: Global, name: &str, files: &mut F) -> Result<Pr
     Ok(parse(alloc, text.as_slice())?)
 }
 
-/// The evaluation of the session of a program with this argument and fuel.
-fn run_session(alloc: Global, program: Program, arg: &Text, fuel: u64) -> Result<SourceRun, Refusal>
-    ensures run { IfOk result (IsSession program arg.now fuel) }
-    ensures refused { IfErr result (HasNoSession program) }
+/// The program with its names bound, its schemes and its types.
+fn check_program(alloc: Global, program: Program) -> Result<Checked, Refusal>
+    ensures same { IfOk result (λ checked. checked.program ≡ program) }
+    ensures typed { IfOk result (λ checked. IsTyped checked.program checked.typed) }
+    ensures refused { IfErr result (IsNotTyped program) }
 {
     let scoped = resolve(alloc, program)?;
-    Ok(source_run(alloc, scoped.program(), arg, fuel)?)
+    let typed = infer(alloc, &scoped)?;
+    Ok(Checked {
+        program: scoped,
+        typed,
+    })
+}
+
+/// The evaluation of the session of a program with this argument and fuel.
+fn run_session(
+    alloc: Global,
+    checked: &Checked,
+    arg: &Text,
+    fuel: u64,
+) -> Result<SourceRun, NoMemory>
+    requires { IsTyped checked.now.program checked.now.typed }
+    ensures { IfOk result (IsSession checked.now.program arg.now fuel) }
+{
+    Ok(source_run(alloc, checked.program.program(), arg, fuel)?)
 }

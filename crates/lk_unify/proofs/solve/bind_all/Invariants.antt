@@ -1,6 +1,0 @@
-use Rattle.std.specs.Prelude.{take}
-use Rattle.lk_unify.proofs.solve.bind_all.Given as goal
-use Rattle.lk_unify.specs.Solving.{AreBound, IsStart}
-
-abbrev pub invariant-loop-variable : goal.invariant-loop-variable
-invariant-loop-variable l = IsStart l.loader × AreBound l.loader (take l.variable-index l.variables)
