@@ -37,7 +37,7 @@ pub use copies::{copy_base, copy_row, copy_value, copy_values};
 pub use declaration::{ColumnDecl, Decl, FunDef, Program, TableDecl};
 pub use event::{Event, ReadEvent, Trap, WriteEvent};
 pub use expression::{Case, ChangeExpr, Expr, LambdaExpr, LastCase, Node, PartExpr, SortKey};
-pub use functions::{find_function, main_of};
+pub use functions::{find_function, functions_in, functions_of, is_main, main_of};
 pub use json::value_text;
 pub use list::List;
 pub use memory::NoMemory;

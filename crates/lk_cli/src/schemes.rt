@@ -1,19 +1,18 @@
 //! What `check` prints for a program.
 
-ghost use Rattle.std.specs.Prelude.{◌≡◌, ◌++◌, IfOk, OnOk, map};
-ghost use Rattle.lk_ast.specs.Functions.{functions_in, functions_of};
+ghost use Rattle.std.specs.Prelude.{◌≡◌, IfOk, map};
+ghost use Rattle.lk_ast.specs.Functions.{functions_of};
 ghost use Rattle.lk_cli.specs.Report.{lines_of, scheme_line};
 
-use lk_ast::{Decl, FunDef, List, NoMemory, Program, Text};
+use lk_ast::{FunDef, NoMemory, Program, Text, functions_of};
 use lk_types::{Scheme, print_type};
 use std::alloc::Global;
-use std::slice;
 
 /// A line for each function of a program, in text order, with its scheme.
 pub fn print_schemes(alloc: Global, program: &Program, schemes: &[Scheme]) -> Result<Text, NoMemory>
     ensures { IfOk result (λ text. text ≡ lines_of (functions_of program.now) schemes.now) }
 {
-    let functions = functions(alloc, program)?;
+    let functions = functions_of(alloc, program)?;
     Ok(lines_of(alloc, functions.as_slice(), schemes)?)
 }
 
@@ -35,36 +34,4 @@ fn line_of_scheme(alloc: Global, function: &FunDef, scheme: &Scheme) -> Result<T
     let ty = print_type(alloc, &scheme.body)?;
     let line = format!(in alloc; "{} : {}\n", function.name.text.as_str(), ty.as_str())?;
     Ok(Text::from_string(line))
-}
-
-/// The functions of a program in text order.
-fn functions(alloc: Global, program: &Program) -> Result<List<&FunDef>, NoMemory>
-    ensures { IfOk result (λ functions. map (λ f. f.now) functions ≡ functions_of program.now) }
-{
-    let mut functions = List::new(alloc);
-    for decl in program.decls.as_slice() {
-        add_all(&mut functions, functions_in(decl))?;
-    }
-    Ok(functions)
-}
-
-/// These functions too.
-fn add_all<'p>(functions: &mut List<&'p FunDef>, more: &'p [FunDef]) -> Result<(), NoMemory>
-    ensures { OnOk result (map (λ f. f.now) functions.new ≡ map (λ f. f.now) functions.old ++ more.now) }
-{
-    for function in more {
-        functions.push(function)?;
-    }
-    Ok(())
-}
-
-/// The functions of a declaration.
-fn functions_in(decl: &Decl) -> &[FunDef]
-    ensures { result.now ≡ functions_in decl.now }
-{
-    match decl {
-        Decl::Table(_) => &[],
-        Decl::Fun(function) => slice::from_ref(function),
-        Decl::Mutual(functions) => functions.as_slice(),
-    }
 }

@@ -1,20 +1,18 @@
 //! What a program has at a name or a place, found without a search of the program.
 
-ghost use Rattle.lk_ast.specs.Functions.{functions_in, functions_of, function_named};
+ghost use Rattle.lk_ast.specs.Functions.{functions_of, function_named};
 ghost use Rattle.lk_index.specs.Free.{texts, captured};
 ghost use Rattle.lk_index.specs.Index.{FindsNamed, FindsPlaced, FindsLambdas};
 ghost use Rattle.lk_index.specs.Places.{function_at, lambda_at, lambdas_of, seen, shown};
-ghost use Rattle.std.specs.List.{flat_map};
 ghost use Rattle.std.specs.Option.{option_copied, option_map};
-ghost use Rattle.std.specs.Prelude.{◌≡◌, ◌++◌, IfOk, IfSome, OnOk};
+ghost use Rattle.std.specs.Prelude.{◌≡◌, IfOk, IfSome};
 
 use crate::free::captured;
 use crate::places::lambdas;
-use lk_ast::{Decl, FunDef, LambdaExpr, List, NoMemory, Program};
+use lk_ast::{FunDef, LambdaExpr, List, NoMemory, Program, functions_of};
 use std::alloc::Global;
 use std::collections::BTreeMap;
 use std::marker::Model;
-use std::slice;
 
 /// A lambda, and the names that it captures, in byte order and each once.
 #[derive(Drop)]
@@ -55,7 +53,7 @@ impl<'p> Index<'p> {
     pub fn new(alloc: Global, program: &'p Program) -> Result<Index<'p>, NoMemory>
         ensures { IfOk result (λ index. index ≡ program.now) }
     {
-        let functions = functions(alloc, program.decls.as_slice())?;
+        let functions = functions_of(alloc, program)?;
         let named = by_name(alloc, functions.as_slice())?;
         let placed = by_place(alloc, functions.as_slice())?;
         let found = lambdas(alloc, functions.as_slice())?;
@@ -89,38 +87,6 @@ impl<'p> Index<'p> {
     {
         self.lambdas.get(&site)
     }
-}
-
-/// The functions of a declaration.
-fn functions_in(decl: &Decl) -> &[FunDef]
-    ensures { result.now ≡ functions_in decl.now }
-{
-    match decl {
-        Decl::Table(_) => &[],
-        Decl::Fun(function) => slice::from_ref(function),
-        Decl::Mutual(functions) => functions.as_slice(),
-    }
-}
-
-/// The functions of declarations in text order.
-fn functions<'p>(alloc: Global, decls: &'p [Decl]) -> Result<List<&'p FunDef>, NoMemory>
-    ensures { IfOk result (λ functions. shown functions ≡ flat_map functions_in decls.now) }
-{
-    let mut functions = List::new(alloc);
-    for decl in decls {
-        add_all(&mut functions, functions_in(decl))?;
-    }
-    Ok(functions)
-}
-
-/// These functions too.
-fn add_all<'p>(functions: &mut List<&'p FunDef>, more: &'p [FunDef]) -> Result<(), NoMemory>
-    ensures { OnOk result (shown functions.new ≡ shown functions.old ++ more.now) }
-{
-    for function in more {
-        functions.push(function)?;
-    }
-    Ok(())
 }
 
 /// The functions by their names, the first where a name comes twice.

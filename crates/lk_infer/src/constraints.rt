@@ -5,10 +5,10 @@ ghost use Rattle.lk_infer.specs.Walked.{asked, places_of};
 ghost use Rattle.std.specs.Prelude.{◌≡◌, ◌++◌, IfOk, OnOk, map};
 
 use lk_ast::{List, NoMemory, Span};
+use lk_equations::copy_type;
 use lk_types::{Equation, Ty};
 use lk_typing::{Said, Step};
 use lk_unify::{Constraint, Sizing};
-use lk_walk::copy_type;
 use std::alloc::Global;
 
 /// A type that is only read back.

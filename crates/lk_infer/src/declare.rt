@@ -4,22 +4,10 @@ ghost use Rattle.lk_ast.specs.Functions.{functions_in};
 ghost use Rattle.lk_typing.specs.Programs.{entries};
 ghost use Rattle.std.specs.Prelude.{◌≡◌, ◌++◌, IfOk, OnOk};
 
-use lk_ast::{Decl, FunDef, List, NoMemory};
+use lk_ast::{Decl, List, NoMemory, functions_in};
+use lk_equations::{Scope, copy_type};
 use lk_types::{Lack, Scheme};
-use lk_walk::{Scope, copy_type};
 use std::alloc::Global;
-use std::slice;
-
-/// The functions of a declaration.
-fn functions_in(decl: &Decl) -> &[FunDef]
-    ensures { result.now ≡ functions_in decl.now }
-{
-    match decl {
-        Decl::Table(_) => &[],
-        Decl::Fun(function) => slice::from_ref(function),
-        Decl::Mutual(functions) => functions.as_slice(),
-    }
-}
 
 fn copy_lacks(alloc: Global, lacks: &[Lack]) -> Result<List<Lack>, NoMemory>
     ensures { IfOk result (λ copies. copies ≡ lacks.now) }

@@ -15,9 +15,10 @@ use crate::late::{first_node, refuse_late};
 use crate::schemes::schemes_of;
 use crate::solving::solve_walk;
 use lk_ast::{Decl, List};
+use lk_equations::{Scope, Tables};
 use lk_types::{Scheme, Ty};
 use lk_typing::typing_laws;
-use lk_walk::{GroupWalk, Scope, Tables, walk_group};
+use lk_walk::{GroupWalk, walk_group};
 use std::alloc::Global;
 
 /// What is inferred of the functions of a declaration.

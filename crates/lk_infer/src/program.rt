@@ -15,10 +15,10 @@ use crate::group::{Group, infer_group};
 use crate::sizes::any_large;
 use crate::typed::Typed;
 use lk_ast::{Decl, List, NoMemory};
+use lk_equations::{Scope, Tables};
 use lk_names::Scoped;
 use lk_types::{Scheme, Ty};
 use lk_typing::typing_laws;
-use lk_walk::{Scope, Tables};
 use std::alloc::Global;
 
 /// Adds schemes to others.

@@ -1,6 +1,5 @@
 -- What a walker notes of the forms that bind names.
-use Rattle.std.proofs.Common.{◌≡◌, ℕ, ◌+◌, List, [], ◌∷◌, ◌++◌, Option, Some, None, length, drop, map, refl, ap, ap₂, sym, ◌∙◌, append_assoc, append-nil}
-use Rattle.std.specs.Option.{option_map}
+use Rattle.std.proofs.Common.{◌≡◌, ℕ, ◌+◌, List, [], ◌∷◌, ◌++◌, Option, Some, None, length, map, refl, ap, sym, ◌∙◌, append_assoc, append-nil}
 use Rattle.lk_ast.specs.declared.declaration.TableDecl.{TableDecl}
 use Rattle.lk_ast.specs.declared.expression.ChangeExpr.{ChangeExpr, out-ChangeExpr}
 use Rattle.lk_ast.specs.declared.expression.PartExpr.{PartExpr}
@@ -27,11 +26,11 @@ use Rattle.lk_typing.specs.Unknowns.{effects_of, field, row_of, same, variant_of
 use Rattle.lk_typing.specs.Walk.{Walking, Walked, WalkedAll, WalkedCases, CaseWalk, PartWalk, Told, all_types, change_ended, change_in, ended, for_list_walked, for_table_walked, has_if, lambda_walked, last_walked, one_type, params_from, query_walked, set_own, switch_walked, var_walked, walk_all, walk_cases, held_by}
 use Rattle.lk_typing.specs.declared.step.Step.{Step}
 use Rattle.lk_walk.proofs.Goes.{all_is, grew_none, grew_twice, types_are}
-use Rattle.lk_walk.proofs.Levels.{map_same}
+use Rattle.lk_typing.proofs.Levels.{map_same}
 use Rattle.lk_walk.proofs.Params.{params_gone}
-use Rattle.lk_walk.specs.Forms.{for_own, lambda_own, query_own, switch_own}
+use Rattle.lk_equations.specs.Forms.{for_own, lambda_own, query_own, switch_own}
 use Rattle.lk_walk.specs.Went.{bound_all, case_field, case_type, case_went, cases_fields, cases_types, cases_went, change_walk, change_walked, grew, last_tail, last_types, last_went, named_by, numbered, said, told_by, type_at, types_all, unbound, under_names, walk_in, went, went_all, Inner}
-use Rattle.lk_walk.specs.declared.own.Globals.{Globals}
+use Rattle.lk_equations.specs.declared.own.Globals.{Globals}
 use Rattle.lk_walk.specs.declared.walker.Walker.{Walker}
 
 -- a node, by what it is made of

@@ -1,5 +1,5 @@
 -- Blocks, statement by statement: what is entered on the way down is left on the way up.
-use Rattle.std.proofs.Common.{◌≡◌, ℕ, ◌+◌, List, [], ◌∷◌, ◌++◌, Option, Some, None, length, refl, ap, ap₂, sym, ◌∙◌, subst, append-nil}
+use Rattle.std.proofs.Common.{◌≡◌, ℕ, List, [], ◌∷◌, ◌++◌, Option, Some, None, length, refl, ap, sym, ◌∙◌, subst, append-nil}
 use Rattle.lk_ast.specs.Layers.{before, layer}
 use Rattle.lk_ast.specs.declared.expression.Expr.{Expr}
 use Rattle.lk_ast.specs.declared.expression.Node.TheOpen.{Node-F}
@@ -14,16 +14,15 @@ use Rattle.lk_typing.specs.Heads as head
 use Rattle.lk_typing.specs.Heads.{head as head_at}
 use Rattle.lk_typing.specs.Typing.{label_of, expr_of}
 use Rattle.lk_typing.specs.Unknowns.{same, unit}
-use Rattle.lk_typing.specs.Walk.{Walking, Walked, all_types, ended, plain_walked, var_walked}
-use Rattle.lk_typing.specs.declared.step.Step.{Step}
+use Rattle.lk_typing.specs.Walk.{Walking, Walked, all_types, plain_walked}
 use Rattle.lk_walk.proofs.Binders.{inner_from, var_inner}
 use Rattle.lk_walk.proofs.Goes.{grew_twice, node_whole}
-use Rattle.lk_walk.proofs.Levels.{walk_plain, walk_var}
+use Rattle.lk_typing.proofs.Levels.{walk_plain, walk_var}
 use Rattle.lk_walk.specs.Blocks.{begun, block_left, block_of, block_own, blocks_left, unnamed}
-use Rattle.lk_walk.specs.Seen.{functions_seen}
+use Rattle.lk_equations.specs.Seen.{functions_seen}
 use Rattle.lk_walk.specs.Went.{entered, grew, left_by, part_walks, type_at, under_names, walk_in, went, Inner}
 use Rattle.lk_walk.specs.declared.block.Block.{Block}
-use Rattle.lk_walk.specs.declared.own.Globals.{Globals}
+use Rattle.lk_equations.specs.declared.own.Globals.{Globals}
 use Rattle.lk_walk.specs.declared.walker.Walker.{Walker}
 
 -- ---- one block

@@ -1,5 +1,5 @@
 -- What a walker notes of several expressions, and of a whole node.
-use Rattle.std.proofs.Common.{◌≡◌, ℕ, ◌+◌, List, [], ◌∷◌, ◌++◌, length, refl, ap, ap₂, sym, ◌∙◌, subst, map, Bool, true, Option, Some, None, is_some, append_assoc, append-nil}
+use Rattle.std.proofs.Common.{◌≡◌, ℕ, ◌+◌, List, [], ◌∷◌, ◌++◌, length, refl, ap, ap₂, sym, ◌∙◌, subst, map, true, Option, Some, None, is_some, append_assoc, append-nil}
 use Rattle.std.specs.Prelude.{set}
 use Rattle.std.proofs.Math.Seq.{set-append_seam}
 use Rattle.std.proofs.lemmas.List.{map-append}
@@ -19,17 +19,17 @@ use Rattle.lk_ast.specs.declared.place.Span.{Span}
 use Rattle.lk_types.specs.declared.ty.Effects.{Effects}
 use Rattle.lk_types.specs.declared.ty.Ty.{Ty}
 use Rattle.lk_types.specs.declared.ty.Ty.TheVariants as ty
-use Rattle.lk_typing.specs.Equations.{Own, own}
+use Rattle.lk_typing.specs.Equations.{Own}
 use Rattle.lk_typing.specs.Heads.{Head, head}
 use Rattle.lk_typing.specs.Names.{Named}
 use Rattle.lk_typing.specs.Steps.{same_at, typed_at}
 use Rattle.lk_typing.specs.Typing.{label_of, expr_of, head_of}
 use Rattle.lk_typing.specs.Walk.{Walking, Walked, WalkedAll, all_types, ended, walk_all, walked_by}
 use Rattle.lk_typing.specs.declared.step.Step.{Step}
-use Rattle.lk_walk.proofs.Levels.{mapped, walk_level}
-use Rattle.lk_walk.specs.Seen.{functions_seen, own_at}
+use Rattle.lk_typing.proofs.Levels.{mapped, walk_level}
+use Rattle.lk_equations.specs.Seen.{functions_seen, own_at}
 use Rattle.lk_walk.specs.Went.{entered, left_by, grew, went, type_at, went_all, types_all, walk_in, part_walks, plain_in, Inner}
-use Rattle.lk_walk.specs.declared.own.Globals.{Globals}
+use Rattle.lk_equations.specs.declared.own.Globals.{Globals}
 use Rattle.lk_walk.specs.declared.walker.Walker.{Walker}
 
 -- nothing more

@@ -1,28 +1,25 @@
 -- The walk through the functions of a group, one after another.
-use Rattle.std.proofs.Common.{◌≡◌, ℕ, ◌+◌, Bool, List, [], ◌∷◌, ◌++◌, length, map, refl, ap, ap₂, sym, ◌∙◌, append_assoc, append-nil}
+use Rattle.std.proofs.Common.{◌≡◌, ℕ, ◌+◌, Bool, List, [], ◌∷◌, ◌++◌, length, map, refl, ap, ◌∙◌, append_assoc, append-nil}
 use Rattle.lk_ast.specs.Functions.{functions_in}
 use Rattle.lk_ast.specs.declared.declaration.Decl.{Decl}
 use Rattle.lk_ast.specs.declared.declaration.FunDef.{FunDef}
-use Rattle.lk_ast.specs.declared.declaration.TableDecl.{TableDecl}
-use Rattle.lk_ast.specs.declared.place.Span.{Span}
 use Rattle.lk_types.specs.Rows.{Label}
 use Rattle.lk_types.specs.declared.equation.Equation.{Equation}
-use Rattle.lk_types.specs.declared.scheme.Scheme.{Scheme}
 use Rattle.lk_types.specs.declared.ty.Effects.{Effects}
 use Rattle.lk_types.specs.declared.ty.Ty.{Ty}
 use Rattle.lk_types.specs.declared.ty.Ty.TheVariants as ty
-use Rattle.lk_typing.specs.Groups.{FunctionWalked, Unknown, after_unknown, after_unknowns, function_ended, function_walked, functions_walked, group_types, group_walked, is_mutual, own_entries, scheme_entries, type_of, unknown, unknowns}
-use Rattle.lk_typing.specs.Names.{Named, Entry, One}
+use Rattle.lk_typing.specs.Groups.{FunctionWalked, Unknown, after_unknown, after_unknowns, function_walked, functions_walked, group_walked, is_mutual, own_entries, scheme_entries, type_of, unknown, unknowns}
+use Rattle.lk_typing.specs.Names.{Named, One}
 use Rattle.lk_typing.specs.Steps.{same_at}
 use Rattle.lk_typing.specs.Unknowns.{same}
-use Rattle.lk_typing.specs.Walk.{Walking, Walked, Told, all_types, params_from}
+use Rattle.lk_typing.specs.Walk.{Walked, Told, all_types, params_from}
 use Rattle.lk_typing.specs.declared.step.Step.{Step}
 use Rattle.lk_walk.proofs.Goes.{grew_none, grew_twice}
 use Rattle.lk_walk.proofs.Params.{params_gone}
-use Rattle.lk_walk.specs.Members.{all_shown, first_type, function_went, functions_went, named_type, numbered_from, told_before}
-use Rattle.lk_walk.specs.Seen.{functions_seen}
+use Rattle.lk_walk.specs.Members.{first_type, function_went, functions_went, named_type, numbered_from, told_before}
+use Rattle.lk_equations.specs.Seen.{functions_seen}
 use Rattle.lk_walk.specs.Went.{grew, said, told_by, type_at, unbound, under_names, walk_in, went}
-use Rattle.lk_walk.specs.declared.own.Globals.{Globals}
+use Rattle.lk_equations.specs.declared.own.Globals.{Globals}
 use Rattle.lk_walk.specs.declared.walker.Walker.{Walker}
 
 -- ---- one function

@@ -1,5 +1,5 @@
 -- The walk through a node that binds names, by what it is.
-use Rattle.std.proofs.Common.{◌≡◌, ℕ, List, [], ◌∷◌, Option, Some, None, map, refl, ap, sym, ◌∙◌, subst, ◌⊎◌, inl, inr}
+use Rattle.std.proofs.Common.{◌≡◌, List, [], ◌∷◌, Option, Some, None, map, refl, ap, sym, ◌∙◌, subst, ◌⊎◌, inl, inr}
 use Rattle.std.specs.Option.{option_map}
 use Rattle.lk_ast.specs.Layers.{Layer, layer}
 use Rattle.lk_ast.specs.declared.expression.Case.{Case}
@@ -8,21 +8,18 @@ use Rattle.lk_ast.specs.declared.expression.Expr.{Expr}
 use Rattle.lk_ast.specs.declared.expression.LambdaExpr.{LambdaExpr}
 use Rattle.lk_ast.specs.declared.expression.LastCase.{LastCase}
 use Rattle.lk_ast.specs.declared.expression.Node.{Node, out-Node}
-use Rattle.lk_ast.specs.declared.expression.Node.TheOpen.{Node-F}
 use Rattle.lk_ast.specs.declared.expression.Node.TheVariants as node
-use Rattle.lk_ast.specs.declared.expression.PartExpr.{PartExpr}
 use Rattle.lk_ast.specs.declared.expression.SortKey.{SortKey}
-use Rattle.lk_ast.specs.declared.place.Span.{Span}
 use Rattle.lk_ast.specs.declared.place.Word.{Word}
 use Rattle.lk_types.specs.declared.ty.Effects.{Effects}
 use Rattle.lk_typing.specs.Equations.{Own}
 use Rattle.lk_typing.specs.Names.{table_named}
 use Rattle.lk_typing.specs.Typing.{label_of, expr_of}
 use Rattle.lk_typing.specs.Walk.{Walking, ChangeWalk, PartWalk, change_in, for_list_walked, for_table_walked, lambda_walked, query_walked, switch_walked, var_walked, walk_case, walk_change, walk_last, walk_part}
-use Rattle.lk_walk.proofs.Levels.{walk_case_is, walk_change_is, walk_delete, walk_for_list, walk_for_table, walk_lambda_form, walk_last_is, walk_part_is, walk_query, walk_switch, walk_update, walk_var}
-use Rattle.lk_walk.specs.Seen.{functions_seen}
+use Rattle.lk_typing.proofs.Levels.{walk_case_is, walk_change_is, walk_delete, walk_for_list, walk_for_table, walk_lambda_form, walk_last_is, walk_part_is, walk_query, walk_switch, walk_update, walk_var}
+use Rattle.lk_equations.specs.Seen.{functions_seen}
 use Rattle.lk_walk.specs.Went.{case_in, change_walk, change_walked, last_in, walk_in, Inner}
-use Rattle.lk_walk.specs.declared.own.Globals.{Globals}
+use Rattle.lk_equations.specs.declared.own.Globals.{Globals}
 use Rattle.lk_walk.specs.declared.walker.Walker.{Walker}
 
 map_equal : {A B : Type 0} (f g : A → B) → ((a : A) → f a ≡ g a) → (xs : List A) → map f xs ≡ map g xs

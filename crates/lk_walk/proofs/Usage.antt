@@ -1,9 +1,9 @@
 -- Whether functions are used, by the parts of an expression.
-use Rattle.std.proofs.Common.{◌≡◌, Bool, true, false, List, [], ◌∷◌, ◌++◌, Option, Some, None, map, refl, ap, ap₂, sym, ◌∙◌, append-nil}
+use Rattle.std.proofs.Common.{◌≡◌, Bool, true, false, List, [], ◌∷◌, ◌++◌, Option, Some, None, map, refl, ap, sym, ◌∙◌, append-nil}
 use Rattle.std.specs.Prelude.{◌||◌}
 use Rattle.std.specs.List.{cons_option, list_any}
 use Rattle.std.specs.Option.{option_map}
-use Rattle.lk_ast.specs.Layers.{Layer, layer, before, statement_node}
+use Rattle.lk_ast.specs.Layers.{Layer, layer, before}
 use Rattle.lk_ast.specs.declared.expression.Case.{Case, fold-Case, fold_out-Case}
 use Rattle.lk_ast.specs.declared.expression.ChangeExpr.{ChangeExpr, out-ChangeExpr, fold-ChangeExpr, fold_out-ChangeExpr}
 use Rattle.lk_ast.specs.declared.expression.Expr.{Expr, fold_out-Expr}
@@ -11,12 +11,10 @@ use Rattle.lk_ast.specs.declared.expression.LambdaExpr.{LambdaExpr, fold-LambdaE
 use Rattle.lk_ast.specs.declared.expression.LastCase.{LastCase, fold-LastCase, fold_out-LastCase}
 use Rattle.lk_ast.specs.declared.expression.Node.{Node, fold-Node, fold_out-Node, out-Node}
 use Rattle.lk_ast.specs.declared.expression.Node.TheFolds.{map-Node}
-use Rattle.lk_ast.specs.declared.expression.Node.TheOpen.{Node-F}
 use Rattle.lk_ast.specs.declared.expression.Node.TheVariants as node
 use Rattle.lk_ast.specs.declared.expression.PartExpr.{PartExpr, fold-PartExpr, fold_out-PartExpr}
 use Rattle.lk_ast.specs.declared.place.Span.{Span}
 use Rattle.lk_ast.specs.declared.place.Word.{Word}
-use Rattle.lk_ast.specs.declared.statements.Statement.{Statement}
 use Rattle.lk_types.specs.Rows.{Label}
 use Rattle.lk_typing.specs.Heads.{head}
 use Rattle.lk_typing.specs.Uses.{Uses, all, case_uses, change_uses, expr_uses, functions_used, inner, lambda_uses, last_uses, node_uses, own_use, part_uses}

@@ -1,11 +1,4 @@
 pub mod Blocks
-pub mod Fixed
-pub mod Forms
-pub mod Labelled
-pub mod Made
 pub mod Members
-pub mod Places
-pub mod Seen
-pub mod Tabled
 pub mod Using
 pub mod Went

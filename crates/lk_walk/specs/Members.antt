@@ -1,21 +1,17 @@
 -- The functions of a group one by one, in the words of the walk.
-use Rattle.std.specs.Prelude.{ℕ, Bool, List, [], ◌∷◌, ◌++◌, Option, Some, None, map}
-use Rattle.std.specs.Borrow.{Bor}
+use Rattle.std.specs.Prelude.{ℕ, Bool, List, [], ◌∷◌, ◌++◌, map}
 use Rattle.lk_ast.specs.Functions.{is_main}
 use Rattle.lk_ast.specs.declared.declaration.FunDef.{FunDef}
 use Rattle.lk_types.specs.Rows.{Label}
-use Rattle.lk_types.specs.declared.equation.Equation.{Equation}
 use Rattle.lk_types.specs.declared.ty.Effect.TheVariants as effect
-use Rattle.lk_types.specs.declared.ty.Effects.{Effects}
 use Rattle.lk_types.specs.declared.ty.Ty.{Ty}
 use Rattle.lk_typing.specs.Groups.{Unknown, after_unknown, is_recursive, main_told, signature_told, type_of, unknown}
-use Rattle.lk_typing.specs.Names.{Named}
 use Rattle.lk_typing.specs.Typing.{is_marked}
 use Rattle.lk_typing.specs.Unknowns.{same}
 use Rattle.lk_typing.specs.Walk.{Told, told, has_if}
 use Rattle.lk_walk.specs.Went.{said, told_by, type_at, under_names, walk_in, went}
 use Rattle.lk_walk.specs.declared.member.Member.{Member}
-use Rattle.lk_walk.specs.declared.own.Globals.{Globals}
+use Rattle.lk_equations.specs.declared.own.Globals.{Globals}
 use Rattle.lk_walk.specs.declared.walker.Walker.{Walker}
 
 -- a function, with the first number for the variables of its type

@@ -1,7 +1,7 @@
 -- Whether functions are used, part by part.
-use Rattle.std.specs.Prelude.{ℕ, Bool, ◌||◌, List, [], ◌∷◌, ◌++◌, map, bytes_eq}
+use Rattle.std.specs.Prelude.{Bool, ◌||◌, List, [], ◌∷◌, ◌++◌, map, bytes_eq}
 use Rattle.std.specs.List.{list_any}
-use Rattle.lk_ast.specs.Layers.{Layer, layer}
+use Rattle.lk_ast.specs.Layers.{Layer}
 use Rattle.lk_ast.specs.declared.expression.Case.{Case}
 use Rattle.lk_ast.specs.declared.expression.ChangeExpr.{ChangeExpr, out-ChangeExpr}
 use Rattle.lk_ast.specs.declared.expression.Expr.{Expr}

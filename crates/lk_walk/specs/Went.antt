@@ -24,8 +24,8 @@ use Rattle.lk_typing.specs.Typing.{label_of, expr_of, head_of}
 use Rattle.lk_typing.specs.Unknowns.{variant_of}
 use Rattle.lk_typing.specs.Walk.{Walking, Walked, WalkedAll, CaseWalk, ChangeWalk, PartWalk, Told, all_types, change_in, ended, held_by, params_from, walk, walk_all}
 use Rattle.lk_typing.specs.declared.step.Step.{Step}
-use Rattle.lk_walk.specs.Seen.{functions_seen, own_at}
-use Rattle.lk_walk.specs.declared.own.Globals.{Globals}
+use Rattle.lk_equations.specs.Seen.{functions_seen, own_at}
+use Rattle.lk_equations.specs.declared.own.Globals.{Globals}
 use Rattle.lk_walk.specs.declared.walker.Walker.{Walker}
 
 -- ---- single acts

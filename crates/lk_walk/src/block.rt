@@ -5,10 +5,9 @@ ghost use Rattle.lk_walk.specs.Blocks.{begun as begun_by, block_left, block_of, 
 ghost use Rattle.std.specs.Option.{option_copied};
 ghost use Rattle.std.specs.Prelude.{◌≡◌, IfOk, OnOk};
 
-use crate::own::{Own, one, only};
-use crate::unknowns::{same, unit};
 use crate::walker::Walker;
 use lk_ast::{List, NoMemory, Span, Word};
+use lk_equations::{Own, one, only, same, unit};
 use lk_types::Ty;
 use std::alloc::Global;
 

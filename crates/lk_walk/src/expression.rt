@@ -4,24 +4,21 @@ ghost use Rattle.lk_ast.specs.declared.expression.Node.{out-Node};
 ghost use Rattle.lk_types.specs.declared.ty.Ty.TheVariants as ty;
 ghost use Rattle.lk_typing.specs.Typing.{expr_of};
 ghost use Rattle.lk_typing.specs.Walk.{lambda_walked, query_walked};
-ghost use Rattle.lk_walk.specs.Made.{as_own};
+ghost use Rattle.lk_equations.specs.Made.{as_own};
 ghost use Rattle.lk_walk.specs.Went.{went, went_all, type_at, types_all, under_names, case_in, case_went, case_field, case_type, cases_went, cases_fields, cases_types, last_in, last_went, last_tail, last_types, change_walked, walk_in, part_walks, plain_in, Inner};
 ghost use Rattle.std.specs.Option.{option_map};
 ghost use Rattle.std.specs.Prelude.{◌≡◌, [], ◌∷◌, ◌++◌, map, IfOk, OnOk};
 
 use crate::block::{begin, end_all};
-use crate::forms::{
-    change_own, elements_are, for_own, is_marked, lambda_own, no_effects, one_type, query_own,
-    switch_own,
-};
-use crate::heads::own_of;
-use crate::own::{Globals, Own, never, one, only};
-use crate::told::has_if;
-use crate::unknowns::{any_effects, effect_before, row_of, unit, variant_of};
 use crate::walker::Walker;
 use lk_ast::{
     Case, ChangeExpr, Expr, LambdaExpr, LastCase, List, NoMemory, Node, PartExpr, SortKey, Span,
     Word, first_statement,
+};
+use lk_equations::{
+    Globals, Own, any_effects, change_own, effect_before, elements_are, for_own, has_if, is_marked,
+    lambda_own, never, no_effects, one, one_type, only, own_of, query_own, row_of, switch_own,
+    unit, variant_of,
 };
 use lk_types::{Effect, Effects, RowTail, Ty, TyField};
 use std::alloc::Global;

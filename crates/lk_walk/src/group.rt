@@ -5,16 +5,10 @@ ghost use Rattle.lk_walk.specs.Members.{all_shown, function_went, functions_went
 ghost use Rattle.std.specs.Prelude.{◌≡◌, IfOk, OnOk};
 
 use crate::expression::{Context, expr};
-use crate::member::{
-    Member, function_types, functions_in, is_mutual, members_of, own_functions, told_before,
-};
-use crate::own::{Globals, one};
-use crate::renamed::moved;
-use crate::scope::Scope;
-use crate::tables::Tables;
-use crate::unknowns::{any_effects, same};
+use crate::member::{Member, function_types, is_mutual, members_of, own_functions, told_before};
 use crate::walker::{Walker, push_params};
-use lk_ast::{Decl, List, NoMemory};
+use lk_ast::{Decl, List, NoMemory, functions_in};
+use lk_equations::{Globals, Scope, Tables, any_effects, moved, one, same};
 use lk_types::{Scheme, Ty};
 use lk_typing::Step;
 use std::alloc::Global;

@@ -1,27 +1,22 @@
 //! The functions of a group, and what is said of each before its body.
 
-ghost use Rattle.lk_ast.specs.Functions.{functions_in as the_functions, is_main as the_main};
 ghost use Rattle.lk_types.specs.declared.ty.Ty.TheVariants as ty;
 ghost use Rattle.lk_typing.specs.Groups.{after_unknowns, is_mutual as the_mutual, is_recursive as the_recursive, main_told as the_main_told, signature_told as the_signature_told, type_of, unknown};
 ghost use Rattle.lk_typing.specs.Unknowns.{same as the_same};
-ghost use Rattle.lk_walk.specs.Forms.{as_told};
+ghost use Rattle.lk_equations.specs.Forms.{as_told};
 ghost use Rattle.lk_walk.specs.Members.{all_shown, first_type, named_type, numbered_from, told_before as the_told_before};
 ghost use Rattle.std.specs.Option.{option_copied};
 ghost use Rattle.std.specs.Prelude.{◌≡◌, ◌+◌, length, map, IfOk};
 
-use crate::forms::is_marked;
-use crate::own::one;
-use crate::renamed::moved;
-use crate::scope::Scope;
-use crate::signing::signing;
-use crate::told::{Told, has_if, joined, nothing};
-use crate::unknowns::{any_effects, function_of, same};
 use crate::uses::uses;
 use crate::walker::new_types;
-use lk_ast::{Decl, FunDef, List, Loc, NoMemory, Sig};
+use lk_ast::{Decl, FunDef, List, NoMemory, Sig, is_main};
+use lk_equations::{
+    Scope, Told, any_effects, function_of, has_if, is_marked, joined, moved, nothing, one, same,
+    signing,
+};
 use lk_types::{Effect, Equation, Ty};
 use std::alloc::Global;
-use std::slice;
 
 /// A function of a group, with the first number for the variables of its type.
 #[derive(Drop)]
@@ -35,17 +30,6 @@ pub struct Member<'p> {
 pub struct Members<'p> {
     pub all: List<Member<'p>>,
     pub next: u32,
-}
-
-/// The functions of a declaration.
-pub fn functions_in(decl: &Decl) -> &[FunDef]
-    ensures { result.now ≡ the_functions decl.now }
-{
-    match decl {
-        Decl::Table(_) => &[],
-        Decl::Fun(function) => slice::from_ref(function),
-        Decl::Mutual(functions) => functions.as_slice(),
-    }
 }
 
 /// Whether functions of a declaration may call one another.
@@ -113,13 +97,6 @@ pub fn own_functions<'p>(alloc: Global, members: &[Member<'p>]) -> Result<Scope<
         own.push(member.function.name.text.as_str(), ty)?;
     }
     Ok(own)
-}
-
-/// Whether a session begins with the function.
-fn is_main(f: &FunDef) -> bool
-    ensures { result ≡ the_main f.now }
-{
-    f.name.text.as_str() == "main" && f.params.len() == 1 && f.place == Loc::Client
 }
 
 /// Whether a function is taken as one that may call itself.

@@ -3,16 +3,13 @@
 ghost use Rattle.lk_typing.specs.Steps.{same_at};
 ghost use Rattle.lk_typing.specs.Names.{types_of};
 ghost use Rattle.lk_typing.specs.Walk.{params_from};
-ghost use Rattle.lk_walk.specs.Forms.{as_told};
-ghost use Rattle.lk_walk.specs.Made.{as_own};
+ghost use Rattle.lk_equations.specs.Forms.{as_told};
+ghost use Rattle.lk_equations.specs.Made.{as_own};
 ghost use Rattle.lk_walk.specs.Went.{bound_all, entered, left_by, numbered, said, settled, told_by, unbound};
 ghost use Rattle.std.specs.Prelude.{◌≡◌, ◌+◌, ◌++◌, drop, length, IfOk, OnOk};
 
-use crate::own::Own;
-use crate::renamed::moved;
-use crate::scope::Scope;
-use crate::told::Told;
 use lk_ast::{List, NoMemory, Span, Word};
+use lk_equations::{Own, Scope, Told, moved};
 use lk_types::{Equation, Ty};
 use lk_typing::{Said, Step};
 use std::alloc::Global;

@@ -7,10 +7,10 @@ use Rattle.lk_typing.specs.Unknowns.{row_of}
 use Rattle.lk_ast.specs.declared.expression.Node.{out-Node}
 use Rattle.lk_ast.specs.declared.expression.Node.TheVariants.{outs-Extend}
 use Rattle.lk_typing.specs.Typing.{expr_of, labels_of}
-use Rattle.lk_walk.specs.Made.{as_own}
+use Rattle.lk_equations.specs.Made.{as_own}
 use Rattle.lk_types.specs.declared.ty.Ty.TheVariants as ty
 use Rattle.lk_typing.specs.Walk.{for_list_walked, for_table_walked, has_if, lambda_walked, one_type, params_from, query_walked, set_own, switch_walked, var_walked}
-use Rattle.lk_walk.specs.Forms.{as_told, query_own}
+use Rattle.lk_equations.specs.Forms.{as_told}
 use Rattle.lk_walk.specs.Went.{bound_all, case_in, cases_fields, cases_types, cases_went, change_walked, last_in, types_all, unbound, walk_in, went_all, Inner}
 use Rattle.lk_types.specs.declared.ty.Ty.{Ty}
 use Rattle.lk_walk.specs.declared.walker.Walker.{Walker}

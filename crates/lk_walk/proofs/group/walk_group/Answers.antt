@@ -1,7 +1,7 @@
-use Rattle.std.proofs.Common.{ap, ◌∙◌, [], ◌∷◌, map}
-use Rattle.lk_walk.specs.Members.{all_shown, first_type, functions_went, named_type, numbered_from}
+use Rattle.std.proofs.Common.{ap, ◌∙◌, map}
+use Rattle.lk_walk.specs.Members.{all_shown, first_type, functions_went, named_type}
 use Rattle.lk_walk.proofs.Grouped.{group_is, types_are}
-use Rattle.lk_typing.specs.Groups.{group_types, type_of, unknowns}
+use Rattle.lk_typing.specs.Groups.{type_of, unknowns}
 use Rattle.lk_walk.proofs.group.walk_group.Goals as goal
 
 pub returns-clause-functions : goal.returns-clause-functions

@@ -1,7 +1,7 @@
 use Rattle.std.proofs.Common.{ap, ◌∙◌, length, [], ◌∷◌, ◌++◌}
 use Rattle.lk_types.specs.declared.equation.Equation.{Equation}
 use Rattle.lk_typing.specs.Walk.{params_from}
-use Rattle.lk_walk.specs.Forms.{as_told}
+use Rattle.lk_equations.specs.Forms.{as_told}
 use Rattle.lk_walk.specs.Went.{unbound}
 use Rattle.lk_walk.proofs.Grouped.{member_is}
 use Rattle.lk_walk.proofs.group.walk_member.Goals as goal

@@ -1,0 +1,7 @@
+mod Changes
+pub mod Columns
+pub mod Counts
+pub mod Hiding
+pub mod Seeing
+pub mod Tabling
+pub mod Unfold

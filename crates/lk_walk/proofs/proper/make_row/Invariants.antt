@@ -1,7 +1,0 @@
-use Rattle.std.specs.Iterator.Adapters.{rev_source}
-use Rattle.std.specs.Slice.Iter.{iter_rest}
-use Rattle.lk_walk.proofs.Columns.{AreLeft}
-use Rattle.lk_walk.proofs.proper.make_row.Given as goal
-
-abbrev pub invariant-loop-column : goal.invariant-loop-column
-invariant-loop-column l = AreLeft l.row (iter_rest (rev_source l.column-iterator)) l.columns
