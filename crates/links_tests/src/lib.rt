@@ -4,8 +4,6 @@
 #[cfg(test)]
 mod check;
 #[cfg(test)]
-mod evaluation;
-#[cfg(test)]
 mod language;
 #[cfg(test)]
 mod names;
@@ -32,6 +30,8 @@ mod programs_comparisons;
 #[cfg(test)]
 mod programs_data;
 #[cfg(test)]
+mod programs_effects;
+#[cfg(test)]
 mod programs_fuel;
 #[cfg(test)]
 mod programs_functions;
@@ -45,7 +45,5 @@ mod programs_tables;
 mod shown_trees;
 #[cfg(test)]
 mod source;
-#[cfg(test)]
-mod trees;
 #[cfg(test)]
 mod words;

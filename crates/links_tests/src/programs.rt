@@ -17,23 +17,34 @@ pub type Programs = &'static [(&'static str, &'static str, &'static str, &'stati
 /// The body of `fun main(a) client { .. }`, or a program where the table says so; the span at which it is refused as ill typed.
 pub type IllTyped = &'static [(&'static str, &'static str)];
 
-/// The status of `source` on the file `p.links` with this program, and what the sink took.
-pub fn run(alloc: Global, program: &str, arg: &str, fuel: &str) -> Result<(u8, String), Fail> {
+/// The status of these words where the file `p.links` has this program, and what the sink took.
+fn run_on(alloc: Global, program: &str, words: &[String]) -> Result<(u8, String), Fail> {
     let mut entries = List::new(alloc);
     entries.push(FileEntry {
         name: Text::from_str(alloc, "p.links")?,
         content: Bytes::from_slice(alloc, program.as_bytes())?,
     })?;
+    let mut files = MemFiles::new(entries, List::new(alloc));
+    let mut out = MemSink::new(alloc, List::new(alloc));
+    let status = links_main(alloc, words, &mut files, &mut out);
+    let printed = String::from_utf8(Vec::from_slice(alloc, out.taken().as_slice())?)?;
+    Ok((status, printed))
+}
+
+/// The status of `source` on this program, and what the sink took.
+pub fn run(alloc: Global, program: &str, arg: &str, fuel: &str) -> Result<(u8, String), Fail> {
     let mut words = words(alloc, &["source", "p.links", arg])?;
     if !fuel.is_empty() {
         words.push(String::from_str(alloc, "--fuel")?)?;
         words.push(String::from_str(alloc, fuel)?)?;
     }
-    let mut files = MemFiles::new(entries, List::new(alloc));
-    let mut out = MemSink::new(alloc, List::new(alloc));
-    let status = links_main(alloc, &words, &mut files, &mut out);
-    let printed = String::from_utf8(Vec::from_slice(alloc, out.taken().as_slice())?)?;
-    Ok((status, printed))
+    run_on(alloc, program, &words)
+}
+
+/// The status of `check` on this program, and what the sink took.
+pub fn run_check(alloc: Global, program: &str) -> Result<(u8, String), Fail> {
+    let words = words(alloc, &["check", "p.links"])?;
+    run_on(alloc, program, &words)
 }
 
 /// Runs each program, and asserts what is printed and the status.

@@ -5,7 +5,7 @@ use Rattle.lk_ast.specs.Functions.{main_of}
 use Rattle.lk_ast.specs.declared.declaration.FunDef.{FunDef}
 use Rattle.lk_ast.specs.declared.declaration.Program.{Program}
 use Rattle.lk_infer.specs.declared.typed.Typed.{Typed}
-use Rattle.lk_sem.specs.Source.{session}
+use Rattle.lk_evaluation.specs.Source.{session}
 use Rattle.lk_sem.specs.SourceRuns.{IsRunOf}
 use Rattle.lk_sem.specs.declared.run.SourceRun.{SourceRun}
 use Rattle.lk_cli.specs.Answers.{IsSession, IsTyped}

@@ -18,7 +18,7 @@ use Rattle.lk_parse.specs.Refusals.{IsProgramText, IsRefused}
 use Rattle.lk_parse.specs.declared.error.ParseError.{ParseError}
 use Rattle.lk_parse.specs.declared.error.ParseError.TheVariants as parse
 use Rattle.lk_sem.specs.SourceRuns.{IsRunOf}
-use Rattle.lk_sem.specs.Source.{session}
+use Rattle.lk_evaluation.specs.Source.{session}
 use Rattle.lk_sem.specs.declared.run.SourceEnd.{SourceEnd}
 use Rattle.lk_sem.specs.declared.run.SourceEnd.TheVariants as end
 use Rattle.lk_sem.specs.declared.run.SourceRun.{SourceRun}
@@ -146,7 +146,6 @@ abbrev pub end_status : SourceEnd → ℕ
 end_status (end.Value v) = 0
 end_status (end.Trap trap) = 8
 end_status end.Spent = 12
-end_status (end.Stuck at) = 8
 end_status (end.NoStore at) = 8
 
 abbrev pub status_of : Result Answer Refusal → ℕ

@@ -54,12 +54,11 @@ trap_name Divide = codes "divide"
 trap_name Head = codes "head"
 trap_name Tail = codes "tail"
 
--- `done FUEL VALUE`, `trap FUEL KIND`, `spent`, `stuck START END` or `no-store START END`
+-- `done FUEL VALUE`, `trap FUEL KIND`, `spent` or `no-store START END`
 abbrev pub end_line : SourceEnd → ℕ → List ℕ
 end_line (end.Value v) used = line (codes "done" ∷ decimal used ∷ value_text_of v ∷ [])
 end_line (end.Trap trap) used = line (codes "trap" ∷ decimal used ∷ trap_name trap ∷ [])
 end_line end.Spent used = line (codes "spent" ∷ [])
-end_line (end.Stuck at) used = line (codes "stuck" ∷ decimal at.start ∷ decimal at.end ∷ [])
 end_line (end.NoStore at) used = line (codes "no-store" ∷ decimal at.start ∷ decimal at.end ∷ [])
 
 abbrev pub report_of : SourceRun → List ℕ

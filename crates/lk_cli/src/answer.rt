@@ -185,7 +185,7 @@ fn status_of_end(end: &SourceEnd) -> u8
 {
     match end {
         SourceEnd::Value(_) => 0,
-        SourceEnd::Trap(_) | SourceEnd::Stuck(_) | SourceEnd::NoStore(_) => 8,
+        SourceEnd::Trap(_) | SourceEnd::NoStore(_) => 8,
         SourceEnd::Spent => 12,
     }
 }

@@ -66,10 +66,6 @@ fn line_of_end(alloc: Global, end: &SourceEnd, used: u64) -> Result<Text, NoMemo
             Ok(Text::from_string(line))
         }
         SourceEnd::Spent => Ok(Text::from_str(alloc, "spent\n")?),
-        SourceEnd::Stuck(at) => {
-            let line = format!(in alloc; "stuck {} {}\n", at.start, at.end)?;
-            Ok(Text::from_string(line))
-        }
         SourceEnd::NoStore(at) => {
             let line = format!(in alloc; "no-store {} {}\n", at.start, at.end)?;
             Ok(Text::from_string(line))

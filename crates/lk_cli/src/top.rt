@@ -7,6 +7,7 @@ ghost use Rattle.lk_cli.specs.Words.{form_of};
 ghost use Rattle.lk_cli.specs.declared.answer.Answer.{Answer as TheAnswer};
 ghost use Rattle.lk_cli.specs.declared.answer.Refusal.{Refusal as TheRefusal};
 ghost use Rattle.lk_cli.specs.declared.command.Command.TheVariants.{Check, Source};
+ghost use Rattle.lk_index.specs.Places.{ArePlaced};
 
 use crate::READ_MAX;
 use crate::answer::{Answer, Checked, Refusal, answer_status, print_answer};
@@ -16,6 +17,7 @@ use lk_infer::infer;
 use lk_names::resolve;
 use lk_outside::{Files, OutFault, Sink};
 use lk_parse::parse;
+use lk_places::places_law;
 use lk_sem::{SourceRun, source_run};
 use std::alloc::Global;
 
@@ -87,11 +89,13 @@ fn answer_source<F: Files>(
     Ok(Answer::Run(run))
 }
 
-/// The program of the file of that name.
+/// The program of the file of that name. Its functions and lambdas begin at places of their own.
 fn read_program<F: Files>(alloc: Global, name: &str, files: &mut F) -> Result<Program, Refusal>
     ensures program { IfOk result (IsProgram (seen F.contents F.failed F.faults files.old files.new) name.now) }
+    ensures placed { IfOk result ArePlaced }
     ensures refused { IfErr result (HasNoProgram (seen F.contents F.failed F.faults files.old files.new) name.now) }
 {
+    places_law();
     let text = match files.read(alloc, name, READ_MAX) {
         Ok(text) => text,
         Err(OutFault::NoMemory) => return Err(Refusal::NoMemory),
@@ -104,8 +108,10 @@ fn read_program<F: Files>(alloc: Global, name: &str, files: &mut F) -> Result<Pr
 
 /// The program with its names bound, its schemes and its types.
 fn check_program(alloc: Global, program: Program) -> Result<Checked, Refusal>
+    requires placed { ArePlaced program }
     ensures same { IfOk result (λ checked. checked.program ≡ program) }
     ensures typed { IfOk result (λ checked. IsTyped checked.program checked.typed) }
+    ensures placed { IfOk result (λ checked. ArePlaced checked.program) }
     ensures refused { IfErr result (IsNotTyped program) }
 {
     let scoped = resolve(alloc, program)?;
@@ -116,14 +122,16 @@ fn check_program(alloc: Global, program: Program) -> Result<Checked, Refusal>
     })
 }
 
-/// The evaluation of the session of a program with this argument and fuel.
+/// The evaluation of the session of a program with this argument and fuel. The program is well typed, and its functions and
+/// lambdas begin at places of their own, so no expression in it lacks a rule.
 fn run_session(
     alloc: Global,
     checked: &Checked,
     arg: &Text,
     fuel: u64,
 ) -> Result<SourceRun, NoMemory>
-    requires { IsTyped checked.now.program checked.now.typed }
+    requires typed { IsTyped checked.now.program checked.now.typed }
+    requires placed { ArePlaced checked.now.program }
     ensures { IfOk result (IsSession checked.now.program arg.now fuel) }
 {
     Ok(source_run(alloc, checked.program.program(), arg, fuel)?)

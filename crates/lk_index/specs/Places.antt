@@ -1,5 +1,5 @@
 -- Where the functions of a program stand in its text, and its lambdas.
-use Rattle.std.specs.Prelude.{ℕ, Bool, ◌==◌, List, [], ◌∷◌, ◌++◌, Option, Some, None, find, map}
+use Rattle.std.specs.Prelude.{◌≡◌, ℕ, Bool, ◌==◌, List, [], ◌∷◌, ◌++◌, Option, Some, None, find, map}
 use Rattle.std.specs.Borrow.{Bor}
 use Rattle.std.specs.Option.{option_map}
 use Rattle.lk_ast.specs.Functions.{functions_of}
@@ -165,3 +165,23 @@ name_begins site f = f.name.at.start == site
 -- the first function of a program whose name begins at this place
 abbrev pub function_at : Program → ℕ → Option FunDef
 function_at program site = find (name_begins site) (functions_of program)
+
+-- ---- places of their own
+
+-- a number that is none of these
+abbrev pub IsNone : ℕ → List ℕ → Type 0
+IsNone n [] = Unit {0}
+IsNone n (m ∷ ms) = (n ≡ m → ⊥) × IsNone n ms
+
+-- numbers of which no two are the same
+abbrev pub AreApart : List ℕ → Type 0
+AreApart [] = Unit {0}
+AreApart (n ∷ ns) = IsNone n ns × AreApart ns
+
+-- where the names of the functions of a program begin, and its lambdas
+abbrev pub places_of : Program → List ℕ
+places_of program = map (λ (f : FunDef). f.name.at.start) (functions_of program) ++ map (λ (placed : PlacedLambda). placed.site) (lambdas_of (functions_of program))
+
+-- Each of them begins at a place of its own, so a place says which one is meant.
+abbrev pub ArePlaced : Program → Type 0
+ArePlaced program = AreApart (places_of program)

@@ -16,16 +16,15 @@ use Rattle.lk_ast.specs.declared.place.Span.{Span}
 use Rattle.lk_ast.specs.declared.value.FunValue.{FunValue}
 use Rattle.lk_ast.specs.declared.value.Value.{Value}
 use Rattle.lk_locals.specs.Names.{Names, bind}
-use Rattle.lk_sem.specs.Evaluation as spec
-use Rattle.lk_sem.specs.Evaluation.{eval, handed, perform, joined, each, client_call, used}
+use Rattle.lk_evaluation.specs.Evaluation as spec
+use Rattle.lk_evaluation.specs.Evaluation.{eval, handed, perform, joined, each, client_call, used}
 use Rattle.lk_sem.specs.Frames as frames
 use Rattle.lk_sem.specs.Frames.{resumed, returned, handed_by}
-use Rattle.lk_sem.specs.Halt.{end_of}
+use Rattle.lk_sem.specs.Finishes.{finish_of, finished}
 use Rattle.lk_sem.specs.Machine.{bodies, frame_of, frame_rest, wound, outcome, Shows, Leads, LeadsWhole, Ends}
-use Rattle.lk_sem.specs.Run.{Run, Out, Goes, Stops, Trapped, Spent, Stuck, NoStore, Crossing, Within, Called, Returned, Function, Printer, Site, step, logs, and_then}
-use Rattle.lk_sem.specs.Source.{Point, under, source, act}
-use Rattle.lk_sem.specs.SourceRuns.{ended}
-use Rattle.lk_sem.specs.Syntax.{parts_of, is_plain}
+use Rattle.lk_evaluation.specs.Run.{Run, Out, Goes, Stops, Trapped, Spent, Stuck, NoStore, Crossing, Within, Called, Returned, Function, Printer, Site, step, logs, and_then}
+use Rattle.lk_evaluation.specs.Source.{Point, under, source, act}
+use Rattle.lk_evaluation.specs.Syntax.{parts_of, is_plain}
 use Rattle.lk_operators.specs.Values.{text, unit, list_in}
 use Rattle.lk_sem.specs.declared.machine.Frame.{Frame}
 use Rattle.lk_sem.specs.declared.machine.Frame.TheVariants.{Part, Turn, Back}
@@ -36,8 +35,8 @@ use Rattle.lk_sem.specs.declared.machine.Turns.{Turns}
 use Rattle.lk_sem.specs.declared.machine.Waiting.{Waiting}
 use Rattle.lk_sem.specs.declared.run.Halt.{Halt}
 use Rattle.lk_sem.specs.declared.run.Halt.TheVariants as halt
-use Rattle.lk_sem.specs.declared.run.SourceEnd.{SourceEnd}
-use Rattle.lk_sem.proofs.Fixpoint.{spends}
+use Rattle.lk_sem.specs.declared.run.Finish.{Finish}
+use Rattle.lk_evaluation.proofs.Fixpoint.{spends}
 use Rattle.lk_sem.proofs.Winding as winding
 
 -- ---- frames and parts of the source
@@ -307,16 +306,16 @@ goes_give p first old new next last o f v stack is popped g l = record {
 }
 
 -- an end without a value passes all frames
-wound-ended : (p : Program) (fs : List Frame) (h : Halt) (r : Run) → wound p fs (ended (end_of h) r) ≡ ended (end_of h) r
+wound-ended : (p : Program) (fs : List Frame) (h : Halt) (r : Run) → wound p fs (finished (finish_of h) r) ≡ finished (finish_of h) r
 wound-ended p fs (halt.Trap t) r = winding.wound-stops (source p) (map frame_of fs) (Trapped t) r
 wound-ended p fs halt.Spent r = winding.wound-stops (source p) (map frame_of fs) Spent r
 wound-ended p fs (halt.Stuck at) r = winding.wound-stops (source p) (map frame_of fs) (Stuck at) r
 wound-ended p fs (halt.NoStore at) r = winding.wound-stops (source p) (map frame_of fs) (NoStore at) r
 
 -- the evaluation ends without a value
-pub ends_halt : (p : Program) (first m : Machine) (next : Next) (o : Run → Out Value) (h : Halt) (e : SourceEnd) → next ≡ now.Stop h → e ≡ end_of h → LeadsWhole p first o m next → Ends first o m e
-ends_halt p first m next o h e is end g = record {
+pub ends_halt : (p : Program) (first m : Machine) (next : Next) (o : Run → Out Value) (h : Halt) (finish : Finish) → next ≡ now.Stop h → finish ≡ finish_of h → LeadsWhole p first o m next → Ends first o m finish
+ends_halt p first m next o h finish is same g = record {
   ends = λ r sh.
       let a = g.runs r sh in
-      (a.0, a.1, a.2 ∙ ap (λ n. wound p m.stack (outcome p n a.0)) is ∙ wound-ended p m.stack h a.0 ∙ ap (λ x. ended x a.0) (sym end));
+      (a.0, a.1, a.2 ∙ ap (λ n. wound p m.stack (outcome p n a.0)) is ∙ wound-ended p m.stack h a.0 ∙ ap (λ x. finished x a.0) (sym same));
 }

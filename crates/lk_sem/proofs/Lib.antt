@@ -1,14 +1,6 @@
-pub mod Going
 pub mod Finish
+pub mod Going
 pub mod Leading
 pub mod MainParams
+pub mod Sound
 pub mod Winding
-pub mod Walk
-pub mod Fixpoint
-pub mod Grows
-pub mod Longer
-pub mod Shift
-pub mod Steps
-pub mod Matching
-pub mod Same
-pub mod Samples

@@ -4,11 +4,11 @@ use Rattle.std.specs.Prelude.{Some, None, slice_get}
 use Rattle.lk_ast.specs.declared.place.Loc.{Loc}
 use Rattle.lk_ast.specs.declared.place.Span.{Span}
 use Rattle.lk_ast.specs.declared.value.Value.{Value}
-use Rattle.lk_sem.specs.Evaluation.{Language, handed, all_parts, joined, each, perform, node, eval}
+use Rattle.lk_evaluation.specs.Evaluation.{Language, handed, all_parts, joined, each, perform, node, eval}
 use Rattle.lk_sem.specs.Frames.{Frame, Part, Turn, rest, resumed, handed_by, continued, wound}
-use Rattle.lk_sem.specs.Run.{Run, Out, Goes, Stops, Stop, and_then, enter_with}
+use Rattle.lk_evaluation.specs.Run.{Run, Out, Goes, Stops, Stop, and_then, enter_with}
 use Rattle.lk_operators.specs.Values.{list_in}
-use Rattle.lk_sem.proofs.Fixpoint.{eval_is}
+use Rattle.lk_evaluation.proofs.Fixpoint.{eval_is}
 
 drop-past : {A : Type 0} (xs : List A) (n : ℕ) → slice_get xs n ≡ None → drop n xs ≡ []
 drop-past [] zero e = refl

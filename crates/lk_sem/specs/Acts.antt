@@ -5,8 +5,8 @@ use Rattle.lk_ast.specs.declared.place.Span.{Span}
 use Rattle.lk_ast.specs.declared.value.FunValue.{FunValue}
 use Rattle.lk_ast.specs.declared.value.Value.{Value}
 use Rattle.lk_locals.specs.Names.{bind}
-use Rattle.lk_sem.specs.Evaluation as spec
-use Rattle.lk_sem.specs.Source.{Point, under}
+use Rattle.lk_evaluation.specs.Evaluation as spec
+use Rattle.lk_evaluation.specs.Source.{Point, under}
 use Rattle.lk_sem.specs.declared.act.Act.{Act}
 use Rattle.lk_sem.specs.declared.act.Act.TheVariants.{Give, Tail, Goto, Print, Each, Fails, NoStore, Lacks}
 

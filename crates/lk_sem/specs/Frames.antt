@@ -5,8 +5,8 @@ use Rattle.lk_ast.specs.declared.place.Loc.{Loc}
 use Rattle.lk_ast.specs.declared.place.Loc.TheVariants.{Client, Server, Any}
 use Rattle.lk_ast.specs.declared.place.Span.{Span}
 use Rattle.lk_ast.specs.declared.value.Value.{Value}
-use Rattle.lk_sem.specs.Evaluation.{Language, eval, handed, all_parts, perform, joined, each}
-use Rattle.lk_sem.specs.Run.{Run, Out, Goes, and_then, step, logs, Returned}
+use Rattle.lk_evaluation.specs.Evaluation.{Language, eval, handed, all_parts, perform, joined, each}
+use Rattle.lk_evaluation.specs.Run.{Run, Out, Goes, and_then, step, logs, Returned}
 use Rattle.lk_operators.specs.Values.{list_in}
 
 pub data Frame (P : Type 0) : Type 0 where

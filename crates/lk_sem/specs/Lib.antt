@@ -1,10 +1,5 @@
 pub mod Acts
-pub mod Evaluation
+pub mod Finishes
 pub mod Frames
-pub mod Halt
-pub mod Laws
 pub mod Machine
-pub mod Run
 pub mod SourceRuns
-pub mod Source
-pub mod Syntax

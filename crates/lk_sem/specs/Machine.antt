@@ -3,19 +3,18 @@ use Rattle.std.specs.Prelude.{◌≡◌, ℕ, ◌+◌, ◌*◌, ◌≤◌, List,
 use Rattle.lk_ast.specs.declared.declaration.Program.{Program}
 use Rattle.lk_ast.specs.declared.value.Value.{Value}
 use Rattle.lk_locals.specs.Names.{bind}
-use Rattle.lk_sem.specs.Evaluation.{eval}
+use Rattle.lk_evaluation.specs.Evaluation.{eval}
 use Rattle.lk_sem.specs.Frames as spec
-use Rattle.lk_sem.specs.Halt.{end_of}
-use Rattle.lk_sem.specs.Run.{Run, Out, Goes, events_of}
-use Rattle.lk_sem.specs.Source.{Point, under, source}
-use Rattle.lk_sem.specs.SourceRuns.{ended}
+use Rattle.lk_sem.specs.Finishes.{finish_of, finished}
+use Rattle.lk_evaluation.specs.Run.{Run, Out, Goes, events_of}
+use Rattle.lk_evaluation.specs.Source.{Point, under, source}
 use Rattle.lk_sem.specs.declared.machine.Frame.{Frame}
 use Rattle.lk_sem.specs.declared.machine.Frame.TheVariants.{Part, Turn, Back}
 use Rattle.lk_sem.specs.declared.machine.Machine.{Machine}
 use Rattle.lk_sem.specs.declared.machine.Next.{Next}
 use Rattle.lk_sem.specs.declared.machine.Next.TheVariants.{Enter, Give, Stop}
 use Rattle.lk_sem.specs.declared.machine.Turns.{Turns}
-use Rattle.lk_sem.specs.declared.run.SourceEnd.{SourceEnd}
+use Rattle.lk_sem.specs.declared.run.Finish.{Finish}
 
 -- the bodies for the elements that are left
 abbrev pub bodies : Turns → List Point
@@ -38,7 +37,7 @@ wound p frames out = spec.wound (source p) (map frame_of frames) out
 abbrev pub outcome : Program → Next → Run → Out Value
 outcome p (Enter e scope place) r = eval (source p) (under scope e.now) place r
 outcome p (Give v) r = Goes v r
-outcome p (Stop halt) r = ended (end_of halt) r
+outcome p (Stop halt) r = finished (finish_of halt) r
 
 -- the machine's fuel and events are those of this run of a whole evaluation
 pub record Shows (m : Machine) (r : Run) : Type 0 where
@@ -64,6 +63,6 @@ weight m (Stop halt) = 0
 abbrev pub Falls : Machine → Machine → Next → Type 0
 Falls old new next = weight new next ≤ 4 * old.fuel + 2 * length old.stack + 3
 
--- `todo` ends so, and the machine shows the run at the end
-pub record Ends (old : Machine) (todo : Run → Out Value) (new : Machine) (e : SourceEnd) : Type 0 where
-  pub ends : (r : Run) → Shows old r → (s : Run) × Shows new s × (todo r ≡ ended e s)
+-- `todo` finishes so, and the machine shows the run at the end
+pub record Ends (old : Machine) (todo : Run → Out Value) (new : Machine) (finish : Finish) : Type 0 where
+  pub ends : (r : Run) → Shows old r → (s : Run) × Shows new s × (todo r ≡ finished finish s)

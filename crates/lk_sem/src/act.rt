@@ -4,7 +4,7 @@ ghost use Rattle.std.specs.Prelude.{IfOk};
 ghost use Rattle.lk_ast.specs.Layers.{layer};
 ghost use Rattle.lk_ast.specs.declared.expression.Node.{out-Node};
 ghost use Rattle.lk_sem.specs.Acts.{IsAct};
-ghost use Rattle.lk_sem.specs.Source.{act, choice, form};
+ghost use Rattle.lk_evaluation.specs.Source.{act, choice, form};
 
 use crate::calls::{apply_first, call, closure, function_value};
 use crate::cases::switch;

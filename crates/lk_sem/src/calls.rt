@@ -7,7 +7,7 @@ ghost use Rattle.lk_locals.specs.Names.{bind_all, lookup_all};
 ghost use Rattle.lk_sem.specs.Acts.{IsAct};
 ghost use Rattle.std.specs.Prelude.{Some};
 ghost use Rattle.lk_ast.specs.declared.value.FunValue.{FunValue as TheFunction};
-ghost use Rattle.lk_sem.specs.Source.{apply, apply_first, call, closure, function_value, goto};
+ghost use Rattle.lk_evaluation.specs.Source.{apply, apply_first, call, closure, function_value, goto};
 
 use crate::act::Act;
 use crate::values::first;

@@ -4,7 +4,7 @@ ghost use Rattle.std.specs.Option.{option_copied};
 ghost use Rattle.std.specs.Prelude.{◌≡◌, IfOk};
 ghost use Rattle.lk_operators.specs.Values.{tag_in};
 ghost use Rattle.lk_sem.specs.Acts.{IsAct};
-ghost use Rattle.lk_sem.specs.Source.{case_of, in_case, in_last, switch};
+ghost use Rattle.lk_evaluation.specs.Source.{case_of, in_case, in_last, switch};
 
 use crate::act::Act;
 use crate::values::after_unit;

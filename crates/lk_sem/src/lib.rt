@@ -1,8 +1,8 @@
-//! What programs mean, and their direct evaluation.
+//! The direct evaluation of programs.
 //!
-//! Located evaluation is a definition in `specs/Evaluation.antt`, for any language; `specs/Source.antt` makes the language
-//! of programs one of them. `source_run` evaluates a program by a machine that keeps its waiting parts in a list of its
-//! own, and its contract says that it does what the definition says.
+//! Located evaluation, and the language of programs, are defined in `lk_evaluation`. `source_run` evaluates a well typed
+//! program by a machine that keeps its waiting parts in a list of its own, and its contract says that it does what the
+//! definition says. A well typed program lacks no rule (`lk_sound`), so there is no such end.
 #![tactic(auto)]
 
 mod act;

@@ -2,7 +2,7 @@
 //! since fuel for a million nodes allows a depth of half a million, and of a million with calls back and forth.
 
 ghost use Rattle.std.specs.Prelude.{◌≡◌, ◌++◌, ◌<◌, ◌+◌, ◌*◌, length, IfOk};
-ghost use Rattle.lk_sem.specs.Evaluation as spec;
+ghost use Rattle.lk_evaluation.specs.Evaluation as spec;
 ghost use Rattle.lk_operators.specs.Values.{list_in, unit as unit_value};
 
 use crate::act::{Act, act_of};
@@ -60,10 +60,10 @@ pub struct Machine<'p> {
 
 impl<'p> Machine<'p> {
     ghost use Rattle.lk_sem.specs.Acts.{IsAct};
-    ghost use Rattle.lk_sem.specs.Evaluation.{eval, perform, each};
+    ghost use Rattle.lk_evaluation.specs.Evaluation.{eval, perform, each};
     ghost use Rattle.lk_sem.specs.Frames.{resumed, returned};
     ghost use Rattle.lk_sem.specs.Machine.{Falls, Leads, bodies, frame_rest, weight};
-    ghost use Rattle.lk_sem.specs.Source.{Point, source, under};
+    ghost use Rattle.lk_evaluation.specs.Source.{Point, source, under};
 
     /// Enters a node.
     pub fn enter(

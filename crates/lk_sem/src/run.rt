@@ -2,14 +2,13 @@
 
 use lk_ast::{Event, List, Span, Trap, Value};
 
-/// How an evaluation ends: with a value or a trap, without fuel, at an expression that has no rule for what it met, or at
-/// one that acts on tables, for which there is no store yet.
+/// How the evaluation of a well typed program ends: with a value or a trap, without fuel, or at an expression that acts on
+/// tables, for which there is no store yet.
 #[derive(Debug, Drop)]
 pub enum SourceEnd {
     Value(Value),
     Trap(Trap),
     Spent,
-    Stuck(Span),
     NoStore(Span),
 }
 
@@ -19,6 +18,13 @@ pub struct SourceRun {
     pub end: SourceEnd,
     pub log: List<Event>,
     pub used: u64,
+}
+
+/// How any evaluation ends: as that of a well typed program may, or at an expression that has no rule for what it met.
+#[derive(Drop)]
+pub enum Finish {
+    End(SourceEnd),
+    Stuck(Span),
 }
 
 /// An end without a value.
@@ -31,17 +37,17 @@ pub enum Halt {
 }
 
 impl Halt {
-    ghost use Rattle.lk_sem.specs.Halt.{end_of};
+    ghost use Rattle.lk_sem.specs.Finishes.{finish_of};
     ghost use Rattle.std.specs.Prelude.{◌≡◌};
 
-    pub fn end(self) -> SourceEnd
-        ensures { result ≡ end_of self }
+    pub fn finish(self) -> Finish
+        ensures { result ≡ finish_of self }
     {
         match self {
-            Halt::Trap(trap) => SourceEnd::Trap(trap),
-            Halt::Spent => SourceEnd::Spent,
-            Halt::Stuck(at) => SourceEnd::Stuck(at),
-            Halt::NoStore(at) => SourceEnd::NoStore(at),
+            Halt::Trap(trap) => Finish::End(SourceEnd::Trap(trap)),
+            Halt::Spent => Finish::End(SourceEnd::Spent),
+            Halt::Stuck(at) => Finish::Stuck(at),
+            Halt::NoStore(at) => Finish::End(SourceEnd::NoStore(at)),
         }
     }
 }

@@ -3,36 +3,43 @@
 ghost use Rattle.std.specs.Prelude.{◌≡◌, [], length, IfOk, IfSome, IsSome};
 ghost use Rattle.lk_sem.specs.Machine.{Ends, outcome};
 ghost use Rattle.lk_ast.specs.Functions.{main_of as main_in};
-ghost use Rattle.lk_sem.specs.SourceRuns.{IsRunOf};
-ghost use Rattle.lk_sem.specs.Source.{session};
+ghost use Rattle.lk_sem.specs.SourceRuns.{IsRunOf, NeverLacks};
+ghost use Rattle.lk_evaluation.specs.Source.{session};
+ghost use Rattle.lk_index.specs.Places.{ArePlaced};
+ghost use Rattle.lk_names.specs.Programs.{IsBound};
+ghost use Rattle.lk_typing.specs.Programs.{IsWellTyped};
 
 use crate::machine::{Machine, Next};
-use crate::run::{SourceEnd, SourceRun};
+use crate::run::{Finish, SourceEnd, SourceRun};
 use lk_ast::{Base, FunDef, List, Loc, NoMemory, Program, Text, Value, main_of};
 use lk_index::Index;
 use lk_locals::Locals;
+use lk_sound::soundness_laws;
 use std::alloc::Global;
 
-/// Evaluates the `main` of a program, which has one, with this argument and at most this fuel.
+/// Evaluates the `main` of a well typed program, which has one, with this argument and at most this fuel. Its names are
+/// bound, and its functions and lambdas begin at places of their own. So no expression lacks a rule for what it meets.
 pub fn source_run(
     alloc: Global,
     program: &Program,
     arg: &Text,
     fuel: u64,
 ) -> Result<SourceRun, NoMemory>
-    requires { IsSome (main_in program.now) }
+    requires begins { IsSome (main_in program.now) }
+    requires bound { IsBound program.now }
+    requires placed { ArePlaced program.now }
+    requires typed { IsWellTyped program.now }
     ensures { IfOk result (λ run. IfSome (main_in program.now) (λ main. IsRunOf (session program.now main arg.now) fuel run)) }
 {
+    soundness_laws();
+    let index = Index::new(alloc, program)?;
     match main_of(program) {
-        Some(main) => {
-            let index = Index::new(alloc, program)?;
-            Ok(run_main(alloc, &index, main, arg, fuel)?)
-        }
+        Some(main) => Ok(run_main(alloc, &index, main, arg, fuel)?),
         None => unreachable!(),
     }
 }
 
-/// Evaluates the body of a function of one parameter at the client.
+/// Evaluates the body of a function of one parameter at the client. No expression in it lacks a rule.
 fn run_main<'p>(
     alloc: Global,
     index: &Index<'p>,
@@ -40,7 +47,8 @@ fn run_main<'p>(
     arg: &Text,
     fuel: u64,
 ) -> Result<SourceRun, NoMemory>
-    requires { length main.now.params ≡ 1 }
+    requires one { length main.now.params ≡ 1 }
+    requires ruled { NeverLacks (session index.now main.now arg.now) fuel }
     ensures { IfOk result (IsRunOf (session index.now main.now arg.now) fuel) }
 {
     let mut args = List::new(alloc);
@@ -56,12 +64,14 @@ fn run_main<'p>(
         fuel,
     };
     let first = Next::Enter(&main.body, scope, Loc::Client);
-    let end = run(alloc, index, &mut machine, first)?;
-    Ok(SourceRun {
-        end,
-        used: fuel - machine.fuel,
-        log: machine.log,
-    })
+    match run(alloc, index, &mut machine, first)? {
+        Finish::End(end) => Ok(SourceRun {
+            end,
+            used: fuel - machine.fuel,
+            log: machine.log,
+        }),
+        Finish::Stuck(_) => unreachable!(),
+    }
 }
 
 /// Goes on to the end.
@@ -70,9 +80,9 @@ fn run<'p>(
     index: &Index<'p>,
     machine: &mut Machine<'p>,
     first: Next<'p>,
-) -> Result<SourceEnd, NoMemory>
+) -> Result<Finish, NoMemory>
     requires { machine.old.stack ≡ [] }
-    ensures { IfOk result (λ end. Ends machine.old (outcome index.now first.entry) machine.new end) }
+    ensures { IfOk result (λ finish. Ends machine.old (outcome index.now first.entry) machine.new finish) }
 {
     let mut next = first;
     loop {
@@ -80,9 +90,9 @@ fn run<'p>(
             Next::Enter(e, scope, place) => machine.enter(alloc, index, e, scope, place)?,
             Next::Give(value) => match machine.stack.pop() {
                 Some(frame) => machine.give(alloc, index, frame, value)?,
-                None => return Ok(SourceEnd::Value(value)),
+                None => return Ok(Finish::End(SourceEnd::Value(value))),
             },
-            Next::Stop(halt) => return Ok(halt.end()),
+            Next::Stop(halt) => return Ok(halt.finish()),
         };
     }
 }

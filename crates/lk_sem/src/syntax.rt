@@ -3,7 +3,7 @@
 ghost use Rattle.std.specs.Prelude.{◌≡◌, ◌∷◌, ◌++◌, [], slice_get};
 ghost use Rattle.std.specs.Option.{option_copied};
 ghost use Rattle.lk_ast.specs.Layers.{layer};
-ghost use Rattle.lk_sem.specs.Syntax.{parts_of, exprs_of};
+ghost use Rattle.lk_evaluation.specs.Syntax.{parts_of, exprs_of};
 
 use lk_ast::{Expr, Node, PartExpr};
 

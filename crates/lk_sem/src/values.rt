@@ -3,8 +3,8 @@
 ghost use Rattle.std.specs.Prelude.{◌≡◌};
 ghost use Rattle.lk_operators.specs.Values.{is_unit, truth as truth_value};
 ghost use Rattle.lk_sem.specs.Acts.{IsAct, only_of, first_of};
-ghost use Rattle.lk_sem.specs.Evaluation.{Tail};
-ghost use Rattle.lk_sem.specs.Source.{done, under, after_unit as after_value};
+ghost use Rattle.lk_evaluation.specs.Evaluation.{Tail};
+ghost use Rattle.lk_evaluation.specs.Source.{done, under, after_unit as after_value};
 
 use crate::act::Act;
 use lk_ast::{Base, Expr, List, Span, Value};

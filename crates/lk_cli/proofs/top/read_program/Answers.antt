@@ -14,3 +14,6 @@ pub returns-clause-program : goal.returns-clause-program
 returns-clause-program g c =
     let files = seen g.F.Files.contents g.F.Files.failed g.F.Files.faults c.args.files.now c.read.new.self in
     whole_program files c.args.name.now c.in-Ok.text c.in_ok-parse.field-0 c.in-Ok.ensures.front (rw c.as_slice.ensures at c.in_ok-parse.ensures.program)
+
+pub returns-clause-placed : goal.returns-clause-placed
+returns-clause-placed g c = c.places_law.ensures.apart c.in-Ok.text c.in_ok-parse.field-0 (rw c.as_slice.ensures at c.in_ok-parse.ensures.program)

@@ -1,7 +1,7 @@
 use Rattle.std.proofs.Common.{sym, ap, ◌∙◌}
 use Rattle.std.specs.Prelude.{slice_get}
 use Rattle.lk_ast.specs.Layers.{layer}
-use Rattle.lk_sem.specs.Syntax.{parts_of}
+use Rattle.lk_evaluation.specs.Syntax.{parts_of}
 use Rattle.lk_sem.proofs.Leading.{leads_wait, leads_act}
 use Rattle.lk_sem.proofs.machine.Machine.go_on.Goals as goal
 

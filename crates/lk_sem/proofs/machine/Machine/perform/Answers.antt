@@ -1,8 +1,8 @@
 use Rattle.std.proofs.Common.{sym, subst}
 use Rattle.lk_sem.specs.Acts.{IsAct}
-use Rattle.lk_sem.specs.Evaluation.{eval, perform}
+use Rattle.lk_evaluation.specs.Evaluation.{eval, perform}
 use Rattle.lk_sem.specs.Machine.{Leads}
-use Rattle.lk_sem.specs.Source.{source}
+use Rattle.lk_evaluation.specs.Source.{source}
 use Rattle.lk_sem.proofs.machine.Machine.perform.Goals as goal
 
 pub returns-in_ok-go_to-in-Goto-clause-leads : goal.returns-in_ok-go_to-in-Goto-clause-leads

@@ -1,0 +1,9 @@
+pub mod Fixpoint
+pub mod Grows
+pub mod Longer
+pub mod Matching
+pub mod Same
+pub mod Samples
+pub mod Shift
+pub mod Steps
+pub mod Walk

@@ -1,0 +1,5 @@
+pub mod Evaluation
+pub mod Laws
+pub mod Run
+pub mod Source
+pub mod Syntax

@@ -1,0 +1,6 @@
+pub mod Expressions
+pub mod Finds
+pub mod Levels
+pub mod Nodes
+pub mod Programs
+pub mod Splits

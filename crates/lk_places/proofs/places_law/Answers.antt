@@ -1,0 +1,5 @@
+use Rattle.lk_places.proofs.Programs.{places_law}
+use Rattle.lk_places.proofs.places_law.Goals as goal
+
+pub returns : goal.returns
+returns c = record { apart = places_law }

@@ -1,0 +1,330 @@
+-- What a name of a function stands for in the bodies of a program: a function of that name, at a type that it has. So has each
+-- function the types that are instances of its scheme, and the function in which a session begins takes a text.
+use Rattle.std.proofs.Common.{◌≡◌, ◌⊎◌, inl, inr, ℕ, zero, suc, ◌==◌, Bool, true, false, ◌&&◌, cond, List, [], ◌∷◌, ◌++◌, map, flat_map, length, codes, Some, find, slice_get, bytes_eq, if◌then◌else◌, refl, sym, ap, subst, subst₂, ◌∙◌, arith}
+use Rattle.std.proofs.lemmas.Bool.{and_parts}
+use Rattle.std.proofs.lemmas.Bool.Decides.{nat_tests}
+use Rattle.std.proofs.lemmas.List.{length-map}
+use Rattle.std.proofs.lemmas.Option.{none-some}
+use Rattle.std.proofs.lemmas.Slice.Eq.{bytes_eq-Decides}
+use Rattle.lk_ast.specs.Functions.{functions_in, functions_of, function_named, is_named, is_main}
+use Rattle.lk_ast.specs.declared.declaration.Decl.{Decl}
+use Rattle.lk_ast.specs.declared.declaration.FunDef.{FunDef}
+use Rattle.lk_ast.specs.declared.declaration.Program.{Program}
+use Rattle.lk_ast.specs.declared.declaration.TableDecl.{TableDecl}
+use Rattle.lk_types.specs.Each.{Each, OneOf}
+use Rattle.lk_types.specs.Grounding.{Grounding}
+use Rattle.lk_types.specs.Rows.{Label}
+use Rattle.lk_types.specs.Schemes.{IsInstance}
+use Rattle.lk_types.specs.declared.ground.Ground.{Ground}
+use Rattle.lk_types.specs.declared.ground.Ground.TheVariants as known
+use Rattle.lk_types.specs.declared.scheme.Scheme.{Scheme}
+use Rattle.lk_typing.proofs.Values.{just}
+use Rattle.lk_typing.specs.Groups.{IsFunction, AreFunctions, IsGroup, is_mutual, own_entries, scheme_entries}
+use Rattle.lk_typing.specs.Names.{Named, named, types_of, Entry, One, Many, IsUse, MayBe}
+use Rattle.lk_typing.specs.Programs.{AreAt, AreInstances, Hold, HaveSchemes, entries, tables_of}
+use Rattle.lk_typing.specs.Types.{function_of}
+use Rattle.lk_sound.proofs.Members.{one_in_front, one_in_back, one_of_both}
+use Rattle.lk_sound.proofs.Names.{IsAmong, AreDistinct}
+use Rattle.lk_sound.specs.Functions.{AreSeen, IsContext, HasFunctionType}
+use Rattle.lk_sound.specs.Law.{MainLaw, InstanceLaw}
+use Rattle.lk_sound.specs.Within.{IsFunctionOf}
+
+-- a function of this name has the type
+abbrev HasNamed : Program → Label → Ground → Type 0
+HasNamed p g t = (f : FunDef) × (f.name.text ≡ g) × HasFunctionType p f t
+
+one_at : {A : Type 0} (xs : List A) (i : ℕ) (x : A) → slice_get xs i ≡ Some x → OneOf (λ y. y ≡ x) xs
+one_at [] i x is = absurd (none-some x is)
+one_at (y ∷ xs) zero x is = inl (just is)
+one_at (y ∷ xs) (suc i) x is = inr (one_at xs i x is)
+
+-- ---- what stands beside a function
+
+module _ {A B : Type 0} (put : A → B) where
+  -- functions with what is put for the first thing, and so on
+  abbrev pairs : List FunDef → List A → Named B
+  pairs [] xs = []
+  pairs (f ∷ fs) [] = []
+  pairs (f ∷ fs) (x ∷ xs) = (f.name.text, put x) ∷ pairs fs xs
+
+  -- it is put for the thing beside a function of that name
+  record IsBeside (fs : List FunDef) (xs : List A) (g : Label) (y : B) : Type 0 where
+    place : ℕ
+    function : FunDef
+    thing : A
+    declared : slice_get fs place ≡ Some function
+    beside : slice_get xs place ≡ Some thing
+    name : function.name.text ≡ g
+    is : put thing ≡ y
+
+  one_further : {fs : List FunDef} {xs : List A} {g : Label} {y : B} (f : FunDef) (x : A) (Other : Type 0) → IsBeside fs xs g y ⊎ Other → IsBeside (f ∷ fs) (x ∷ xs) g y ⊎ Other
+  one_further f x Other (inl it) = inl (record { place = suc it.place; function = it.function; thing = it.thing; declared = it.declared; beside = it.beside; name = it.name; is = it.is })
+  one_further f x Other (inr other) = inr other
+
+  -- a name that stands for something stands for what is put beside a function of that name, or for what it stands for behind them
+  paired : (fs : List FunDef) (xs : List A) (behind : Named B) (g : Label) (y : B) → named g (pairs fs xs ++ behind) ≡ Some y → IsBeside fs xs g y ⊎ (named g behind ≡ Some y)
+  paired [] xs behind g y is = inr is
+  paired (f ∷ fs) [] behind g y is = inr is
+  paired (f ∷ fs) (x ∷ xs) behind g y is = by_test (bytes_eq f.name.text g) refl is (paired fs xs behind g y)
+    where
+      by_test : (b : Bool) → bytes_eq f.name.text g ≡ b → (if b then Some (put x) else named g (pairs fs xs ++ behind)) ≡ Some y
+          → (named g (pairs fs xs ++ behind) ≡ Some y → IsBeside fs xs g y ⊎ (named g behind ≡ Some y)) → IsBeside (f ∷ fs) (x ∷ xs) g y ⊎ (named g behind ≡ Some y)
+      by_test true same is later = inl (record { place = zero; function = f; thing = x; declared = refl; beside = refl; name = (bytes_eq-Decides f.name.text g).0 same; is = just is })
+      by_test false other is later = one_further f x (named g behind ≡ Some y) (later is)
+
+own_pairs : {A : Type 0} (fs : List FunDef) (ts : List A) → own_entries fs ts ≡ pairs One fs ts
+own_pairs [] ts = refl
+own_pairs (f ∷ fs) [] = refl
+own_pairs (f ∷ fs) (t ∷ ts) = ap (λ rest. (f.name.text, One t) ∷ rest) (own_pairs fs ts)
+
+scheme_pairs : (fs : List FunDef) (schemes : List Scheme) → entries fs schemes ≡ pairs (λ scheme. scheme) fs schemes
+scheme_pairs [] schemes = refl
+scheme_pairs (f ∷ fs) [] = refl
+scheme_pairs (f ∷ fs) (scheme ∷ schemes) = ap (λ rest. (f.name.text, scheme) ∷ rest) (scheme_pairs fs schemes)
+
+-- a name that stands for something among functions of earlier groups stands for its scheme
+earlier_named : (earlier : Named Scheme) (g : Label) (entry : Entry Ground) → named g (scheme_entries earlier) ≡ Some entry
+    → (scheme : Scheme) × (named g earlier ≡ Some scheme) × (Many scheme ≡ entry)
+earlier_named [] g entry is = absurd (none-some entry is)
+earlier_named (one ∷ earlier) g entry is = by_test (bytes_eq one.0 g) is (earlier_named earlier g entry)
+  where
+    by_test : (b : Bool) → (if b then Some (Many one.1) else named g (scheme_entries earlier)) ≡ Some entry
+        → (named g (scheme_entries earlier) ≡ Some entry → (scheme : Scheme) × (named g earlier ≡ Some scheme) × (Many scheme ≡ entry))
+        → (scheme : Scheme) × ((if b then Some one.1 else named g earlier) ≡ Some scheme) × (Many scheme ≡ entry)
+    by_test true is later = (one.1, refl, just is)
+    by_test false is later = later is
+
+-- ---- functions of a group
+
+module _ (functions : Named (Entry Ground)) (tables : List TableDecl) (in_mutual : Bool) where
+  function_there : (fs : List FunDef) (ts nodes : List Ground) → AreFunctions functions tables in_mutual fs ts nodes
+      → (i : ℕ) (f : FunDef) (t : Ground) → slice_get fs i ≡ Some f → slice_get ts i ≡ Some t → (own : List Ground) × IsFunction functions tables in_mutual f t own
+  function_there _ _ _ AreFunctions.none i f t is at = absurd (none-some f is)
+  function_there _ _ _ (AreFunctions.more nodes rest typed later) zero f t is at = (nodes, subst₂ (λ f t. IsFunction functions tables in_mutual f t nodes) (just is) (just at) typed)
+  function_there _ _ _ (AreFunctions.more nodes rest typed later) (suc i) f t is at = function_there _ _ _ later i f t is at
+
+  type_there : (fs : List FunDef) (ts nodes : List Ground) → AreFunctions functions tables in_mutual fs ts nodes
+      → (i : ℕ) (f : FunDef) → slice_get fs i ≡ Some f → (t : Ground) × (slice_get ts i ≡ Some t)
+  type_there _ _ _ AreFunctions.none i f is = absurd (none-some f is)
+  type_there _ _ _ (AreFunctions.more {t = t} nodes rest typed later) zero f is = (t, refl)
+  type_there _ _ _ (AreFunctions.more nodes rest typed later) (suc i) f is = type_there _ _ _ later i f is
+
+  as_many_types : (fs : List FunDef) (ts nodes : List Ground) → AreFunctions functions tables in_mutual fs ts nodes → length ts ≡ length fs
+  as_many_types _ _ _ AreFunctions.none = refl
+  as_many_types _ _ _ (AreFunctions.more nodes rest typed later) = ap (λ n. suc n) (as_many_types _ _ _ later)
+
+as_many_at : (σ : Grounding) (schemes : List Scheme) (ts : List Ground) → AreAt σ schemes ts → length schemes ≡ length ts
+as_many_at σ [] [] are = refl
+as_many_at σ [] (t ∷ ts) are = absurd are
+as_many_at σ (scheme ∷ schemes) [] are = absurd are
+as_many_at σ (scheme ∷ schemes) (t ∷ ts) are = ap (λ n. suc n) (as_many_at σ schemes ts are.1)
+
+-- schemes that hold are as many as the functions
+as_many_schemes : (earlier : Named Scheme) (tables : List TableDecl) (decl : Decl) (schemes : List Scheme) → Hold earlier tables decl schemes → length schemes ≡ length (functions_in decl)
+as_many_schemes earlier tables decl schemes hold =
+    let some : (ts : List Ground) × AreInstances schemes ts = hold.some in
+    let typed : (nodes : List Ground) × IsGroup earlier tables decl some.0 nodes = hold.each some.0 some.1 in
+    as_many_at some.1.0 schemes some.0 some.1.1
+    ∙ as_many_types (own_entries (functions_in decl) some.0 ++ scheme_entries earlier) tables (is_mutual decl) (functions_in decl) some.0 typed.0 typed.1
+
+module _ (p : Program) where
+  -- these declarations of the program stand behind functions with these schemes
+  record AreLast (earlier : Named Scheme) (decls : List Decl) : Type 0 where
+    lifts : (functions : Named (Entry Ground)) → AreSeen (tables_of p) earlier decls functions → IsContext p functions
+    declared : (f : FunDef) → OneOf (λ other. other ≡ f) (flat_map functions_in decls) → IsFunctionOf p f
+
+  all_last : AreLast [] p.decls
+  all_last = record { lifts = λ functions seen. seen; declared = λ f there. there }
+
+  module _ (earlier : Named Scheme) (decl : Decl) (decls : List Decl) (last : AreLast earlier (decl ∷ decls)) where
+    others_last : (schemes : List Scheme) → Hold earlier (tables_of p) decl schemes → AreLast (entries (functions_in decl) schemes ++ earlier) decls
+    others_last schemes hold = record {
+      lifts = λ functions seen. last.lifts functions (AreSeen.later schemes hold seen);
+      declared = λ f there. last.declared f (one_in_back (λ other. other ≡ f) (functions_in decl) (flat_map functions_in decls) there);
+    }
+
+    -- a function of the declaration has the type that it has in the group
+    group_typed : (ts nodes : List Ground) → IsGroup earlier (tables_of p) decl ts nodes → (i : ℕ) (f : FunDef) (t : Ground) → slice_get (functions_in decl) i ≡ Some f → slice_get ts i ≡ Some t → HasFunctionType p f t
+    group_typed ts nodes group i f t is at =
+        let context : Named (Entry Ground) = own_entries (functions_in decl) ts ++ scheme_entries earlier in
+        let found : (own : List Ground) × IsFunction context (tables_of p) (is_mutual decl) f t own = function_there context (tables_of p) (is_mutual decl) (functions_in decl) ts nodes group i f t is at in
+        record {
+          declared = last.declared f (one_in_front (λ other. other ≡ f) (functions_in decl) (flat_map functions_in decls) (one_at (functions_in decl) i f is));
+          functions = context;
+          seen = last.lifts context (AreSeen.here ts nodes group);
+          in_mutual = is_mutual decl;
+          nodes = found.0;
+          typed = found.1;
+        }
+
+    -- it has the types that are instances of its scheme
+    scheme_typed : (schemes : List Scheme) → Hold earlier (tables_of p) decl schemes
+        → (i : ℕ) (f : FunDef) (scheme : Scheme) (σ : Grounding) (t : Ground) → slice_get (functions_in decl) i ≡ Some f → slice_get schemes i ≡ Some scheme → IsInstance σ scheme t → HasFunctionType p f t
+    scheme_typed schemes hold i f scheme σ t is at its =
+        let whole : (ts : List Ground) × AreInstances schemes ts × (slice_get ts i ≡ Some t) = hold.alone i scheme σ t at its in
+        let group : (nodes : List Ground) × IsGroup earlier (tables_of p) decl whole.0 nodes = hold.each whole.0 whole.1 in
+        group_typed whole.0 group.0 group.1 i f t is whole.2
+
+    -- it has some type
+    some_typed : (schemes : List Scheme) → Hold earlier (tables_of p) decl schemes → (i : ℕ) (f : FunDef) → slice_get (functions_in decl) i ≡ Some f → (t : Ground) × HasFunctionType p f t
+    some_typed schemes hold i f is =
+        let some : (ts : List Ground) × AreInstances schemes ts = hold.some in
+        let group : (nodes : List Ground) × IsGroup earlier (tables_of p) decl some.0 nodes = hold.each some.0 some.1 in
+        let found : (t : Ground) × (slice_get some.0 i ≡ Some t) =
+        type_there (own_entries (functions_in decl) some.0 ++ scheme_entries earlier) (tables_of p) (is_mutual decl) (functions_in decl) some.0 group.0 group.1 i f is in
+        (found.0, group_typed some.0 group.0 group.1 i f found.0 is found.1)
+
+  -- ---- what a name stands for
+
+  -- each instance of a scheme is a type of a function of that name
+  abbrev AreRight : Named Scheme → Type 0
+  AreRight earlier = (g : Label) (scheme : Scheme) (σ : Grounding) (t : Ground) → named g earlier ≡ Some scheme → IsInstance σ scheme t → HasNamed p g t
+
+  others_right : (earlier : Named Scheme) (decl : Decl) (decls : List Decl) → AreLast earlier (decl ∷ decls) → (schemes : List Scheme) → Hold earlier (tables_of p) decl schemes
+      → AreRight earlier → AreRight (entries (functions_in decl) schemes ++ earlier)
+  others_right earlier decl decls last schemes hold right g scheme σ t is its =
+      by_side (paired (λ s. s) (functions_in decl) schemes earlier g scheme (subst (λ own. named g (own ++ earlier) ≡ Some scheme) (scheme_pairs (functions_in decl) schemes) is))
+    where
+      by_side : IsBeside (λ s. s) (functions_in decl) schemes g scheme ⊎ (named g earlier ≡ Some scheme) → HasNamed p g t
+      by_side (inl own) = (
+        own.function,
+        own.name,
+        scheme_typed earlier decl decls last schemes hold own.place own.function scheme σ t own.declared (own.beside ∙ ap (λ s. Some s) own.is) its,
+      )
+      by_side (inr before) = right g scheme σ t before its
+
+  use_here : (earlier : Named Scheme) (decl : Decl) (decls : List Decl) → AreLast earlier (decl ∷ decls) → AreRight earlier
+      → (ts nodes : List Ground) → IsGroup earlier (tables_of p) decl ts nodes
+      → (g : Label) (t : Ground) (entry : Entry Ground) → IsUse entry t → IsBeside One (functions_in decl) ts g entry ⊎ (named g (scheme_entries earlier) ≡ Some entry) → HasNamed p g t
+  use_here earlier decl decls last right ts nodes group g t _ IsUse.one (inl own) =
+      let same : own.thing ≡ t = cc in
+      (own.function, own.name, group_typed earlier decl decls last ts nodes group own.place own.function t own.declared (own.beside ∙ ap (λ s. Some s) same))
+  use_here earlier decl decls last right ts nodes group g t _ IsUse.one (inr before) =
+      let found : (scheme : Scheme) × (named g earlier ≡ Some scheme) × (Many scheme ≡ One t) = earlier_named earlier g (One t) before in
+      let wrong : Many found.0 ≡ One t = found.2 in
+      cc
+  use_here earlier decl decls last right ts nodes group g t _ (IsUse.instance {τ = τ} {scheme = scheme} its) (inl own) =
+      let wrong : One own.thing ≡ Many scheme = own.is in
+      cc
+  use_here earlier decl decls last right ts nodes group g t _ (IsUse.instance {τ = τ} {scheme = scheme} its) (inr before) =
+      let found : (s : Scheme) × (named g earlier ≡ Some s) × (Many s ≡ Many scheme) = earlier_named earlier g (Many scheme) before in
+      let many : ◌≡◌ {A = Entry Ground} (Many found.0) (Many scheme) = found.2 in
+      let same : found.0 ≡ scheme = cc in
+      right g scheme τ t (found.1 ∙ ap (λ s. Some s) same) its
+
+  use_in : (earlier : Named Scheme) (decls : List Decl) (functions : Named (Entry Ground)) → AreSeen (tables_of p) earlier decls functions
+      → AreLast earlier decls → AreRight earlier → (g : Label) (t : Ground) (entry : Entry Ground) → named g functions ≡ Some entry → IsUse entry t → HasNamed p g t
+  use_in earlier _ _ (AreSeen.here {decl = decl} {decls = decls} ts nodes group) last right g t entry is uses =
+      use_here earlier decl decls last right ts nodes group g t entry uses
+      (paired One (functions_in decl) ts (scheme_entries earlier) g entry (subst (λ own. named g (own ++ scheme_entries earlier) ≡ Some entry) (own_pairs (functions_in decl) ts) is))
+  use_in earlier _ functions (AreSeen.later {decl = decl} {decls = decls} schemes hold seen) last right g t entry is uses =
+      use_in (entries (functions_in decl) schemes ++ earlier) decls functions seen (others_last earlier decl decls last schemes hold) (others_right earlier decl decls last schemes hold right) g t entry is uses
+
+-- ---- the function of a name
+
+named_there : (fs : List FunDef) (f : FunDef) → OneOf (λ other. other ≡ f) fs → IsAmong f.name.text (map (λ (f : FunDef). f.name.text) fs)
+named_there [] f there = there
+named_there (other ∷ fs) f (inl is) = inl (ap (λ (f : FunDef). f.name.text) is)
+named_there (other ∷ fs) f (inr later) = inr (named_there fs f later)
+
+-- where no two have the same name, that of one of them finds it
+found_named : (fs : List FunDef) (f : FunDef) → AreDistinct (map (λ (f : FunDef). f.name.text) fs) → OneOf (λ other. other ≡ f) fs → find (is_named f.name.text) fs ≡ Some f
+found_named [] f distinct there = absurd there
+found_named (other ∷ fs) f distinct (inl is) =
+    ap (λ b. cond b (Some other) (find (is_named f.name.text) fs)) ((bytes_eq-Decides other.name.text f.name.text).1 (ap (λ (f : FunDef). f.name.text) is)) ∙ ap (λ g. Some g) is
+found_named (other ∷ fs) f distinct (inr later) = by_test (bytes_eq other.name.text f.name.text) refl (found_named fs f distinct.1 later)
+  where
+    by_test : (b : Bool) → bytes_eq other.name.text f.name.text ≡ b → find (is_named f.name.text) fs ≡ Some f → cond b (Some other) (find (is_named f.name.text) fs) ≡ Some f
+    by_test true same found =
+        let is : other.name.text ≡ f.name.text = (bytes_eq-Decides other.name.text f.name.text).0 same in
+        absurd (distinct.0 (subst (λ x. IsAmong x (map (λ (f : FunDef). f.name.text) fs)) (sym is) (named_there fs f later)))
+    by_test false differs found = found
+
+pub context_use : (p : Program) (functions : Named (Entry Ground)) (g : Label) (t : Ground) → AreDistinct (map (λ (f : FunDef). f.name.text) (functions_of p)) → IsContext p functions → MayBe functions g t
+    → (f : FunDef) × (function_named p g ≡ Some f) × HasFunctionType p f t
+context_use p functions g t distinct seen maybe =
+    let found : HasNamed p g t = use_in p [] p.decls functions seen (all_last p) (λ g scheme σ t is its. absurd (none-some scheme is)) g t maybe.0 maybe.1 maybe.2 in
+    (found.0, subst (λ x. function_named p x ≡ Some found.0) found.1 (found_named (functions_of p) found.0 distinct found.2.declared), found.2)
+
+-- ---- instances of schemes
+
+-- what stands at one place of two lists of two parts each stands at one place of the fronts or at one of the backs
+at_both : {A B : Type 0} (xs others : List A) (ys rest : List B) → length ys ≡ length xs → (i : ℕ) (x : A) (y : B) → slice_get (xs ++ others) i ≡ Some x → slice_get (ys ++ rest) i ≡ Some y
+    → ((slice_get xs i ≡ Some x) × (slice_get ys i ≡ Some y)) ⊎ ((j : ℕ) × (slice_get others j ≡ Some x) × (slice_get rest j ≡ Some y))
+at_both [] others [] rest many i x y is at = inr (i, is, at)
+at_both [] others (b ∷ ys) rest many i x y is at = absurd (let wrong : suc (length ys) ≡ 0 = many in omega arith)
+at_both (a ∷ xs) others [] rest many i x y is at = absurd (let wrong : 0 ≡ suc (length xs) = many in omega arith)
+at_both (a ∷ xs) others (b ∷ ys) rest many zero x y is at = inl (is, at)
+at_both (a ∷ xs) others (b ∷ ys) rest many (suc i) x y is at = at_both xs others ys rest (omega arith) i x y is at
+
+module _ (p : Program) where
+  instance_typed : (earlier : Named Scheme) (decls : List Decl) (schemes : List Scheme) → HaveSchemes (tables_of p) earlier decls schemes → AreLast p earlier decls
+      → (i : ℕ) (f : FunDef) (scheme : Scheme) (σ : Grounding) (t : Ground) → slice_get (flat_map functions_in decls) i ≡ Some f → slice_get schemes i ≡ Some scheme → IsInstance σ scheme t → HasFunctionType p f t
+  instance_typed earlier _ _ HaveSchemes.none last i f scheme σ t is at its = absurd (none-some f is)
+  instance_typed earlier _ _ (HaveSchemes.more {decl = decl} {decls = decls} schemes rest hold have) last i f scheme σ t is at its =
+      by_side (at_both (functions_in decl) (flat_map functions_in decls) schemes rest (as_many_schemes earlier (tables_of p) decl schemes hold) i f scheme is at)
+      (λ j its_place its_scheme. instance_typed (entries (functions_in decl) schemes ++ earlier) decls rest have (others_last p earlier decl decls last schemes hold) j f scheme σ t its_place its_scheme its)
+    where
+      by_side : ((slice_get (functions_in decl) i ≡ Some f) × (slice_get schemes i ≡ Some scheme)) ⊎ ((j : ℕ) × (slice_get (flat_map functions_in decls) j ≡ Some f) × (slice_get rest j ≡ Some scheme))
+          → ((j : ℕ) → slice_get (flat_map functions_in decls) j ≡ Some f → slice_get rest j ≡ Some scheme → HasFunctionType p f t) → HasFunctionType p f t
+      by_side (inl own) later = scheme_typed p earlier decl decls last schemes hold i f scheme σ t own.0 own.1 its
+      by_side (inr other) later = later other.0 other.1 other.2
+
+  -- each function has a type
+  each_typed : (earlier : Named Scheme) (decls : List Decl) (schemes : List Scheme) → HaveSchemes (tables_of p) earlier decls schemes → AreLast p earlier decls
+      → (f : FunDef) → OneOf (λ other. other ≡ f) (flat_map functions_in decls) → (t : Ground) × HasFunctionType p f t
+  each_typed earlier _ _ HaveSchemes.none last f there = absurd there
+  each_typed earlier _ _ (HaveSchemes.more {decl = decl} {decls = decls} schemes rest hold have) last f there =
+      by_side (one_of_both (λ other. other ≡ f) (functions_in decl) (flat_map functions_in decls) there)
+      (each_typed (entries (functions_in decl) schemes ++ earlier) decls rest have (others_last p earlier decl decls last schemes hold) f)
+    where
+      place_of : (fs : List FunDef) → OneOf (λ other. other ≡ f) fs → (i : ℕ) × (slice_get fs i ≡ Some f)
+      place_of [] one = absurd one
+      place_of (other ∷ fs) (inl is) = (zero, ap (λ g. Some g) is)
+      place_of (other ∷ fs) (inr later) = let found : (i : ℕ) × (slice_get fs i ≡ Some f) = place_of fs later in (suc found.0, found.1)
+
+      by_side : OneOf (λ other. other ≡ f) (functions_in decl) ⊎ OneOf (λ other. other ≡ f) (flat_map functions_in decls)
+          → (OneOf (λ other. other ≡ f) (flat_map functions_in decls) → (t : Ground) × HasFunctionType p f t) → (t : Ground) × HasFunctionType p f t
+      by_side (inl own) later =
+          let at : (i : ℕ) × (slice_get (functions_in decl) i ≡ Some f) = place_of (functions_in decl) own in
+          some_typed p earlier decl decls last schemes hold at.0 f at.1
+      by_side (inr other) later = later other
+
+pub instance_law : InstanceLaw
+instance_law p schemes typed i f scheme σ t is at its = instance_typed p [] p.decls schemes typed (all_last p) i f scheme σ t is at its
+
+-- ---- the function in which a session begins
+
+-- what is found is there, and passes the test
+found_main : (fs : List FunDef) (f : FunDef) → find is_main fs ≡ Some f → OneOf (λ other. other ≡ f) fs × (is_main f ≡ true)
+found_main [] f is = absurd (none-some f is)
+found_main (other ∷ fs) f is = by_test (is_main other) refl is (found_main fs f)
+  where
+    by_test : (b : Bool) → is_main other ≡ b → cond b (Some other) (find is_main fs) ≡ Some f → (find is_main fs ≡ Some f → OneOf (λ other. other ≡ f) fs × (is_main f ≡ true))
+        → OneOf (λ other. other ≡ f) (other ∷ fs) × (is_main f ≡ true)
+    by_test true test is later = (inl (just is), ap is_main (sym (just is)) ∙ test)
+    by_test false test is later = let found : OneOf (λ other. other ≡ f) fs × (is_main f ≡ true) = later is in (inr found.0, found.1)
+
+one_number : (n : ℕ) → (n == 1) ≡ true → n ≡ 1
+one_number n same = grind (arith, nat_tests)
+
+-- it has one parameter
+one_param : (f : FunDef) → is_main f ≡ true → length f.params ≡ 1
+one_param f main =
+    let front : (is_named (codes "main") f && (length f.params == 1)) ≡ true = (and_parts _ _ main).0 in
+    one_number (length f.params) (and_parts _ _ front).1
+
+one_text : (ts : List Ground) → length ts ≡ 1 → Each (λ t. t ≡ known.Text) ts → ts ≡ known.Text ∷ []
+one_text [] many all = absurd (let wrong : 0 ≡ 1 = many in omega arith)
+one_text (t ∷ []) many all = ap (λ t. t ∷ []) all.0
+one_text (t ∷ u ∷ ts) many all = absurd (let wrong : suc (suc (length ts)) ≡ 1 = many in omega arith)
+
+pub main_law : MainLaw
+main_law p (schemes, typed) main is =
+    let found : OneOf (λ other. other ≡ main) (functions_of p) × (is_main main ≡ true) = found_main (functions_of p) main is in
+    let has : (t : Ground) × HasFunctionType p main t = each_typed p [] p.decls schemes typed (all_last p) main found.0 in
+    let its : IsFunction has.1.functions (tables_of p) has.1.in_mutual main has.0 has.1.nodes = has.1.typed in
+    let many : length (types_of its.params) ≡ 1 =
+    length-map its.params (λ entry. entry.1) ∙ sym (length-map its.params (λ entry. entry.0)) ∙ ap length its.names ∙ length-map main.params (λ word. word.text) ∙ one_param main found.1 in
+    let text : types_of its.params ≡ known.Text ∷ [] = one_text (types_of its.params) many (its.main found.1) in
+    (its.effects, its.answer, (is, subst (HasFunctionType p main) (its.is ∙ ap (λ params. function_of params its.effects its.answer) text) has.1))
