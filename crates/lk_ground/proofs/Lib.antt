@@ -1,0 +1,12 @@
+pub mod Labels
+pub mod Levels
+pub mod AlikeNames
+pub mod Points
+pub mod AlikeCalls
+pub mod AlikeShapes
+pub mod AlikeOperations
+pub mod AlikeOrder
+pub mod AlikeRecords
+pub mod AlikeOperated
+pub mod AlikeForms
+pub mod Kept

@@ -1,0 +1,64 @@
+-- The nodes of a typed expression in text order, each before those in it: its place, its ground type, and the use of a
+-- function of the program that it may be, at its ground type.
+use Rattle.std.specs.Prelude.{Bool, true, List, [], ◌∷◌, ◌++◌, Option, Some, None}
+use Rattle.lk_ast.specs.declared.declaration.TableDecl.{TableDecl}
+use Rattle.lk_ast.specs.declared.expression.Case.{Case}
+use Rattle.lk_ast.specs.declared.expression.ChangeExpr.{ChangeExpr}
+use Rattle.lk_ast.specs.declared.expression.Expr.{Expr}
+use Rattle.lk_types.specs.Rows.{Label, EffectSet}
+use Rattle.lk_types.specs.declared.ground.Ground.{Ground}
+use Rattle.lk_typing.specs.Heads.{Head}
+use Rattle.lk_typing.specs.Names.{Named, Entry}
+use Rattle.lk_typing.specs.Rules.{Rule}
+use Rattle.lk_typing.specs.Rules as rule
+use Rattle.lk_typing.specs.Types.{function_of}
+use Rattle.lk_typing.specs.Typing.{HasType, HaveTypes, HaveCases, IsChange, plain, lambda, var, switch, switch_open, for_list, for_table, query, update, delete, none, more, no_cases, case_of, changed}
+
+-- a function of the program at a ground type
+pub record Use : Type 0 where
+  pub name : Label
+  pub type : Ground
+
+pub record TypedNode : Type 0 where
+  pub expr : Expr
+  pub type : Ground
+  -- the function that it uses, if it is a use of one
+  pub use_of : Option Use
+  -- whether it stands inside a query, an update or a deletion
+  pub inside : Bool
+
+-- a node that is no use of a function
+abbrev pub other_node : Bool → Expr → Ground → TypedNode
+other_node inside e t = record { expr = e; type = t; use_of = None; inside = inside }
+
+module _ {functions : Named (Entry Ground)} {tables : List TableDecl} where
+  -- what an operator uses, by its rule
+  abbrev pub used_by : {names : Named Ground} {effects : EffectSet} {h : Head} {ts : List Ground} {t : Ground} → Rule functions tables names effects h ts t → Option Use
+  used_by {t = t} (rule.function {g} may) = Some (record { name = g; type = t })
+  used_by {effects = effects} {ts = ts} {t = t} (rule.call {g} may) = Some (record { name = g; type = function_of ts effects t })
+  used_by other = None
+
+  unfoldable mutual
+    -- the nodes in an expression, behind itself
+    pub nodes_of : {names : Named Ground} {effects : EffectSet} {e : Expr} {t : Ground} {inside : List Ground} → Bool → HasType functions tables names effects e t inside → List TypedNode
+    nodes_of {e = e} {t = t} in_block (plain h ts is have by) = record { expr = e; type = t; use_of = used_by by; inside = in_block } ∷ each_nodes in_block have
+    nodes_of {e = e} {t = t} in_block (lambda l params own b is named moves body local) = other_node in_block e t ∷ nodes_of in_block body
+    nodes_of {e = e} {t = t} in_block (var x d rest a first last is one then) = other_node in_block e t ∷ (nodes_of in_block one ++ nodes_of in_block then)
+    nodes_of {e = e} {t = t} in_block (switch d cases row tags ts first bodies is one have same made local) = other_node in_block e t ∷ (nodes_of in_block one ++ case_nodes in_block have)
+    nodes_of {e = e} {t = t} in_block (switch_open d cases last rest row tags ts first bodies inside is one have same then made local) = other_node in_block e t ∷ (nodes_of in_block one ++ (case_nodes in_block have ++ nodes_of in_block then))
+    nodes_of {e = e} {t = t} in_block (for_list x d body a b first inside is one then) = other_node in_block e t ∷ (nodes_of in_block one ++ nodes_of in_block then)
+    nodes_of {e = e} {t = t} in_block (for_table x rows body a b first inside is one then) = other_node in_block e t ∷ (nodes_of in_block one ++ nodes_of in_block then)
+    nodes_of {e = e} {t = t} in_block (query keys body a inside is one sorted scans own) = other_node in_block e t ∷ nodes_of true one
+    nodes_of {e = e} {t = t} in_block (update change is changes writes) = other_node in_block e t ∷ change_nodes changes
+    nodes_of {e = e} {t = t} in_block (delete change is changes writes) = other_node in_block e t ∷ change_nodes changes
+
+    pub each_nodes : {names : Named Ground} {effects : EffectSet} {es : List Expr} {ts inside : List Ground} → Bool → HaveTypes functions tables names effects es ts inside → List TypedNode
+    each_nodes in_block none = []
+    each_nodes in_block (more inside rest first others) = nodes_of in_block first ++ each_nodes in_block others
+
+    pub case_nodes : {names : Named Ground} {effects : EffectSet} {cases : List Case} {ts : List Ground} {tags : Named Ground} {inside : List Ground} → Bool → HaveCases functions tables names effects cases ts tags inside → List TypedNode
+    case_nodes in_block no_cases = []
+    case_nodes in_block (case_of a bound inside rest held body others) = nodes_of in_block body ++ case_nodes in_block others
+
+    pub change_nodes : {names : Named Ground} {change : ChangeExpr} {inside : List Ground} → IsChange functions tables names change inside → List TypedNode
+    change_nodes (changed row sets ts cond rest has holds values named fields) = nodes_of true holds ++ each_nodes true values
