@@ -1,6 +1,6 @@
--- The names of functions and the lambdas of a program begin each with a token of its own, production by production; so in the
--- program of a text they begin at places of their own.
-use Rattle.std.proofs.Common.{◌≡◌, ℕ, List, [], ◌∷◌, ◌++◌, length, map, Option, refl, sym, ap, ap₂, subst, ◌∙◌}
+-- The names of functions and the lambdas of a program begin each with a token of its own, and so do the uses of functions,
+-- production by production; so in the program of a text they begin at places of their own.
+use Rattle.std.proofs.Common.{◌≡◌, ◌⊎◌, ℕ, List, [], ◌∷◌, ◌++◌, length, map, Option, inl, inr, refl, sym, ap, ap₂, subst, ◌∙◌}
 use Rattle.std.proofs.lemmas.Grind.{flat_map-append}
 use Rattle.std.proofs.lemmas.List.{append-nil, map-append}
 use Rattle.std.specs.List.{flat_map}
@@ -12,32 +12,43 @@ use Rattle.lk_ast.specs.declared.declaration.Program.{Program}
 use Rattle.lk_ast.specs.declared.signature.Sig.{Sig}
 use Rattle.lk_ast.specs.declared.token.Token.{Token}
 use Rattle.lk_grammar.specs.Programs.{IsDefinition, IsFun, IsFuns, IsDecl, IsDecls, IsProgram}
-use Rattle.lk_index.specs.Places.{Gather, AreApart, ArePlaced, gather, gather_all, each_with, lambdas_of}
+use Rattle.lk_ground.specs.Sites.{PlacedUse, all, uses_in}
+use Rattle.lk_ground.specs.UsesApart.{AreUsesApart}
+use Rattle.lk_index.specs.Places.{Lambdas, AreApart, ArePlaced, gather, lambdas_of}
 use Rattle.lk_parse.proofs.Readings.{tokens_lie}
 use Rattle.lk_parse.specs.Tokens.{LieBetween}
 use Rattle.lk_places.proofs.Expressions.{block_holds}
-use Rattle.lk_places.proofs.Finds.{Finds, sites_of, finds_none, finds_skip, finds_before, finds_behind, finds_both, finds_name, finds_so, finds_named, all_append}
-use Rattle.lk_places.proofs.Splits.{split_apart}
-use Rattle.lk_places.specs.Law.{PlacesLaw}
+use Rattle.lk_places.proofs.Finds.{Finds, sites_of, uses_at, finds_none, finds_skip, finds_before, finds_behind, finds_both, finds_name, finds_so, finds_named}
+use Rattle.lk_places.proofs.Splits.{split_apart, apart_front, apart_back}
+use Rattle.lk_places.proofs.Walks.{Walk, Same, both, walk_all, same_by, same_alone, walk_of}
+use Rattle.lk_places.specs.Law.{PlacesLaw, UsesLaw}
 use Rattle.lk_read.specs.Kinds.{word_of}
 use Rattle.lk_scope.specs.Names.{no_names, bind_all}
 use Rattle.lk_scope.specs.Scoped.{scoped_decl, scoped_function}
+use Rattle.lk_types.specs.Each.{OneOf}
 
--- the lambdas in the body of a function
-abbrev body_of : FunDef → Gather
-body_of f = gather f.body
+-- what is found in the body of a function
+abbrev body_of : FunDef → Walk
+body_of f = walk_of f.body
 
 -- where the names of functions begin
 abbrev starts_of : List FunDef → List ℕ
 starts_of fs = map (λ (f : FunDef). f.name.at.start) fs
 
--- the names of these functions and the lambdas in them, once their names are resolved, begin each with one of these tokens
+-- the names of these functions, and what is found in them once their names are resolved, begin with these tokens
 abbrev HoldFunctions : List FunDef → List Token → Type 0
-HoldFunctions fs w = Finds (gather_all (each_with body_of (map scoped_function fs))) (starts_of fs) w
+HoldFunctions fs w = Finds (walk_all body_of (map scoped_function fs)) (starts_of fs) w
+
+all_gathered : (fs gs : List FunDef) (found : Lambdas) → (walk_all body_of (fs ++ gs)).lambdas found ≡ (walk_all body_of gs).lambdas ((walk_all body_of fs).lambdas found)
+all_gathered [] gs found = refl
+all_gathered (f ∷ fs) gs found = all_gathered fs gs (gather f.body found)
+
+appended : (fs gs : List FunDef) → Same (walk_all body_of (fs ++ gs)) (both (walk_all body_of fs) (walk_all body_of gs))
+appended fs gs = record { gathers = all_gathered fs gs; used = ap all (map-append (λ (f : FunDef). uses_in f.body) fs gs) ∙ flat_map-append (λ us. us) (map (λ (f : FunDef). uses_in f.body) fs) _ }
 
 both_hold : (fs gs : List FunDef) {u v : List Token} → HoldFunctions fs u → HoldFunctions gs v → HoldFunctions (fs ++ gs) (u ++ v)
 both_hold fs gs h k =
-    finds_so (λ found. ap (λ xs. gather_all (each_with body_of xs) found) (map-append scoped_function fs gs) ∙ all_append body_of (map scoped_function fs) (map scoped_function gs) found)
+    finds_so (same_by (ap (walk_all body_of) (map-append scoped_function fs gs)) (appended (map scoped_function fs) (map scoped_function gs)))
     (finds_named (sym (map-append (λ (f : FunDef). f.name.at.start) fs gs)) (finds_both h k))
 
 named_at : (x : Token) → (word_of x).at.start ≡ x.span.start
@@ -45,8 +56,8 @@ unfolding word_of
 named_at x = refl
 
 definition_holds : {sig : Option Sig} {w : List Token} {f : FunDef} → IsDefinition sig w f → HoldFunctions (f ∷ []) w
-definition_holds (IsDefinition.define k x o c {u} {v} {w} {params} h i j l m n d) =
-    finds_so (λ found. refl) (finds_skip k (finds_name x (word_of x).at.start (named_at x) (finds_skip o (finds_before u (finds_skip c (finds_before v (block_holds d (bind_all params no_names))))))))
+definition_holds {f = f} (IsDefinition.define k x o c {u} {v} {w} {params} h i j l m n d) =
+    finds_so (same_alone body_of (scoped_function f)) (finds_skip k (finds_name x (word_of x).at.start (named_at x) (finds_skip o (finds_before u (finds_skip c (finds_before v (block_holds d (bind_all params no_names))))))))
 
 function_holds : {w : List Token} {f : FunDef} → IsFun w f → HoldFunctions (f ∷ []) w
 function_holds (IsFun.plain d) = definition_holds d
@@ -88,8 +99,33 @@ placed_by fs w end h lie = subst AreApart (ap₂ (λ a b. a ++ b) (sym (starts_s
 program_holds : {w : List Token} {tree : Program} → IsProgram w tree → HoldFunctions (functions_of tree) w
 program_holds (IsProgram.program d) = decls_hold d
 
+-- ---- the uses in one function
+
+first_or_later : (g : FunDef) (fs : List FunDef) (f : FunDef) → AreApart (uses_at (uses_in g.body) ++ uses_at (walk_all body_of fs).uses)
+    → (AreApart (uses_at (walk_all body_of fs).uses) → OneOf (λ other. other ≡ f) fs → AreApart (uses_at (uses_in f.body)))
+    → (g ≡ f) ⊎ OneOf (λ other. other ≡ f) fs → AreApart (uses_at (uses_in f.body))
+first_or_later g fs f apart next (inl is) = subst (λ (h : FunDef). AreApart (uses_at (uses_in h.body))) is (apart_front (uses_at (uses_in g.body)) (uses_at (walk_all body_of fs).uses) apart)
+first_or_later g fs f apart next (inr later) = next (apart_back (uses_at (uses_in g.body)) (uses_at (walk_all body_of fs).uses) apart) later
+
+-- where the uses of all are apart, those of each are
+each_apart : (fs : List FunDef) → AreApart (uses_at (walk_all body_of fs).uses) → (f : FunDef) → OneOf (λ other. other ≡ f) fs → AreApart (uses_at (uses_in f.body))
+each_apart [] apart f one = absurd one
+each_apart (g ∷ fs) apart f one =
+    first_or_later g fs f (subst AreApart (map-append (λ (u : PlacedUse). u.site) (uses_in g.body) (walk_all body_of fs).uses) apart) (λ rest. each_apart fs rest f) one
+
+uses_by : (fs : List FunDef) (w : List Token) (end : ℕ) → HoldFunctions fs w → LieBetween 0 w end → AreApart (uses_at (walk_all body_of (map scoped_function fs)).uses)
+uses_by fs w end h lie = subst AreApart (append-nil _) (split_apart 0 end h.used lie)
+
+-- ---- the laws
+
 pub places_law : PlacesLaw
 places_law text program is =
     subst ArePlaced (sym is.names)
     (subst (λ fs. AreApart (starts_of fs ++ sites_of (lambdas_of fs))) (sym (of_scoped is.tree.decls))
     (placed_by (functions_of is.tree) is.tokens (length text) (program_holds is.is) (tokens_lie text is.tokens is.has.read)))
+
+pub uses_law : UsesLaw
+uses_law text program is =
+    subst AreUsesApart (sym is.names)
+    (λ f one. each_apart (map scoped_function (functions_of is.tree)) (uses_by (functions_of is.tree) is.tokens (length text) (program_holds is.is) (tokens_lie text is.tokens is.has.read)) f
+    (subst (OneOf (λ other. other ≡ f)) (of_scoped is.tree.decls) one))

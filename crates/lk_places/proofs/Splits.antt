@@ -5,7 +5,7 @@ use Rattle.lk_index.specs.Places.{IsNone, AreApart}
 use Rattle.lk_parse.specs.Tokens.{LieBetween}
 
 -- Two lists of starts of some of these tokens, each in the order of the tokens: those of names, and those of lambdas. No token
--- is in both.
+-- is in both. In place of names there may be uses of functions.
 pub data Split : List ℕ → List ℕ → List Token → Type 0 where
   none : Split [] [] []
   skip : (t : Token) {names sites : List ℕ} {w : List Token} → Split names sites w → Split names sites (t ∷ w)
@@ -88,3 +88,17 @@ split_apart from to (Split.name t {names = names} {sites = sites} is d) lie =
     (none_append _ names sites (none_behind _ t names is lie.1 (names_from t.span.end to d lie.2)) (none_behind _ t sites is lie.1 (sites_from t.span.end to d lie.2)), split_apart t.span.end to d lie.2)
 split_apart from to (Split.lambda t {names = names} {sites = sites} is d) lie =
     apart_with _ names sites (none_behind _ t names is lie.1 (names_from t.span.end to d lie.2)) (none_behind _ t sites is lie.1 (sites_from t.span.end to d lie.2)) (split_apart t.span.end to d lie.2)
+
+-- ---- a part of numbers that are apart
+
+none_front : (n : ℕ) (ns ms : List ℕ) → IsNone n (ns ++ ms) → IsNone n ns
+none_front n [] ms h = tt
+none_front n (m ∷ ns) ms h = (h.0, none_front n ns ms h.1)
+
+pub apart_front : (ns ms : List ℕ) → AreApart (ns ++ ms) → AreApart ns
+apart_front [] ms apart = tt
+apart_front (n ∷ ns) ms apart = (none_front n ns ms apart.0, apart_front ns ms apart.1)
+
+pub apart_back : (ns ms : List ℕ) → AreApart (ns ++ ms) → AreApart ms
+apart_back [] ms apart = apart
+apart_back (n ∷ ns) ms apart = apart_back ns ms apart.1

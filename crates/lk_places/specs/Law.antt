@@ -1,8 +1,13 @@
--- The law of places: in a program that a text stands for, each function's name and each lambda begins at a place of its own.
+-- The laws of places, for a program that a text stands for. Each function's name and each lambda begins at a place of its own,
+-- and so does each use of a function in a body.
 use Rattle.std.specs.Prelude.{ℕ, List}
 use Rattle.lk_ast.specs.declared.declaration.Program.{Program}
+use Rattle.lk_ground.specs.UsesApart.{AreUsesApart}
 use Rattle.lk_index.specs.Places.{ArePlaced}
 use Rattle.lk_parse.specs.Refusals.{IsProgramText}
 
 abbrev pub PlacesLaw : Type 0
 PlacesLaw = (text : List ℕ) (program : Program) → IsProgramText text program → ArePlaced program
+
+abbrev pub UsesLaw : Type 0
+UsesLaw = (text : List ℕ) (program : Program) → IsProgramText text program → AreUsesApart program

@@ -1,0 +1,125 @@
+-- Finite maps from labels: what stands at a label after an insertion, lists of entries in order, maps of the same entries.
+use Rattle.std.proofs.Common.{◌≡◌, Bool, true, false, ◌&&◌, ◌⊎◌, inl, inr, List, [], ◌∷◌, refl, sym, ◌∙◌, ap, Some, None, cond}
+use Rattle.std.specs.Cmp.Lexicographic.{nat_list_cmp_total}
+use Rattle.std.specs.FinMap as fin
+use Rattle.std.specs.Ordering.{eq_by_cmp, is_eq, is_lt, ordering_reverse}
+use Rattle.std.specs.Prelude.{T}
+use Rattle.std.specs.declared.cmp.Ordering.{Ordering}
+use Rattle.std.specs.declared.cmp.Ordering.TheVariants.{Less, Equal, Greater}
+use Rattle.lk_types.specs.Rows.{Label, label_order}
+
+-- ---- equal labels tie, and no others
+
+self_equal : (o : Ordering) → o ≡ ordering_reverse o → is_eq o ≡ true
+self_equal Less e = cc
+self_equal Equal e = refl
+self_equal Greater e = cc
+
+pub labels_tie : (l k : Label) → l ≡ k → eq_by_cmp label_order l k ≡ true
+labels_tie l k e = ap (λ k. is_eq (label_order l k)) (sym e) ∙ self_equal (label_order l l) (nat_list_cmp_total.antisymm l l)
+
+not_equal : (o : Ordering) → (o ≡ Equal → ⊥) → is_eq o ≡ false
+not_equal Less n = refl
+not_equal Equal n = absurd (n refl)
+not_equal Greater n = refl
+
+pub tied_labels : (l k : Label) → label_order l k ≡ Equal → l ≡ k
+tied_labels l k e = fin.slice_cmp-IsAntisymmetric fin.nat_cmp-IsAntisymmetric l k e
+
+pub labels_differ : (l k : Label) → (l ≡ k → ⊥) → eq_by_cmp label_order l k ≡ false
+labels_differ l k n = not_equal (label_order l k) (λ e. n (tied_labels l k e))
+
+abbrev pub Tied : Label → Label → Type 0
+Tied l k = (eq_by_cmp label_order l k ≡ true) × (l ≡ k)
+
+abbrev pub Differ : Label → Label → Type 0
+Differ l k = (eq_by_cmp label_order l k ≡ false) × (l ≡ k → ⊥)
+
+true_false : true ≡ false → ⊥
+true_false e = cc
+
+pub tie_cases : (l k : Label) → Tied l k ⊎ Differ l k
+tie_cases l k = by_order (label_order l k) refl
+  where
+    by_order : (o : Ordering) → label_order l k ≡ o → Tied l k ⊎ Differ l k
+    by_order Less is = inr (ap is_eq is, λ same. true_false (sym (labels_tie l k same) ∙ ap is_eq is))
+    by_order Equal is = inl (ap is_eq is, tied_labels l k is)
+    by_order Greater is = inr (ap is_eq is, λ same. true_false (sym (labels_tie l k same) ∙ ap is_eq is))
+
+-- ---- tests
+
+both : (a b : Bool) → T a → T b → T (a && b)
+both true b p q = q
+both false b p q = p
+
+first : (a b : Bool) → T (a && b) → T a
+first true b p = tt
+first false b p = p
+
+second : (a b : Bool) → T (a && b) → T b
+second true b p = p
+second false b p = absurd p
+
+less_differs : (o : Ordering) → T (is_lt o) → is_eq o ≡ false
+less_differs Less p = refl
+less_differs Equal p = absurd p
+less_differs Greater p = absurd p
+
+-- ---- maps
+
+module _ {X : Type 0} where
+  pub same_maps : (m n : fin.FinMap label_order X) → ((l : Label) → fin.get m l ≡ fin.get n l) → m ≡ n
+  same_maps m n h = fin.same_map nat_list_cmp_total (fin.slice_cmp-IsAntisymmetric fin.nat_cmp-IsAntisymmetric) m n h
+
+  pub get_here : (m : fin.FinMap label_order X) (k : Label) (x : X) (l : Label) → l ≡ k → fin.get (fin.insert m k x) l ≡ Some x
+  get_here m k x l e = fin.get-insert nat_list_cmp_total m k x l ∙ ap (λ b. cond b (Some x) (fin.get m l)) (labels_tie l k e)
+
+  pub get_there : (m : fin.FinMap label_order X) (k : Label) (x : X) (l : Label) → (l ≡ k → ⊥) → fin.get (fin.insert m k x) l ≡ fin.get m l
+  get_there m k x l n = fin.get-insert nat_list_cmp_total m k x l ∙ ap (λ b. cond b (Some x) (fin.get m l)) (labels_differ l k n)
+
+  pub removed_here : (m : fin.FinMap label_order X) (k l : Label) → l ≡ k → fin.get (fin.remove m k) l ≡ None
+  removed_here m k l e = fin.get-remove nat_list_cmp_total m k l ∙ ap (λ b. cond b None (fin.get m l)) (labels_tie l k e)
+
+  pub removed_there : (m : fin.FinMap label_order X) (k l : Label) → (l ≡ k → ⊥) → fin.get (fin.remove m k) l ≡ fin.get m l
+  removed_there m k l n = fin.get-remove nat_list_cmp_total m k l ∙ ap (λ b. cond b None (fin.get m l)) (labels_differ l k n)
+
+  -- ---- lists of entries
+
+  pub find_here : (l : Label) (e : Label × X) (es : List (Label × X)) → l ≡ e.0 → fin.find label_order l (e ∷ es) ≡ Some e.1
+  find_here l e es same = ap (λ b. cond b (Some e.1) (fin.find label_order l es)) (labels_tie l e.0 same)
+
+  pub find_there : (l : Label) (e : Label × X) (es : List (Label × X)) → (l ≡ e.0 → ⊥) → fin.find label_order l (e ∷ es) ≡ fin.find label_order l es
+  find_there l e es n = ap (λ b. cond b (Some e.1) (fin.find label_order l es)) (labels_differ l e.0 n)
+
+  -- the label is below all of these, and they are in order
+  abbrev is_below : Label → List (Label × X) → Bool
+  is_below l [] = true
+  is_below l (e ∷ es) = is_lt (label_order l e.0) && is_below l es
+
+  abbrev in_order : List (Label × X) → Bool
+  in_order es = fin.is_sorted label_order es
+
+  -- the first label of a list in order stands nowhere in the rest
+  pub find_rest : (l : Label) (x : X) (es : List (Label × X)) → T (fin.is_sorted label_order ((l, x) ∷ es)) → fin.find label_order l es ≡ None
+  find_rest l x [] h = refl
+  find_rest l x (e ∷ es) h =
+      let below = first (is_below l (e ∷ es)) (in_order (e ∷ es)) h in
+      let rest = second (is_below l (e ∷ es)) (in_order (e ∷ es)) h in
+      ap (λ b. cond b (Some e.1) (fin.find label_order l es)) (less_differs (label_order l e.0) (first (is_lt (label_order l e.0)) (is_below l es) below))
+      ∙ find_rest l x es (both (is_below l es) (in_order es) (second (is_lt (label_order l e.0)) (is_below l es) below) (second (is_below e.0 es) (in_order es) rest))
+
+  pub sorted_rest : (e : Label × X) (es : List (Label × X)) → T (fin.is_sorted label_order (e ∷ es)) → T (fin.is_sorted label_order es)
+  sorted_rest e es h = second (is_below e.0 es) (in_order es) h
+
+  -- a list in order is that of its map
+  pub entries_back : (es : List (Label × X)) → T (fin.is_sorted label_order es) → fin.entries (fin.from_entries {R = label_order} es) ≡ es
+  entries_back es h =
+      ap fin.entries (same_maps (fin.from_entries es) (fin.from_sorted es)
+      (λ l. fin.get-from_entries nat_list_cmp_total es l ∙ sym (fin.get-from_sorted label_order es l h)))
+      ∙ fin.entries-from_sorted label_order es h
+
+  pub map_back : (m : fin.FinMap label_order X) → fin.from_entries (fin.entries m) ≡ m
+  map_back m = same_maps (fin.from_entries (fin.entries m)) m (λ l. fin.get-from_entries nat_list_cmp_total (fin.entries m) l ∙ sym (fin.get-entries m l))
+
+  pub no_entries : fin.entries (fin.empty {X = X} {R = label_order}) ≡ []
+  no_entries = entries_back [] tt

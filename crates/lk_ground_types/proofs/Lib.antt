@@ -1,0 +1,17 @@
+pub mod Arms
+pub mod Binding
+pub mod BoundRows
+pub mod Building
+pub mod Counts
+pub mod EffectLists
+pub mod Emptied
+pub mod FunctionEffects
+pub mod GroundNodes
+pub mod LabelMaps
+pub mod OwnedRows
+pub mod Parts
+pub mod ShapesUnfold
+pub mod Sizing
+pub mod Tables
+pub mod TypeInduction
+pub mod Variables

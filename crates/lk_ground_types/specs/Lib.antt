@@ -1,0 +1,10 @@
+pub mod Bound
+pub mod Counting
+pub mod Forms
+pub mod Functions
+pub mod Law
+pub mod Least
+pub mod Made
+pub mod Matching
+pub mod Shapes
+pub mod Sizes

@@ -1,0 +1,22 @@
+use Rattle.std.proofs.Common.{subst}
+use Rattle.std.proofs.lemmas.Result.{err_from_is_err_and}
+use Rattle.lk_mono.proofs.Keeping.{grounded_keeps}
+use Rattle.lk_mono.proofs.Walking.{handed_on}
+use Rattle.lk_mono.specs.Grounded.{IsGrounded}
+use Rattle.lk_mono.specs.Instances.{AreTooMany, IsTooLarge}
+use Rattle.lk_mono.specs.Refused.{HasFault}
+use Rattle.lk_mono.proofs.program.ground.Goals as goal
+
+pub returns-in_err-ground_source-clause-too_many : goal.returns-in_err-ground_source-clause-too_many
+returns-in_err-ground_source-clause-too_many c is = subst (λ p. AreTooMany p c.args.typed.now.schemes c.args.typed.now.types) c.program-program.ensures.same (c.in_err-ground_source.ensures.too_many (handed_on _ _ _ (err_from_is_err_and c.from_residual-in_err-ground_source.result c.from_residual-in_err-ground_source.ensures.1) is))
+
+pub returns-in_err-ground_source-clause-too_large : goal.returns-in_err-ground_source-clause-too_large
+returns-in_err-ground_source-clause-too_large c at is = subst (λ p. IsTooLarge p c.args.typed.now.schemes c.args.typed.now.types at) c.program-program.ensures.same (c.in_err-ground_source.ensures.too_large at (handed_on _ _ _ (err_from_is_err_and c.from_residual-in_err-ground_source.result c.from_residual-in_err-ground_source.ensures.1) is))
+
+pub returns-in_err-ground_source-clause-shape : goal.returns-in_err-ground_source-clause-shape
+returns-in_err-ground_source-clause-shape c kind at is = subst (λ p. HasFault p c.args.typed.now.schemes c.args.typed.now.types kind at) c.program-program.ensures.same (c.in_err-ground_source.ensures.shape kind at (handed_on _ _ _ (err_from_is_err_and c.from_residual-in_err-ground_source.result c.from_residual-in_err-ground_source.ensures.1) is))
+
+pub returns-clause-keeps : goal.returns-clause-keeps
+returns-clause-keeps c =
+    grounded_keeps c.ground_laws.ensures.instances c.args.program.now c.args.typed.now.schemes c.args.typed.now.types c.in_ok-ground_source.field-0
+    (subst (λ p. IsGrounded p c.args.typed.now.schemes c.args.typed.now.types c.in_ok-ground_source.field-0) c.program-program.ensures.same c.in_ok-ground_source.ensures.grounded)

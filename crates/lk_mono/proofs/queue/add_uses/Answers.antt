@@ -1,0 +1,42 @@
+use Rattle.std.proofs.Common.{◌≡◌, sym, subst, ◌∙◌, ap, ◌∷◌, ◌+◌, drop}
+use native.Mathlib.Omega.{arith}
+use Rattle.std.proofs.Math.ListN.{drop_of_length-le}
+use Rattle.std.proofs.lemmas.List.{drop_more}
+use Rattle.lk_mono.proofs.Queueing.{AddsOne, Goes, ends, passes, starts, stops, takes}
+use Rattle.lk_mono.specs.Queues.{as_wanted}
+use Rattle.lk_mono.specs.Looks.{as_found, as_uses}
+use Rattle.lk_mono.specs.declared.look.Found.{Found}
+use Rattle.lk_mono.proofs.queue.add_uses.Goals as goal
+use Rattle.lk_mono.proofs.queue.add_uses.Goals.{else-holds-via-then-holds+in_ok-add_use+else-not-branch, else-holds-via-else-holds}
+
+pub loop-found-init : goal.loop-found-init
+loop-found-init c = starts (as_wanted c.args.wanted) (as_uses c.args.uses.now) c.args.queue.now
+
+pub returns-then-not-branch : goal.returns-then-not-branch
+returns-then-not-branch c =
+    let uses = c.args.uses.now in
+    let i = c.loop-found.found-index in
+    let f = c.found-item.result in
+    let next : drop i uses ≡ f ∷ drop (i + 1) uses = drop_more uses i f c.loop-found-test.true ∙ ap (λ (x : Found). x ∷ drop (i + 1) uses) (sym c.found-item.is) in
+    let goes : Goes (as_wanted c.args.wanted) (as_uses uses) c.args.queue.now (as_found f ∷ as_uses (drop (i + 1) uses)) c.loop-found.queue = subst (λ left. Goes (as_wanted c.args.wanted) (as_uses uses) c.args.queue.now (as_uses left) c.loop-found.queue) next c.loop-found.invariant in
+    stops (as_wanted c.args.wanted) (as_uses uses) c.args.queue.now (as_found f) (as_uses (drop (i + 1) uses)) c.loop-found.queue goes (sym c.holds.ensures ∙ c.if-holds.true) c.add_use.new.queue
+    (subst (AddsOne (as_found f) c.loop-found.queue c.add_use.new.queue) c.if-not-branch.true c.in_ok-add_use.ensures)
+
+pub loop-found-preserved : goal.loop-found-preserved
+loop-found-preserved c =
+    let uses = c.args.uses.now in
+    let i = c.loop-found.found-index in
+    let f = c.found-item.result in
+    let next : drop i uses ≡ f ∷ drop (i + 1) uses = drop_more uses i f c.loop-found-test.true ∙ ap (λ (x : Found). x ∷ drop (i + 1) uses) (sym c.found-item.is) in
+    let goes : Goes (as_wanted c.args.wanted) (as_uses uses) c.args.queue.now (as_found f ∷ as_uses (drop (i + 1) uses)) c.loop-found.queue = subst (λ left. Goes (as_wanted c.args.wanted) (as_uses uses) c.args.queue.now (as_uses left) c.loop-found.queue) next c.loop-found.invariant in
+    elim c.else-holds.branch [
+      | else-holds-via-then-holds+in_ok-add_use+else-not-branch w ↦ subst (Goes (as_wanted c.args.wanted) (as_uses uses) c.args.queue.now (as_uses (drop (i + 1) uses))) (sym w.queue-is)
+          (takes (as_wanted c.args.wanted) (as_uses uses) c.args.queue.now (as_found f) (as_uses (drop (i + 1) uses)) c.loop-found.queue goes (sym c.holds.ensures ∙ w.if-holds.true) w.add_use.new.queue
+          (subst (AddsOne (as_found f) c.loop-found.queue w.add_use.new.queue) w.if-not-branch.false w.in_ok-add_use.ensures))
+      | else-holds-via-else-holds w ↦ subst (Goes (as_wanted c.args.wanted) (as_uses uses) c.args.queue.now (as_uses (drop (i + 1) uses))) (sym w.queue-is)
+          (passes (as_wanted c.args.wanted) (as_uses uses) c.args.queue.now (as_found f) (as_uses (drop (i + 1) uses)) c.loop-found.queue goes (sym c.holds.ensures ∙ w.if-holds.false))
+    ]
+
+pub returns : goal.returns
+returns c = ends (as_wanted c.args.wanted) (as_uses c.args.uses.now) c.args.queue.now c.loop-found.queue
+    (subst (λ left. Goes (as_wanted c.args.wanted) (as_uses c.args.uses.now) c.args.queue.now (as_uses left) c.loop-found.queue) (drop_of_length-le c.args.uses.now (omega (arith, c.loop-found-test.false))) c.loop-found.invariant)

@@ -1,0 +1,14 @@
+pub mod Flatness
+pub mod Grounded
+pub mod Held
+pub mod Instances
+pub mod Judged
+pub mod Keeps
+pub mod Listed
+pub mod Looks
+pub mod Mains
+pub mod Members
+pub mod Queues
+pub mod Refused
+pub mod Shapes
+pub mod Steps

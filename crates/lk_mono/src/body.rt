@@ -1,0 +1,127 @@
+//! Instances, walked one after another.
+
+ghost use Rattle.lk_mono.specs.Held.{AreHeld, IsSource, IsSound};
+ghost use Rattle.lk_mono.specs.Instances.{Body as TheBody};
+ghost use Rattle.lk_mono.specs.Queues.{as_wanted};
+ghost use Rattle.lk_mono.specs.Steps.{AllWalked, Gathered, IsFullAt, IsLargeAt, IsStep, StopsFull, StopsLarge};
+ghost use Rattle.lk_mono.specs.declared.body.Source.{Source as TheSource};
+ghost use Rattle.lk_mono.specs.declared.error.MonoError.TheVariants as errors;
+ghost use Rattle.lk_mono.specs.declared.error.ShapeKind.{ShapeKind};
+ghost use Rattle.lk_ast.specs.declared.place.Span.{Span as TheSpan};
+ghost use Rattle.lk_types.specs.declared.ground.Ground.{Ground as TheGround};
+ghost use Rattle.std.specs.Prelude.{◌≡◌, ◌<◌, ℕ, Err, IfOk, List as TheList, Some, length, map};
+
+use crate::error::MonoError;
+use crate::look::{Found, look_into};
+use crate::member::{Member, find_member};
+use crate::queue::{Queue, Wanted, add_uses};
+use lk_ast::{List, NoMemory, Program};
+use lk_infer::Typed;
+use lk_outline::outline_laws;
+use lk_principal::principal_laws;
+use lk_types::Ground;
+use std::alloc::Global;
+
+/// A program, what is inferred of it, and its functions with what is inferred of each.
+#[derive(Clone, Copy)]
+pub struct Source<'m, 'p> {
+    pub program: &'p Program,
+    pub typed: &'p Typed,
+    pub members: &'m [Member<'p>],
+}
+
+/// An instance: its function, the types of its nodes, and what it uses.
+#[derive(Drop)]
+pub struct Body<'m, 'p> {
+    pub member: &'m Member<'p>,
+    pub types: List<Ground>,
+    pub uses: List<Found<'p>>,
+}
+
+/// The types, of which each is made.
+fn made_types(alloc: Global, types: List<Option<Ground>>) -> Result<List<Ground>, NoMemory>
+    ensures { IfOk result (λ made. (ts : TheList TheGround) → types ≡ map (λ t. Some t) ts → made ≡ ts) }
+{
+    let mut made = List::new(alloc);
+    for ty in types.into_vec() {
+        if let Some(ty) = ty {
+            made.push(ty)?;
+        }
+    }
+    Ok(made)
+}
+
+/// Walks the instance of that number: lists what it uses that is looked for.
+fn walk<'m, 'p>(
+    alloc: Global,
+    source: Source<'m, 'p>,
+    queue: &mut Queue<'p>,
+    wanted: Wanted,
+    number: usize,
+) -> Result<Body<'m, 'p>, MonoError>
+    requires source { IsSource source }
+    requires sound { (others : ℕ) × IsSound source others queue.now }
+    requires number { number < length queue.now.listed }
+    ensures walked { IfOk result (λ held. (others : ℕ) → IsSound source.entry others queue.old → IsStep source.entry (as_wanted wanted) others queue.old number held queue.new) }
+    ensures full { result ≡ Err errors.TooManyInstances → (others : ℕ) → IsSound source.entry others queue.old → IsFullAt source.entry (as_wanted wanted) others queue.old number }
+    ensures large { (at : TheSpan) → result ≡ Err (errors.TypeTooLarge at) → (others : ℕ) → IsSound source.entry others queue.old → IsLargeAt source.entry (as_wanted wanted) others queue.old number at }
+    ensures shape { (kind : ShapeKind) (at : TheSpan) → result ≡ Err (errors.Shape kind at) → ⊥ }
+{
+    outline_laws();
+    principal_laws();
+    let next = queue.listed.at(number);
+    let Some(member) = find_member(source.members, next.name) else {
+        unreachable!();
+    };
+    let looked = look_into(alloc, member, &next.ty)?;
+    if !add_uses(alloc, queue, wanted, looked.uses.as_slice())? {
+        return Err(MonoError::TooManyInstances);
+    }
+    match looked.large {
+        Some(at) => Err(MonoError::TypeTooLarge(at)),
+        None => Ok(Body {
+            member,
+            types: made_types(alloc, looked.types)?,
+            uses: looked.uses,
+        }),
+    }
+}
+
+/// Walks all instances of a list in turn, those that are listed meanwhile too.
+pub fn walk_all<'m, 'p>(
+    alloc: Global,
+    source: Source<'m, 'p>,
+    queue: &mut Queue<'p>,
+    wanted: Wanted,
+) -> Result<List<Body<'m, 'p>>, MonoError>
+    requires source { IsSource source }
+    requires sound { (others : ℕ) × IsSound source others queue.now }
+    ensures walked { IfOk result (λ helds. (others : ℕ) → IsSound source.entry others queue.old → AllWalked source.entry (as_wanted wanted) others queue.old helds queue.new) }
+    ensures full { result ≡ Err errors.TooManyInstances → (others : ℕ) → IsSound source.entry others queue.old → StopsFull source.entry (as_wanted wanted) others queue.old }
+    ensures large { (at : TheSpan) → result ≡ Err (errors.TypeTooLarge at) → (others : ℕ) → IsSound source.entry others queue.old → StopsLarge source.entry (as_wanted wanted) others queue.old at }
+    ensures shape { (kind : ShapeKind) (at : TheSpan) → result ≡ Err (errors.Shape kind at) → ⊥ }
+{
+    let mut bodies = List::new(alloc);
+    while bodies.len() < queue.listed.len() {
+        let body = walk(alloc, source, queue, wanted, bodies.len())?;
+        bodies.push(body)?;
+    }
+    Ok(bodies)
+}
+
+/// Lists what instances use inside of queries, updates and deletions. Whether there was room.
+pub fn gather<'p>(
+    alloc: Global,
+    queue: &mut Queue<'p>,
+    mains: &[Body<'_, 'p>],
+) -> Result<bool, NoMemory>
+    ensures { IfOk result (λ ok. (source : TheSource) (others : ℕ) (bodies : TheList TheBody) → IsSource source → IsSound source others queue.old → AreHeld source mains.now bodies → Gathered source others bodies queue.old queue.new ok) }
+{
+    principal_laws();
+    for body in mains {
+        if !add_uses(alloc, queue, Wanted::Inside, body.uses.as_slice())? {
+            return Ok(false);
+        }
+    }
+    Ok(true)
+}

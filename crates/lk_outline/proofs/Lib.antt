@@ -1,0 +1,10 @@
+pub mod Binders
+pub mod Captured
+pub mod Forms
+pub mod Lengths
+pub mod Levels
+pub mod OperatorNodes
+pub mod Outlined
+pub mod Put
+pub mod Stretches
+pub mod TypedSites

@@ -1,0 +1,6 @@
+pub mod Law
+pub mod Nodes
+pub mod Outline
+pub mod Shown
+pub mod Typed
+pub mod Walked

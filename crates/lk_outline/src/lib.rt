@@ -1,0 +1,15 @@
+//! Outlines of function bodies, and the nodes of typed ones.
+//!
+//! `specs/Nodes` says which nodes a typed expression has, `specs/Outline` what its outline is, and `specs/Typed` how the one
+//! comes from the other; `outline_laws` proves it.
+#![tactic(auto)]
+
+mod law;
+mod site;
+#[cfg(test)]
+mod tests;
+mod walk;
+
+pub use law::outline_laws;
+pub use site::{Around, Kind, Site};
+pub use walk::outline;

@@ -1,0 +1,8 @@
+pub mod Beside
+pub mod Emptied
+pub mod Instances
+pub mod Places
+pub mod Shares
+pub mod Standing
+pub mod There
+pub mod Used
