@@ -14,6 +14,8 @@ mod refused;
 #[cfg(test)]
 mod rows;
 #[cfg(test)]
+mod shapes;
+#[cfg(test)]
 mod sizes;
 #[cfg(test)]
 mod tables;

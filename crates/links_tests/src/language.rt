@@ -28,7 +28,6 @@ const VALUES: Rows = &[
     ("()", "null"),
     ("T(1)", "{\"tag\":\"T\",\"value\":1}"),
     ("T", "{\"tag\":\"T\",\"value\":null}"),
-    ("fun (x) { x }", "\"fun\""),
 ];
 
 const VALUES_OF_CHOICES: Rows = &[
@@ -71,14 +70,10 @@ const VALUES_OF_NUMBERS: Rows = &[
 const VALUES_OF_COMPARISONS: Rows = &[
     ("(x = 1, y = [T]) == (y = [T], x = 1)", "true"),
     ("1 <> 2", "true"),
-    ("main == main", "false"),
-    ("[main] <> [main]", "true"),
     ("2 <= 2", "true"),
     ("false < true", "true"),
     ("\"Z\" > \"a\"", "false"),
     ("\"10\" >= \"9\"", "false"),
-    ("[1] < [2]", "false"),
-    ("[] <= []", "false"),
 ];
 
 #[test]
@@ -143,8 +138,8 @@ const LINES: Programs = &[
         "fun f(x) { x } fun main(a) client { [f, fun (y) { y }] }",
         "ann",
         "",
-        "done 3 [\"fun\",\"fun\"]\n",
-        0,
+        "refused 12 Shape MainType 19 23\n",
+        1,
     ),
     (
         "fun f(x, y) { x - y } fun main(a) client { f(3, 1) }",

@@ -40,6 +40,8 @@ mod programs_numbers;
 #[cfg(test)]
 mod programs_places;
 #[cfg(test)]
+mod programs_shapes;
+#[cfg(test)]
 mod programs_tables;
 #[cfg(test)]
 mod shown_trees;

@@ -493,11 +493,11 @@ const DONE: Rows = &[
 
 // What the evaluation makes of them is another matter.
 const BOUND: &[&str] = &[
-    "fun f(x) { x } fun main(a) client { f }",
+    "fun f(x) { x } fun main(a) client { var g = f; a }",
     "fun main(a) client { (x = 1 | (y = (x = 2))).x }",
     "fun main(a) client { [(x = 1), (x = 2)] }",
     "fun main(a) client { (x = (x = a)) }",
-    "fun main(a) client { fun (x) { fun (x) { x } } }",
+    "fun main(a) client { var f = fun (x) { fun (x) { x } }; a }",
     "fun main(a) client { switch (T(T(1))) { case T(x) -> switch (x) { case T(x) -> x case x -> 0 } case x -> 1 } }",
     "table t with (n : Int); fun main(a) client { for (t <-- t) [t] }",
     "table t with (n : Int); fun main(a) client { insert t values [(n = 1), (n = 3)] }",

@@ -187,8 +187,8 @@ const BEFORE_IT_ACTS: Programs = &[
         "table t with (n : Int); fun main(a) client { query { [a] } }",
         "ann",
         "1",
-        "enter\nno-store 45 58\n",
-        8,
+        "refused 12 Shape QueryNotFlat 45 58\n",
+        1,
     ),
     (
         "table t with (n : Int); fun main(a) client { update (x <-- t) where (x.n == 1) set (n = x.n + 1) }",
@@ -265,8 +265,8 @@ const INSIDE_OTHERS: Programs = &[
         "table t with (n : Int); fun main(a) client { fun () { delete (x <-- t) where (true) } }",
         "ann",
         "",
-        "done 1 \"fun\"\n",
-        0,
+        "refused 12 Shape MainType 28 32\n",
+        1,
     ),
 ];
 

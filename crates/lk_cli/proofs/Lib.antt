@@ -1,4 +1,5 @@
 pub mod Forms
+pub mod Grounds
 pub mod Limits
 pub mod Lines
 pub mod Numbers

@@ -1,4 +1,4 @@
--- The session of a program that has types is that of its `main`.
+-- The session of a program that is accepted is that of its `main`.
 use Rattle.std.proofs.Common.{◌≡◌, ℕ, List, refl, sym, true≢false}
 use Rattle.std.specs.Prelude.{Option, Some, None, IfSome, IsSome}
 use Rattle.lk_ast.specs.Functions.{main_of}
@@ -8,9 +8,9 @@ use Rattle.lk_infer.specs.declared.typed.Typed.{Typed}
 use Rattle.lk_evaluation.specs.Source.{session}
 use Rattle.lk_sem.specs.SourceRuns.{IsRunOf}
 use Rattle.lk_sem.specs.declared.run.SourceRun.{SourceRun}
-use Rattle.lk_cli.specs.Answers.{IsSession, IsTyped}
+use Rattle.lk_cli.specs.Answers.{IsAccepted, IsSession}
 
-pub session_of_main : (program : Program) (typed : Typed) (arg : List ℕ) (fuel : ℕ) (run : SourceRun) → IsTyped program typed → IsSome (main_of program) → IfSome (main_of program) (λ main. IsRunOf (session program main arg) fuel run) → IsSession program arg fuel run
+pub session_of_main : (program : Program) (typed : Typed) (arg : List ℕ) (fuel : ℕ) (run : SourceRun) → IsAccepted program typed → IsSome (main_of program) → IfSome (main_of program) (λ main. IsRunOf (session program main arg) fuel run) → IsSession program arg fuel run
 session_of_main program typed arg fuel run has begins is = go (main_of program) refl begins is
   where
     go : (found : Option FunDef) → main_of program ≡ found → IsSome found → IfSome found (λ main. IsRunOf (session program main arg) fuel run) → IsSession program arg fuel run

@@ -9,6 +9,15 @@ use Rattle.lk_infer.specs.Programs.{EndsIllTyped, EndsTooLarge}
 use Rattle.lk_infer.specs.declared.error.InferError.{InferError}
 use Rattle.lk_infer.specs.declared.error.InferError.TheVariants as types
 use Rattle.lk_infer.specs.declared.typed.Typed.{Typed}
+use Rattle.lk_ground.specs.declared.program.GroundProgram.{GroundProgram}
+use Rattle.lk_mono.specs.Grounded.{IsGrounded}
+use Rattle.lk_mono.specs.Instances.{AreTooMany, IsTooLarge}
+use Rattle.lk_mono.specs.Keeps.{Keeps}
+use Rattle.lk_mono.specs.Refused.{HasFault}
+use Rattle.lk_mono.specs.declared.error.MonoError.{MonoError}
+use Rattle.lk_mono.specs.declared.error.MonoError.TheVariants as mono
+use Rattle.lk_mono.specs.declared.error.ShapeKind.{ShapeKind}
+use Rattle.lk_mono.specs.declared.error.ShapeKind.TheVariants.{MainType, EqualityAtFunction, OrderAtNonBase, QueryNotFlat, QueryCapture}
 use Rattle.lk_names.specs.Programs as names
 use Rattle.lk_names.specs.declared.error.NameError.{NameError}
 use Rattle.lk_names.specs.declared.error.NameError.TheVariants as fault
@@ -29,7 +38,7 @@ use Rattle.lk_parse.specs.Tokens.{text_limit}
 use Rattle.lk_cli.specs.declared.answer.Answer.{Answer}
 use Rattle.lk_cli.specs.declared.answer.Answer.TheVariants.{Schemes, Run}
 use Rattle.lk_cli.specs.declared.answer.Refusal.{Refusal}
-use Rattle.lk_cli.specs.declared.answer.Refusal.TheVariants.{Words, ReadFault, TextTooLong, NotUtf8, BadToken, TooNested, Unexpected, Unbound, Twice, NoMain, TypeTooLarge, IllTyped, NoMemory}
+use Rattle.lk_cli.specs.declared.answer.Refusal.TheVariants.{Words, ReadFault, TextTooLong, NotUtf8, BadToken, TooNested, Unexpected, Unbound, Twice, NoMain, TypeTooLarge, IllTyped, Shape, TooManyInstances, NoMemory}
 use Rattle.lk_cli.specs.declared.command.Command.{Command}
 use Rattle.lk_cli.specs.declared.command.Command.TheVariants.{Check, Source}
 
@@ -42,20 +51,30 @@ IsProgram files name program = (text : List ℕ) × HasText files name text × I
 abbrev pub IsTyped : Program → Typed → Type 0
 IsTyped program typed = names.IsBound program × ArePrincipal program typed.schemes × HasTypes program typed.schemes typed.types
 
--- there are such schemes and types, and the run is the evaluation of the program's session with this argument, which
--- begins with this fuel
+-- The program with these schemes and types has a ground program: its functions at the types at which sessions use them, in
+-- shapes that can be shown, compared and run by a database. Its sessions end as those of the program, with the same fuel, steps
+-- and events.
+abbrev pub HasGround : Program → Typed → Type 0
+HasGround program typed = (ground_program : GroundProgram) × IsGrounded program typed.schemes typed.types ground_program × Keeps program ground_program
+
+-- nothing refuses the program: it is typed so, and has a ground program
+abbrev pub IsAccepted : Program → Typed → Type 0
+IsAccepted program typed = IsTyped program typed × HasGround program typed
+
+-- The program is accepted with some schemes and types. The run is the evaluation of its session with this argument, which
+-- begins with this fuel.
 abbrev pub IsSession : Program → List ℕ → ℕ → SourceRun → Type 0
-IsSession program arg fuel run = (typed : Typed) × IsTyped program typed × (main : FunDef) × (main_of program ≡ Some main) × IsRunOf (session program main arg) fuel run
+IsSession program arg fuel run = (typed : Typed) × IsAccepted program typed × (main : FunDef) × (main_of program ≡ Some main) × IsRunOf (session program main arg) fuel run
 
 -- the file that a command names
 abbrev pub program_of : Command → List ℕ
 program_of (Check command) = command.program
 program_of (Source command) = command.program
 
--- What a command comes to where nothing refuses it. `check`: the program of the file, with its schemes and types.
+-- What a command comes to where nothing refuses it. `check`: the program of the file, accepted with its schemes and types.
 -- `source`: a run of that program's session.
 abbrev pub Gives : FilesSeen → Option Command → Answer → Type 0
-Gives files (Some (Check command)) (Schemes checked) = IsProgram files command.program checked.program × IsTyped checked.program checked.typed
+Gives files (Some (Check command)) (Schemes checked) = IsProgram files command.program checked.program × IsAccepted checked.program checked.typed
 Gives files (Some (Source command)) (Run run) = (program : Program) × IsProgram files command.program program × IsSession program command.arg command.fuel run
 Gives files command answer = ⊥
 
@@ -96,6 +115,13 @@ refusal_of_types (types.IllTyped at) = IllTyped at
 refusal_of_types (types.TypeTooLarge at) = TypeTooLarge at
 refusal_of_types types.NoMemory = NoMemory
 
+-- a reason why there is no ground program as a refusal
+abbrev pub refusal_of_ground : MonoError → Refusal
+refusal_of_ground (mono.TypeTooLarge at) = TypeTooLarge at
+refusal_of_ground mono.TooManyInstances = TooManyInstances
+refusal_of_ground (mono.Shape kind at) = Shape kind at
+refusal_of_ground mono.NoMemory = NoMemory
+
 -- Why a program isn't typed. Its names aren't bound, for this first reason in text order; or they are, and there is no
 -- `main`. Or its names are bound, and this is the first place of the walk through it at which what is said up to there
 -- can't hold, and it isn't well typed; or the first one at which a type that matters is too large.
@@ -108,12 +134,25 @@ IsNotTyped program (TypeTooLarge at) = names.IsBound program × EndsTooLarge pro
 IsNotTyped program NoMemory = Unit {0}
 IsNotTyped program refusal = ⊥
 
--- why a command is refused: no form has the words; there is no program; it isn't typed; want of memory has no cause
+-- Why a program with these schemes and types has no ground program. Its functions are used at too many types, or at one with
+-- too large a type, first at this node; or this is the first place at which a shape is refused, for this kind of reason.
+abbrev pub IsNotGround : Program → Typed → Refusal → Type 0
+IsNotGround program typed TooManyInstances = AreTooMany program typed.schemes typed.types
+IsNotGround program typed (TypeTooLarge at) = IsTooLarge program typed.schemes typed.types at
+IsNotGround program typed (Shape kind at) = HasFault program typed.schemes typed.types kind at
+IsNotGround program typed NoMemory = Unit {0}
+IsNotGround program typed refusal = ⊥
+
+-- why a program isn't accepted: it isn't typed; or it is, and has no ground program
+abbrev pub IsNotAccepted : Program → Refusal → Type 0
+IsNotAccepted program refusal = IsNotTyped program refusal ⊎ ((typed : Typed) × IsTyped program typed × IsNotGround program typed refusal)
+
+-- why a command is refused: no form has the words; there is no program; it isn't accepted; want of memory has no cause
 abbrev pub RefusedBy : FilesSeen → Option Command → Refusal → Type 0
 RefusedBy files None Words = Unit {0}
 RefusedBy files None NoMemory = Unit {0}
 RefusedBy files None refusal = ⊥
-RefusedBy files (Some command) refusal = HasNoProgram files (program_of command) refusal ⊎ ((program : Program) × IsProgram files (program_of command) program × IsNotTyped program refusal)
+RefusedBy files (Some command) refusal = HasNoProgram files (program_of command) refusal ⊎ ((program : Program) × IsProgram files (program_of command) program × IsNotAccepted program refusal)
 
 -- an answer with its cause
 abbrev pub Answers : FilesSeen → Option Command → Result Answer Refusal → Type 0
@@ -122,6 +161,17 @@ Answers files command answer = MatchResult answer (Gives files command) (Refused
 -- a refusal by its number and name, with a place in the program's text
 abbrev pub refused_at : ℕ → List ℕ → Span → List ℕ
 refused_at number name at = line (codes "refused" ∷ decimal number ∷ name ∷ decimal at.start ∷ decimal at.end ∷ [])
+
+abbrev pub shape_name : ShapeKind → List ℕ
+shape_name MainType = codes "MainType"
+shape_name EqualityAtFunction = codes "EqualityAtFunction"
+shape_name OrderAtNonBase = codes "OrderAtNonBase"
+shape_name QueryNotFlat = codes "QueryNotFlat"
+shape_name QueryCapture = codes "QueryCapture"
+
+-- a refusal of a shape, with the kind of its reason
+abbrev pub refused_shape : ShapeKind → Span → List ℕ
+refused_shape kind at = line (codes "refused" ∷ codes "12" ∷ codes "Shape" ∷ shape_name kind ∷ decimal at.start ∷ decimal at.end ∷ [])
 
 -- what is printed: a line for each function in text order, or the report of a run; `words`, `read fault NAME`, or
 -- `refused` with the number, the name and the fields of a refusal
@@ -140,6 +190,8 @@ printed (Err (Twice at)) = refused_at 7 (codes "Twice") at
 printed (Err NoMain) = line (codes "refused" ∷ codes "8" ∷ codes "NoMain" ∷ [])
 printed (Err (TypeTooLarge at)) = refused_at 10 (codes "TypeTooLarge") at
 printed (Err (IllTyped at)) = refused_at 11 (codes "IllTyped") at
+printed (Err (Shape kind at)) = refused_shape kind at
+printed (Err TooManyInstances) = line (codes "refused" ∷ codes "13" ∷ codes "TooManyInstances" ∷ [])
 printed (Err NoMemory) = []
 
 abbrev pub end_status : SourceEnd → ℕ
@@ -161,6 +213,8 @@ status_of (Err (Twice at)) = 1
 status_of (Err NoMain) = 1
 status_of (Err (TypeTooLarge at)) = 1
 status_of (Err (IllTyped at)) = 1
+status_of (Err (Shape kind at)) = 1
+status_of (Err TooManyInstances) = 1
 status_of (Err Words) = 2
 status_of (Err (ReadFault name)) = 3
 status_of (Err NoMemory) = 5

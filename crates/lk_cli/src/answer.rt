@@ -1,12 +1,13 @@
 //! Answers to a command line, their texts and their statuses.
 
 ghost use Rattle.std.specs.Prelude.{◌≡◌, IfOk};
-ghost use Rattle.lk_cli.specs.Answers.{printed, refused_at, status_of, end_status};
+ghost use Rattle.lk_cli.specs.Answers.{end_status, printed, refused_at, refused_shape, shape_name, status_of};
 
 use crate::report::report;
 use crate::schemes::print_schemes;
 use lk_ast::{NoMemory as OutOfMemory, Span, Text};
 use lk_infer::{InferError, Typed};
+use lk_mono::{MonoError, ShapeKind};
 use lk_names::{NameError, Scoped};
 use lk_parse::ParseError;
 use lk_sem::{SourceEnd, SourceRun};
@@ -56,6 +57,10 @@ pub enum Refusal {
     TypeTooLarge(Span),
     #[error("not well typed")]
     IllTyped(Span),
+    #[error("a shape that can not be run")]
+    Shape(ShapeKind, Span),
+    #[error("functions are used at too many types")]
+    TooManyInstances,
     #[error("out of memory")]
     NoMemory,
 }
@@ -116,12 +121,48 @@ impl From<InferError> for Refusal {
     }
 }
 
+impl From<MonoError> for Refusal {
+    ghost use Rattle.lk_cli.specs.Answers.{refusal_of_ground};
+
+    ghost from_gives = { λ error refusal. refusal ≡ refusal_of_ground error };
+
+    fn from(error: MonoError) -> Self {
+        match error {
+            MonoError::TypeTooLarge(at) => Refusal::TypeTooLarge(at),
+            MonoError::TooManyInstances => Refusal::TooManyInstances,
+            MonoError::Shape(kind, at) => Refusal::Shape(kind, at),
+            MonoError::NoMemory => Refusal::NoMemory,
+        }
+    }
+}
+
 /// The line of a refusal that has a place in the program's text.
 fn refused_at(alloc: Global, number: u8, name: &str, at: Span) -> Result<Text, OutOfMemory>
     ensures { IfOk result (λ text. text ≡ refused_at number name.now at) }
 {
     let line = format!(in alloc; "refused {} {} {} {}\n", number, name, at.start, at.end)?;
     Ok(Text::from_string(line))
+}
+
+/// The line of a refusal of a shape.
+fn refused_shape(alloc: Global, kind: ShapeKind, at: Span) -> Result<Text, OutOfMemory>
+    ensures { IfOk result (λ text. text ≡ refused_shape kind at) }
+{
+    let name = name_of_shape(kind);
+    let line = format!(in alloc; "refused 12 Shape {} {} {}\n", name, at.start, at.end)?;
+    Ok(Text::from_string(line))
+}
+
+fn name_of_shape(kind: ShapeKind) -> &'static str
+    ensures { result.now ≡ shape_name kind }
+{
+    match kind {
+        ShapeKind::MainType => "MainType",
+        ShapeKind::EqualityAtFunction => "EqualityAtFunction",
+        ShapeKind::OrderAtNonBase => "OrderAtNonBase",
+        ShapeKind::QueryNotFlat => "QueryNotFlat",
+        ShapeKind::QueryCapture => "QueryCapture",
+    }
 }
 
 /// What is printed for an answer.
@@ -153,6 +194,10 @@ pub fn print_answer(alloc: Global, answer: &Result<Answer, Refusal>) -> Result<T
         Err(Refusal::NoMain) => Ok(Text::from_str(alloc, "refused 8 NoMain\n")?),
         Err(Refusal::TypeTooLarge(at)) => refused_at(alloc, 10, "TypeTooLarge", *at),
         Err(Refusal::IllTyped(at)) => refused_at(alloc, 11, "IllTyped", *at),
+        Err(Refusal::Shape(kind, at)) => refused_shape(alloc, *kind, *at),
+        Err(Refusal::TooManyInstances) => {
+            Ok(Text::from_str(alloc, "refused 13 TooManyInstances\n")?)
+        }
         Err(Refusal::NoMemory) => Ok(Text::new(alloc)),
     }
 }
@@ -173,7 +218,9 @@ pub fn answer_status(answer: &Result<Answer, Refusal>) -> u8
         | Err(Refusal::Twice(_))
         | Err(Refusal::NoMain)
         | Err(Refusal::TypeTooLarge(_))
-        | Err(Refusal::IllTyped(_)) => 1,
+        | Err(Refusal::IllTyped(_))
+        | Err(Refusal::Shape(_, _))
+        | Err(Refusal::TooManyInstances) => 1,
         Err(Refusal::Words) => 2,
         Err(Refusal::ReadFault(_)) => 3,
         Err(Refusal::NoMemory) => 5,

@@ -1,12 +1,13 @@
 //! The top call, and its stages.
 
 ghost use Rattle.std.specs.Prelude.{◌≡◌, Result, Some, IfOk, IfErr, map, string_bytes};
-ghost use Rattle.lk_cli.specs.Answers.{Answers, Ends, HasNoProgram, IsNotTyped, IsProgram, IsSession, IsTyped};
+ghost use Rattle.lk_cli.specs.Answers.{Answers, Ends, HasGround, HasNoProgram, IsAccepted, IsNotAccepted, IsNotGround, IsNotTyped, IsProgram, IsSession, IsTyped};
 ghost use Rattle.lk_cli.specs.Seen.{seen};
 ghost use Rattle.lk_cli.specs.Words.{form_of};
 ghost use Rattle.lk_cli.specs.declared.answer.Answer.{Answer as TheAnswer};
 ghost use Rattle.lk_cli.specs.declared.answer.Refusal.{Refusal as TheRefusal};
 ghost use Rattle.lk_cli.specs.declared.command.Command.TheVariants.{Check, Source};
+ghost use Rattle.lk_ground.specs.UsesApart.{AreUsesApart};
 ghost use Rattle.lk_index.specs.Places.{ArePlaced};
 
 use crate::READ_MAX;
@@ -14,6 +15,7 @@ use crate::answer::{Answer, Checked, Refusal, answer_status, print_answer};
 use crate::command::{CheckCommand, Command, SourceCommand, read_words};
 use lk_ast::{NoMemory, Program, Text};
 use lk_infer::infer;
+use lk_mono::ground;
 use lk_names::resolve;
 use lk_outside::{Files, OutFault, Sink};
 use lk_parse::parse;
@@ -89,10 +91,12 @@ fn answer_source<F: Files>(
     Ok(Answer::Run(run))
 }
 
-/// The program of the file of that name. Its functions and lambdas begin at places of their own.
+/// The program of the file of that name. Its functions and lambdas begin at places of their own, and so do the uses of
+/// functions in each body.
 fn read_program<F: Files>(alloc: Global, name: &str, files: &mut F) -> Result<Program, Refusal>
     ensures program { IfOk result (IsProgram (seen F.contents F.failed F.faults files.old files.new) name.now) }
     ensures placed { IfOk result ArePlaced }
+    ensures apart { IfOk result AreUsesApart }
     ensures refused { IfErr result (HasNoProgram (seen F.contents F.failed F.faults files.old files.new) name.now) }
 {
     places_law();
@@ -106,12 +110,23 @@ fn read_program<F: Files>(alloc: Global, name: &str, files: &mut F) -> Result<Pr
     Ok(parse(alloc, text.as_slice())?)
 }
 
-/// The program with its names bound, its schemes and its types.
+/// The program with its names bound, its schemes and its types, and with a ground program.
 fn check_program(alloc: Global, program: Program) -> Result<Checked, Refusal>
     requires placed { ArePlaced program }
     ensures same { IfOk result (λ checked. checked.program ≡ program) }
-    ensures typed { IfOk result (λ checked. IsTyped checked.program checked.typed) }
+    ensures accepted { IfOk result (λ checked. IsAccepted checked.program checked.typed) }
     ensures placed { IfOk result (λ checked. ArePlaced checked.program) }
+    ensures refused { IfErr result (IsNotAccepted program) }
+{
+    let checked = type_program(alloc, program)?;
+    make_ground(alloc, &checked)?;
+    Ok(checked)
+}
+
+/// The program with its names bound, its schemes and its types.
+fn type_program(alloc: Global, program: Program) -> Result<Checked, Refusal>
+    ensures same { IfOk result (λ checked. checked.program ≡ program) }
+    ensures typed { IfOk result (λ checked. IsTyped checked.program checked.typed) }
     ensures refused { IfErr result (IsNotTyped program) }
 {
     let scoped = resolve(alloc, program)?;
@@ -122,7 +137,17 @@ fn check_program(alloc: Global, program: Program) -> Result<Checked, Refusal>
     })
 }
 
-/// The evaluation of the session of a program with this argument and fuel. The program is well typed, and its functions and
+/// Makes the ground program of a typed program, only to see that there is one.
+fn make_ground(alloc: Global, checked: &Checked) -> Result<(), Refusal>
+    requires typed { IsTyped checked.now.program checked.now.typed }
+    ensures made { IfOk result (λ done. HasGround checked.now.program checked.now.typed) }
+    ensures refused { IfErr result (IsNotGround checked.now.program checked.now.typed) }
+{
+    ground(alloc, &checked.program, &checked.typed)?;
+    Ok(())
+}
+
+/// The evaluation of the session of a program with this argument and fuel. The program is accepted, and its functions and
 /// lambdas begin at places of their own, so no expression in it lacks a rule.
 fn run_session(
     alloc: Global,
@@ -130,7 +155,7 @@ fn run_session(
     arg: &Text,
     fuel: u64,
 ) -> Result<SourceRun, NoMemory>
-    requires typed { IsTyped checked.now.program checked.now.typed }
+    requires accepted { IsAccepted checked.now.program checked.now.typed }
     requires placed { ArePlaced checked.now.program }
     ensures { IfOk result (IsSession checked.now.program arg.now fuel) }
 {

@@ -17,3 +17,6 @@ returns-clause-program g c =
 
 pub returns-clause-placed : goal.returns-clause-placed
 returns-clause-placed g c = c.places_law.ensures.apart c.in-Ok.text c.in_ok-parse.field-0 (rw c.as_slice.ensures at c.in_ok-parse.ensures.program)
+
+pub returns-clause-apart : goal.returns-clause-apart
+returns-clause-apart g c = c.places_law.ensures.uses c.in-Ok.text c.in_ok-parse.field-0 (rw c.as_slice.ensures at c.in_ok-parse.ensures.program)

@@ -8,9 +8,9 @@ pub source_run-requires-clause-placed : goal.source_run-requires-clause-placed
 source_run-requires-clause-placed c = subst ArePlaced (sym c.program.ensures.same) c.requires.placed
 
 pub source_run-requires-clause-typed : goal.source_run-requires-clause-typed
-source_run-requires-clause-typed c = subst IsWellTyped (sym c.program.ensures.same) (c.args.checked.now.typed.schemes, c.requires.typed.1.typed)
+source_run-requires-clause-typed c = subst IsWellTyped (sym c.program.ensures.same) (c.args.checked.now.typed.schemes, c.requires.accepted.0.1.typed)
 
 pub returns : goal.returns
 returns c =
     let run = c.in_ok-source_run.field-0 in
-    session_of_main c.args.checked.now.program c.args.checked.now.typed c.args.arg.now c.args.fuel run c.requires.typed (rw c.program.ensures.same at c.program.ensures.begins) (rw c.program.ensures.same at c.in_ok-source_run.ensures)
+    session_of_main c.args.checked.now.program c.args.checked.now.typed c.args.arg.now c.args.fuel run c.requires.accepted (rw c.program.ensures.same at c.program.ensures.begins) (rw c.program.ensures.same at c.in_ok-source_run.ensures)
