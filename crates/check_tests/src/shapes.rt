@@ -158,3 +158,40 @@ fn instances_with_too_many_nodes(rt: HostRuntime) -> Result<(), Fail> {
     let behind = "var z = [[[[y]]]]; 0 } fun main(a) client { var n = f((a = 1, b = 2)); f }";
     check_doubled(&rt, alloc, behind, 1, want)
 }
+
+/// A function, so many more of which each calls the one before it at two types, and `main`, which calls the last one.
+fn tree(alloc: Global, last: usize) -> Result<String, AllocError> {
+    let mut text = String::from_str(alloc, "fun f0(x) { () } ")?;
+    for j in 0..last {
+        let k = j + 1;
+        let function = format!(in alloc; "fun f{k}(x) {{ f{j}((a = x)); f{j}((b = x)) }} ")?;
+        text.push_str(function.as_str())?;
+    }
+    let main = format!(in alloc; "fun main(a) client {{ f{last}(a) }}")?;
+    text.push_str(main.as_str())?;
+    Ok(text)
+}
+
+/// The line that `check` prints for each of these, and that for `main`.
+fn tree_lines(alloc: Global, last: usize) -> Result<String, AllocError> {
+    let mut lines = String::new(alloc);
+    for k in 0..last + 1 {
+        let line = format!(in alloc; "f{k} : (t1) {{|t2}}-> ()\n")?;
+        lines.push_str(line.as_str())?;
+    }
+    lines.push_str("main : (String) {move|t1}-> ()\n")?;
+    Ok(lines)
+}
+
+#[test]
+fn as_many_instances_as_may_be_and_more(rt: HostRuntime) -> Result<(), Fail> {
+    let alloc = rt.alloc();
+    // 1 + 1 + 2 + 4 and so on up to 2,048 are 4,096
+    let (status, printed) = run_check(alloc, tree(alloc, 11)?.as_bytes())?;
+    assert_eq!(rt; printed.as_str(), tree_lines(alloc, 11)?.as_str());
+    assert_eq!(rt; status, 0);
+    let (status, printed) = run_check(alloc, tree(alloc, 12)?.as_bytes())?;
+    assert_eq!(rt; printed.as_str(), "refused 13 TooManyInstances\n");
+    assert_eq!(rt; status, 1);
+    Ok(())
+}

@@ -1,2 +1,3 @@
 pub mod Chains
 mod NoFloat
+pub mod PlainLevels

@@ -33,13 +33,13 @@ record_data (entry ∷ entries) = object (members_of (entry ∷ entries))
 abbrev pub tagged_data : List ℕ → Data → Data
 tagged_data tag inner = object (member (codes "tag") (string tag) (member (codes "value") inner no_members))
 
--- one level of a value, what stands inside being data already; every function as the string "fun"
+-- one level of a value, what stands inside being data already; a function, which is never written, stands for null
 abbrev pub level_data : Value-F Data Entry ⊤ → Data
 level_data (Value-F.Base base) = base_data base
 level_data (Value-F.List elements) = array (items_of elements)
 level_data (Value-F.Fields entries) = record_data entries
 level_data (Value-F.Tag tag inner) = tagged_data tag inner
-level_data (Value-F.Fun fun) = string (codes "fun")
+level_data (Value-F.Fun fun) = null
 
 -- the JSON that a value stands for
 abbrev pub value_data : Value → Data

@@ -38,7 +38,7 @@ pub use declaration::{ColumnDecl, Decl, FunDef, Program, TableDecl};
 pub use event::{Event, ReadEvent, Trap, WriteEvent};
 pub use expression::{Case, ChangeExpr, Expr, LambdaExpr, LastCase, Node, PartExpr, SortKey};
 pub use functions::{find_function, functions_in, functions_of, is_main, main_of};
-pub use json::value_text;
+pub use json::{holds_function, value_text};
 pub use list::List;
 pub use memory::NoMemory;
 pub use operators::{with_operand, with_operands};

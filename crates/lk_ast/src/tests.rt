@@ -1,7 +1,8 @@
 use crate::{
     Base, BaseKind, Boxed, Bytes, Cell, ColumnDecl, Decl, Expr, Field, FunDef, FunValue, List, Loc,
     NoMemory, Node, Program, Row, Shared, Sig, SigType, Span, TableDecl, Text, Value, Word,
-    base_order, copy_program, copy_row, copy_value, equal, first_statement, value_text,
+    base_order, copy_program, copy_row, copy_value, equal, first_statement, holds_function,
+    value_text,
 };
 use std::alloc::Global;
 use std::cmp::Ordering;
@@ -36,6 +37,22 @@ fn tag(alloc: Global, tag: &str, value: Value) -> Result<Value, NoMemory> {
 fn fun(site: u32, env: Vec<Value>) -> Value {
     let env = List::from_vec(env);
     Value::Fun(FunValue { site, env })
+}
+
+// (a = [1, "x"], t = T(number))
+fn plain(alloc: Global, number: i64) -> Result<Value, Fail> {
+    let a = list(vec![in alloc; int(1), text(alloc, "x")?]?);
+    let t = tag(alloc, "T", int(number))?;
+    let fields = vec![in alloc; field(alloc, "a", a)?, field(alloc, "t", t)?];
+    Ok(record(fields?))
+}
+
+// The text of a value, or `fun` where a function stands in it.
+fn shown(alloc: Global, value: &Value) -> Result<Text, Fail> {
+    if holds_function(value) {
+        return Ok(Text::from_str(alloc, "fun")?);
+    }
+    Ok(value_text(alloc, value)?)
 }
 
 // (a = [1, "x"], f = fun at 7 over true, t = T(number))
@@ -169,11 +186,18 @@ fn values_have_a_text(rt: HostRuntime) -> Result<(), Fail> {
         (record(unsorted?), "{\"B\":4,\"a\":3,\"aa\":2,\"b\":1}"),
         (record(twice?), "{\"a\":2}"),
         (
-            nested(alloc, -1)?,
-            "{\"a\":[1,\"x\"],\"f\":\"fun\",\"t\":{\"tag\":\"T\",\"value\":-1}}"
+            plain(alloc, -1)?,
+            "{\"a\":[1,\"x\"],\"t\":{\"tag\":\"T\",\"value\":-1}}"
         ),
+        (fun(7, Vec::new(alloc)), "fun"),
+        (nested(alloc, -1)?, "fun"),
+        (
+            list(vec![in alloc; int(1), fun(7, Vec::new(alloc))]?),
+            "fun"
+        ),
+        (tag(alloc, "T", fun(7, Vec::new(alloc)))?, "fun"),
     ]? {
-        assert_eq!(rt; value_text(alloc, &value)?.as_str(), want);
+        assert_eq!(rt; shown(alloc, &value)?.as_str(), want);
     }
     Ok(())
 }

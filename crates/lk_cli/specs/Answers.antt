@@ -13,6 +13,7 @@ use Rattle.lk_ground.specs.declared.program.GroundProgram.{GroundProgram}
 use Rattle.lk_mono.specs.Grounded.{IsGrounded}
 use Rattle.lk_mono.specs.Instances.{AreTooMany, IsTooLarge}
 use Rattle.lk_mono.specs.Keeps.{Keeps}
+use Rattle.lk_mono.specs.Plain.{ShowsPlain}
 use Rattle.lk_mono.specs.Refused.{HasFault}
 use Rattle.lk_mono.specs.declared.error.MonoError.{MonoError}
 use Rattle.lk_mono.specs.declared.error.MonoError.TheVariants as mono
@@ -32,7 +33,7 @@ use Rattle.lk_sem.specs.declared.run.SourceEnd.{SourceEnd}
 use Rattle.lk_sem.specs.declared.run.SourceEnd.TheVariants as end
 use Rattle.lk_sem.specs.declared.run.SourceRun.{SourceRun}
 use Rattle.lk_typing.specs.Programs.{ArePrincipal, IsWellTyped}
-use Rattle.lk_cli.specs.Report.{line, lines_of, report_of}
+use Rattle.lk_cli.specs.Report.{IsShownRun, line, lines_of, report_of}
 use Rattle.lk_cli.specs.Seen.{FilesSeen, HasText}
 use Rattle.lk_parse.specs.Tokens.{text_limit}
 use Rattle.lk_cli.specs.declared.answer.Answer.{Answer}
@@ -53,9 +54,9 @@ IsTyped program typed = names.IsBound program × ArePrincipal program typed.sche
 
 -- The program with these schemes and types has a ground program: its functions at the types at which sessions use them, in
 -- shapes that can be shown, compared and run by a database. Its sessions end as those of the program, with the same fuel, steps
--- and events.
+-- and events, and no function stands in what these show.
 abbrev pub HasGround : Program → Typed → Type 0
-HasGround program typed = (ground_program : GroundProgram) × IsGrounded program typed.schemes typed.types ground_program × Keeps program ground_program
+HasGround program typed = (ground_program : GroundProgram) × IsGrounded program typed.schemes typed.types ground_program × Keeps program ground_program × ShowsPlain program
 
 -- nothing refuses the program: it is typed so, and has a ground program
 abbrev pub IsAccepted : Program → Typed → Type 0
@@ -142,6 +143,12 @@ IsNotGround program typed (TypeTooLarge at) = IsTooLarge program typed.schemes t
 IsNotGround program typed (Shape kind at) = HasFault program typed.schemes typed.types kind at
 IsNotGround program typed NoMemory = Unit {0}
 IsNotGround program typed refusal = ⊥
+
+-- what is printed for the answer has no function in it
+abbrev pub IsShown : Result Answer Refusal → Type 0
+IsShown (Ok (Run run)) = IsShownRun run
+IsShown (Ok (Schemes checked)) = Unit {0}
+IsShown (Err refusal) = Unit {0}
 
 -- why a program isn't accepted: it isn't typed; or it is, and has no ground program
 abbrev pub IsNotAccepted : Program → Refusal → Type 0

@@ -10,10 +10,12 @@ use Rattle.lk_ast.specs.declared.event.Event.TheVariants.{Print, Enter, Leave, R
 use Rattle.lk_ast.specs.declared.event.Trap.{Trap}
 use Rattle.lk_ast.specs.declared.event.Trap.TheVariants.{Divide, Head, Tail}
 use Rattle.lk_ast.specs.declared.value.Value.TheVariants as value
+use Rattle.lk_mono.specs.Plain.{IsPlain, IsPlainEvent}
 use Rattle.lk_operators.specs.Values.{text}
 use Rattle.lk_sem.specs.declared.run.SourceEnd.{SourceEnd}
 use Rattle.lk_sem.specs.declared.run.SourceEnd.TheVariants as end
 use Rattle.lk_sem.specs.declared.run.SourceRun.{SourceRun}
+use Rattle.lk_types.specs.Each.{Each}
 use Rattle.lk_types.specs.TypeText.{type_text}
 use Rattle.lk_types.specs.declared.scheme.Scheme.{Scheme}
 
@@ -63,3 +65,14 @@ end_line (end.NoStore at) used = line (codes "no-store" ∷ decimal at.start ∷
 
 abbrev pub report_of : SourceRun → List ℕ
 report_of run = flat_map event_line run.log ++ end_line run.end run.used
+
+-- ---- what can be printed: values in which no function stands
+
+abbrev pub IsShownEnd : SourceEnd → Type 0
+IsShownEnd (end.Value v) = IsPlain v
+IsShownEnd (end.Trap trap) = Unit {0}
+IsShownEnd end.Spent = Unit {0}
+IsShownEnd (end.NoStore at) = Unit {0}
+
+abbrev pub IsShownRun : SourceRun → Type 0
+IsShownRun run = IsShownEnd run.end × Each IsPlainEvent run.log

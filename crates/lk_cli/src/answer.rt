@@ -1,7 +1,7 @@
 //! Answers to a command line, their texts and their statuses.
 
 ghost use Rattle.std.specs.Prelude.{◌≡◌, IfOk};
-ghost use Rattle.lk_cli.specs.Answers.{end_status, printed, refused_at, refused_shape, shape_name, status_of};
+ghost use Rattle.lk_cli.specs.Answers.{IsShown, end_status, printed, refused_at, refused_shape, shape_name, status_of};
 
 use crate::report::report;
 use crate::schemes::print_schemes;
@@ -165,8 +165,9 @@ fn name_of_shape(kind: ShapeKind) -> &'static str
     }
 }
 
-/// What is printed for an answer.
+/// What is printed for an answer, in which no function is shown.
 pub fn print_answer(alloc: Global, answer: &Result<Answer, Refusal>) -> Result<Text, OutOfMemory>
+    requires shown { IsShown answer.now }
     ensures { IfOk result (λ text. text ≡ printed answer.now) }
 {
     match answer {

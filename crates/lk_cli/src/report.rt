@@ -1,17 +1,21 @@
 //! What `source` prints for a run.
 
-ghost use Rattle.std.specs.Prelude.{◌≡◌, IfOk};
+ghost use Rattle.std.specs.List.{list_any};
+ghost use Rattle.std.specs.Prelude.{◌≡◌, IfOk, false};
 ghost use Rattle.lk_ast.specs.JsonText.{value_text_of};
+ghost use Rattle.lk_ast.specs.Plain.{holds_function};
 ghost use Rattle.lk_ast.specs.declared.value.Value.TheVariants.{List as list_value};
-ghost use Rattle.lk_cli.specs.Report.{event_line, end_line, report_of, trap_name};
+ghost use Rattle.lk_cli.specs.Report.{IsShownEnd, IsShownRun, event_line, end_line, report_of, trap_name};
+ghost use Rattle.lk_mono.specs.Plain.{IsPlainEvent};
 ghost use Rattle.lk_operators.specs.Values.{text as text_value};
 
 use lk_ast::{Base, Event, NoMemory, Text, Trap, Value, copy_values, rows_value, value_text};
 use lk_sem::{SourceEnd, SourceRun};
 use std::alloc::Global;
 
-/// The report of a run: a line for each event in order, and one for its end.
+/// The report of a run in which no function is shown: a line for each event in order, and one for its end.
 pub fn report(alloc: Global, run: &SourceRun) -> Result<Text, NoMemory>
+    requires shown { IsShownRun run.now }
     ensures { IfOk result (λ text. text ≡ report_of run.now) }
 {
     let mut text = Text::new(alloc);
@@ -23,6 +27,7 @@ pub fn report(alloc: Global, run: &SourceRun) -> Result<Text, NoMemory>
 }
 
 fn line_of_event(alloc: Global, event: &Event) -> Result<Text, NoMemory>
+    requires plain { IsPlainEvent event.now }
     ensures { IfOk result (λ line. line ≡ event_line event.now) }
 {
     match event {
@@ -53,6 +58,7 @@ fn line_of_event(alloc: Global, event: &Event) -> Result<Text, NoMemory>
 }
 
 fn line_of_end(alloc: Global, end: &SourceEnd, used: u64) -> Result<Text, NoMemory>
+    requires shown { IsShownEnd end.now }
     ensures { IfOk result (λ line. line ≡ end_line end.now used) }
 {
     match end {
@@ -92,6 +98,7 @@ fn text_of(alloc: Global, text: &Text) -> Result<Text, NoMemory>
 
 /// The JSON of a list of values.
 fn values_text(alloc: Global, values: &[Value]) -> Result<Text, NoMemory>
+    requires plain { list_any holds_function values.now ≡ false }
     ensures { IfOk result (λ json. json ≡ value_text_of (list_value values.now)) }
 {
     value_text(alloc, &Value::List(copy_values(alloc, values)?))

@@ -1,7 +1,8 @@
 //! The top call, and its stages.
 
 ghost use Rattle.std.specs.Prelude.{◌≡◌, Result, Some, IfOk, IfErr, map, string_bytes};
-ghost use Rattle.lk_cli.specs.Answers.{Answers, Ends, HasGround, HasNoProgram, IsAccepted, IsNotAccepted, IsNotGround, IsNotTyped, IsProgram, IsSession, IsTyped};
+ghost use Rattle.lk_cli.specs.Answers.{Answers, Ends, HasGround, HasNoProgram, IsAccepted, IsNotAccepted, IsNotGround, IsNotTyped, IsProgram, IsSession, IsShown, IsTyped};
+ghost use Rattle.lk_cli.specs.Report.{IsShownRun};
 ghost use Rattle.lk_cli.specs.Seen.{seen};
 ghost use Rattle.lk_cli.specs.Words.{form_of};
 ghost use Rattle.lk_cli.specs.declared.answer.Answer.{Answer as TheAnswer};
@@ -41,6 +42,7 @@ pub fn links_main<F: Files, O: Sink>(
 
 /// Prints an answer and gives its status, or that of a sink that failed, or of want of memory.
 fn deliver<O: Sink>(alloc: Global, answer: &Result<Answer, Refusal>, out: &mut O) -> u8
+    requires shown { IsShown answer.now }
     ensures { Ends answer.now (O.taken out.old) (O.taken out.new) (O.faults out.old) (O.faults out.new) result }
 {
     let Ok(text) = print_answer(alloc, answer) else {
@@ -55,7 +57,8 @@ fn deliver<O: Sink>(alloc: Global, answer: &Result<Answer, Refusal>, out: &mut O
 
 /// The answer to the words.
 fn answer_words<F: Files>(alloc: Global, words: &[String], files: &mut F) -> Result<Answer, Refusal>
-    ensures { Answers (seen F.contents F.failed F.faults files.old files.new) (form_of (map string_bytes words.now)) result }
+    ensures shown { IsShown result }
+    ensures answers { Answers (seen F.contents F.failed F.faults files.old files.new) (form_of (map string_bytes words.now)) result }
 {
     match read_words(alloc, words) {
         Err(_) => Err(Refusal::NoMemory),
@@ -71,7 +74,8 @@ fn answer_check<F: Files>(
     command: &CheckCommand,
     files: &mut F,
 ) -> Result<Answer, Refusal>
-    ensures { Answers (seen F.contents F.failed F.faults files.old files.new) (Some (Check command.now)) result }
+    ensures shown { IsShown result }
+    ensures answers { Answers (seen F.contents F.failed F.faults files.old files.new) (Some (Check command.now)) result }
 {
     let program = read_program(alloc, command.program.as_str(), files)?;
     Ok(Answer::Schemes(check_program(alloc, program)?))
@@ -83,7 +87,8 @@ fn answer_source<F: Files>(
     command: &SourceCommand,
     files: &mut F,
 ) -> Result<Answer, Refusal>
-    ensures { Answers (seen F.contents F.failed F.faults files.old files.new) (Some (Source command.now)) result }
+    ensures shown { IsShown result }
+    ensures answers { Answers (seen F.contents F.failed F.faults files.old files.new) (Some (Source command.now)) result }
 {
     let program = read_program(alloc, command.program.as_str(), files)?;
     let checked = check_program(alloc, program)?;
@@ -148,7 +153,7 @@ fn make_ground(alloc: Global, checked: &Checked) -> Result<(), Refusal>
 }
 
 /// The evaluation of the session of a program with this argument and fuel. The program is accepted, and its functions and
-/// lambdas begin at places of their own, so no expression in it lacks a rule.
+/// lambdas begin at places of their own, so no expression in it lacks a rule and no function is shown.
 fn run_session(
     alloc: Global,
     checked: &Checked,
@@ -157,7 +162,8 @@ fn run_session(
 ) -> Result<SourceRun, NoMemory>
     requires accepted { IsAccepted checked.now.program checked.now.typed }
     requires placed { ArePlaced checked.now.program }
-    ensures { IfOk result (IsSession checked.now.program arg.now fuel) }
+    ensures session { IfOk result (IsSession checked.now.program arg.now fuel) }
+    ensures shown { IfOk result IsShownRun }
 {
     Ok(source_run(alloc, checked.program.program(), arg, fuel)?)
 }

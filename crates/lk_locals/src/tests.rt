@@ -1,7 +1,7 @@
 //! Names that are bound in a scope that is shared, and in one's own.
 
 use crate::Locals;
-use lk_ast::{Base, List, Span, Text, Value, Word, value_text};
+use lk_ast::{Base, List, Span, Text, Value, Word, holds_function, value_text};
 use std::alloc::Global;
 use std::test::Fail;
 
@@ -21,7 +21,13 @@ fn word(alloc: Global, text: &str) -> Result<Word, Fail> {
 /// The values of `a` and of `b`.
 fn shown(alloc: Global, locals: &Locals) -> Result<Text, Fail> {
     match locals.get_all(alloc, &["a", "b"])? {
-        Some(values) => Ok(value_text(alloc, &Value::List(values))?),
+        Some(values) => {
+            let values = Value::List(values);
+            if holds_function(&values) {
+                return Ok(Text::from_str(alloc, "fun")?);
+            }
+            Ok(value_text(alloc, &values)?)
+        }
         None => Ok(Text::from_str(alloc, "none")?),
     }
 }

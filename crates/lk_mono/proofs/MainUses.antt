@@ -69,11 +69,11 @@ module _ (p : Program) (schemes : List Scheme) (types : List Ty) where
   one_parameter : (f : FunDef) → is_main f ≡ true → length f.params ≡ 1
   one_parameter f is = same_number (length f.params) 1 (and_right (is_named (codes "main") f) (length f.params == 1) (and_left (is_named (codes "main") f && (length f.params == 1)) (is_client f.place) is))
 
-  is_of_text : {functions : Named (Entry Ground)} {tables : List TableDecl} {in_mutual : Bool} {f : FunDef} {t : Ground} {nodes : List Ground} → is_main f ≡ true
-      → IsFunction functions tables in_mutual f t nodes → (effects : List Effect) × (answer : Ground) × (t ≡ of_text effects answer)
+  pub is_of_text : {functions : Named (Entry Ground)} {tables : List TableDecl} {in_mutual : Bool} {f : FunDef} {t : Ground} {nodes : List Ground} → is_main f ≡ true
+      → IsFunction functions tables in_mutual f t nodes → (effects : EffectSet) × (answer : Ground) × (t ≡ function_of (known.Text ∷ []) effects answer)
   is_of_text {f = f} is typed =
       let count : length (types_of typed.params) ≡ 1 = length-map typed.params (λ x. x.1) ∙ sym (length-map typed.params (λ x. x.0)) ∙ ap length typed.names ∙ length-map f.params (λ w. w.text) ∙ one_parameter f is in
-      (effects_of typed.effects, typed.answer, typed.is ∙ ap (λ ts. known.Fun ts (effects_of typed.effects) typed.answer) (one_text (types_of typed.params) count (typed.main is)))
+      (typed.effects, typed.answer, typed.is ∙ ap (λ ts. known.Fun ts (effects_of typed.effects) typed.answer) (one_text (types_of typed.params) count (typed.main is)))
 
   module _ (bound : IsBound p) (has : HasTypes p schemes types) (schemes_law : SchemesLaw) (least_law : LeastLaw) (body_law : BodyLaw) where
     pub first : (main : FunDef) → main_of p ≡ Some main → (member : TheMember) × IsFirst main member
@@ -93,7 +93,7 @@ module _ (p : Program) (schemes : List Scheme) (types : List Ty) where
             is = at.is;
             has = there.scheme;
             own = there.own;
-            effects = effects;
+            effects = effects_of effects;
             answer = answer;
             instance = subst (IsInstance least at.member.scheme) same instance;
             typed = subst (IsTypedLeast p schemes main at.member.scheme at.member.types) same typed;

@@ -8,6 +8,8 @@ pub mod Listed
 pub mod Looks
 pub mod Mains
 pub mod Members
+pub mod Order
+pub mod Plain
 pub mod Queues
 pub mod Refused
 pub mod Shapes

@@ -7,6 +7,8 @@ ghost use Rattle.lk_mono.specs.Held.{AreHeld, IsSource};
 ghost use Rattle.lk_mono.specs.Instances.{AreTooMany, Body as TheBody, IsTooLarge, uses_of};
 ghost use Rattle.lk_mono.specs.Keeps.{Keeps};
 ghost use Rattle.lk_mono.specs.Listed.{AreFound};
+ghost use Rattle.lk_mono.specs.Order.{AreRanked, NoHelperCallsItself};
+ghost use Rattle.lk_mono.specs.Plain.{ShowsPlain};
 ghost use Rattle.lk_mono.specs.Queues.{as_list};
 ghost use Rattle.lk_mono.specs.Refused.{HasFault};
 ghost use Rattle.lk_mono.specs.Judged.{Judged};
@@ -27,6 +29,8 @@ use lk_ast::{List, NoMemory, Span, main_of};
 use lk_ground::{GroundFun, GroundProgram, ground_laws};
 use lk_infer::Typed;
 use lk_names::Scoped;
+use lk_principal::principal_laws;
+use lk_sound::soundness_laws;
 use std::alloc::Global;
 
 /// The instances of a list as functions.
@@ -130,6 +134,9 @@ fn ground_source<'p>(alloc: Global, source: Source<'_, 'p>) -> Result<GroundProg
 /// An instance at a node of which a type has over 4,096 nodes is refused as `TypeTooLarge` at the first such node; over 4,096
 /// instances in both lists together as `TooManyInstances`; and then what can't be shown, compared or run by a database as
 /// `Shape`, at the first place. `NoMemory` where memory runs out.
+///
+/// No function stands in what the sessions of a program that has one show, and no helper calls itself, directly or through
+/// others.
 pub fn ground<'p>(
     alloc: Global,
     program: &'p Scoped,
@@ -138,11 +145,16 @@ pub fn ground<'p>(
     requires typed { HasTypes program.now typed.now.schemes typed.now.types }
     ensures grounded { IfOk result (IsGrounded program.now typed.now.schemes typed.now.types) }
     ensures keeps { IfOk result (Keeps program.now) }
+    ensures plain { IfOk result (λ done. ShowsPlain program.now) }
+    ensures ranked { IfOk result AreRanked }
+    ensures no_cycle { IfOk result NoHelperCallsItself }
     ensures too_many { result ≡ Err errors.TooManyInstances → AreTooMany program.now typed.now.schemes typed.now.types }
     ensures too_large { (at : TheSpan) → result ≡ Err (errors.TypeTooLarge at) → IsTooLarge program.now typed.now.schemes typed.now.types at }
     ensures shape { (kind : TheKind) (at : TheSpan) → result ≡ Err (errors.Shape kind at) → HasFault program.now typed.now.schemes typed.now.types kind at }
 {
     ground_laws();
+    principal_laws();
+    soundness_laws();
     let program = program.program();
     let members = members(alloc, program, typed)?;
     Ok(ground_source(

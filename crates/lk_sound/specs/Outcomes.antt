@@ -8,11 +8,11 @@ use Rattle.lk_types.specs.Each.{Each}
 use Rattle.lk_types.specs.Rows.{EffectSet}
 use Rattle.lk_types.specs.declared.ty.Effect.TheVariants as effect
 
--- a text is printed only with `print`, a table read only with `scan` and written only with `write`; control passes freely
+-- A text is printed only with `print`, and control passes freely. As long as there is no store, no table is read or written.
 abbrev pub Allows : EffectSet → Event → Type 0
 Allows effects (event.Print bytes) = effects effect.Print ≡ true
-Allows effects (event.Read read) = effects effect.Scan ≡ true
-Allows effects (event.Write write) = effects effect.Write ≡ true
+Allows effects (event.Read read) = ⊥
+Allows effects (event.Write write) = ⊥
 Allows effects event.Enter = Unit {0}
 Allows effects event.Leave = Unit {0}
 

@@ -1,6 +1,8 @@
 use Rattle.std.proofs.Common.{subst}
 use Rattle.std.proofs.lemmas.Result.{err_from_is_err_and}
 use Rattle.lk_mono.proofs.Keeping.{grounded_keeps}
+use Rattle.lk_mono.proofs.PlainSessions.{shows_plain}
+use Rattle.lk_mono.proofs.Ranks.{none_calls_itself, ranked}
 use Rattle.lk_mono.proofs.Walking.{handed_on}
 use Rattle.lk_mono.specs.Grounded.{IsGrounded}
 use Rattle.lk_mono.specs.Instances.{AreTooMany, IsTooLarge}
@@ -19,4 +21,19 @@ returns-in_err-ground_source-clause-shape c kind at is = subst (λ p. HasFault p
 pub returns-clause-keeps : goal.returns-clause-keeps
 returns-clause-keeps c =
     grounded_keeps c.ground_laws.ensures.instances c.args.program.now c.args.typed.now.schemes c.args.typed.now.types c.in_ok-ground_source.field-0
+    (subst (λ p. IsGrounded p c.args.typed.now.schemes c.args.typed.now.types c.in_ok-ground_source.field-0) c.program-program.ensures.same c.in_ok-ground_source.ensures.grounded)
+
+pub returns-clause-plain : goal.returns-clause-plain
+returns-clause-plain c =
+    shows_plain c.soundness_laws.ensures.instance c.soundness_laws.ensures.session c.args.program.now c.args.typed.now.schemes c.args.typed.now.types (rw c.program-program.ensures.same at c.program-program.ensures.bound) c.requires.typed c.in_ok-ground_source.field-0
+    (subst (λ p. IsGrounded p c.args.typed.now.schemes c.args.typed.now.types c.in_ok-ground_source.field-0) c.program-program.ensures.same c.in_ok-ground_source.ensures.grounded)
+
+pub returns-clause-ranked : goal.returns-clause-ranked
+returns-clause-ranked c =
+    ranked c.principal_laws.ensures.used c.args.program.now c.args.typed.now.schemes c.args.typed.now.types c.requires.typed (rw c.program-program.ensures.same at c.program-program.ensures.bound) c.in_ok-ground_source.field-0
+    (subst (λ p. IsGrounded p c.args.typed.now.schemes c.args.typed.now.types c.in_ok-ground_source.field-0) c.program-program.ensures.same c.in_ok-ground_source.ensures.grounded)
+
+pub returns-clause-no_cycle : goal.returns-clause-no_cycle
+returns-clause-no_cycle c =
+    none_calls_itself c.principal_laws.ensures.used c.args.program.now c.args.typed.now.schemes c.args.typed.now.types c.requires.typed (rw c.program-program.ensures.same at c.program-program.ensures.bound) c.in_ok-ground_source.field-0
     (subst (λ p. IsGrounded p c.args.typed.now.schemes c.args.typed.now.types c.in_ok-ground_source.field-0) c.program-program.ensures.same c.in_ok-ground_source.ensures.grounded)
