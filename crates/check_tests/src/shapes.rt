@@ -172,10 +172,10 @@ fn tree(alloc: Global, last: usize) -> Result<String, AllocError> {
     Ok(text)
 }
 
-/// The line that `check` prints for each of these, and that for `main`.
-fn tree_lines(alloc: Global, last: usize) -> Result<String, AllocError> {
+/// The lines that `check` prints for so many of these functions, and that for `main`.
+fn tree_lines(alloc: Global, functions: usize) -> Result<String, AllocError> {
     let mut lines = String::new(alloc);
-    for k in 0..last + 1 {
+    for k in 0..functions {
         let line = format!(in alloc; "f{k} : (t1) {{|t2}}-> ()\n")?;
         lines.push_str(line.as_str())?;
     }
@@ -188,7 +188,7 @@ fn as_many_instances_as_may_be_and_more(rt: HostRuntime) -> Result<(), Fail> {
     let alloc = rt.alloc();
     // 1 + 1 + 2 + 4 and so on up to 2,048 are 4,096
     let (status, printed) = run_check(alloc, tree(alloc, 11)?.as_bytes())?;
-    assert_eq!(rt; printed.as_str(), tree_lines(alloc, 11)?.as_str());
+    assert_eq!(rt; printed.as_str(), tree_lines(alloc, 12)?.as_str());
     assert_eq!(rt; status, 0);
     let (status, printed) = run_check(alloc, tree(alloc, 12)?.as_bytes())?;
     assert_eq!(rt; printed.as_str(), "refused 13 TooManyInstances\n");
