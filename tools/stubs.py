@@ -59,7 +59,7 @@ def items(text):
             before, at = [], at + 1
 
 
-def kept(function, lines, body):
+def kept(lines, body):
     """A function with this body, or a law that requires what it ensures."""
     opens = lines.index("{") if "{" in lines else len(lines) - 1
     if body:
@@ -88,7 +88,7 @@ def cut(text, crate, keep, names):
             body = keep.get((crate, function.group(1)))
             if body is None:
                 continue
-            lines = kept(function.group(1), lines, body)
+            lines = kept(lines, body)
             before = [line for line in before if not line.startswith("#[")]
         elif lines[0].startswith("impl") and " for " not in lines[0]:
             continue
