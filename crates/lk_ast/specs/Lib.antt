@@ -1,7 +1,9 @@
 pub mod formers
 pub mod BaseOrder
+pub mod Children
 pub mod Functions
 pub mod JsonText
 pub mod Layers
 pub mod Plain
 pub mod Rows
+pub mod Tables

@@ -9,6 +9,17 @@ use crate::table::{Base, Cell, Row};
 use crate::value::{Field, FunValue, Value};
 use std::alloc::Global;
 
+/// The same rows once more.
+pub fn copy_rows(alloc: Global, rows: &[Row]) -> Result<List<Row>, NoMemory>
+    ensures { IfOk result (λ copies. copies ≡ rows.now) }
+{
+    let mut copies = List::new(alloc);
+    for row in rows {
+        copies.push(copy_row(alloc, row)?)?;
+    }
+    Ok(copies)
+}
+
 /// The same row once more.
 pub fn copy_row(alloc: Global, row: &Row) -> Result<Row, NoMemory>
     ensures { IfOk result (λ copy. copy ≡ row.now) }

@@ -23,6 +23,7 @@ mod shared;
 mod signature;
 mod statements;
 mod table;
+mod tables;
 #[cfg(test)]
 mod tests;
 mod text;
@@ -33,7 +34,7 @@ mod words;
 
 pub use boxed::Boxed;
 pub use bytes::Bytes;
-pub use copies::{copy_base, copy_row, copy_value, copy_values};
+pub use copies::{copy_base, copy_row, copy_rows, copy_value, copy_values};
 pub use declaration::{ColumnDecl, Decl, FunDef, Program, TableDecl};
 pub use event::{Event, ReadEvent, Trap, WriteEvent};
 pub use expression::{Case, ChangeExpr, Expr, LambdaExpr, LastCase, Node, PartExpr, SortKey};
@@ -49,7 +50,8 @@ pub use same::{base_order, equal};
 pub use shared::Shared;
 pub use signature::{Sig, SigField, SigType};
 pub use statements::{Statement, first_statement, make_chain, statement_node};
-pub use table::{Base, BaseKind, Cell, Column, Row, TableDef};
+pub use table::{Base, BaseKind, Cell, Column, Row, TableDef, TableRows};
+pub use tables::{all_fit, is_of_kind, row_fits};
 pub use text::Text;
 pub use token::{Token, TokenKind};
 pub use tree_copies::copy_expr;

@@ -43,3 +43,10 @@ pub struct TableDef {
     pub name: Text,
     pub columns: List<Column>,
 }
+
+/// A table by its name, with its rows, repeats among them.
+#[derive(Debug, Drop)]
+pub struct TableRows {
+    pub name: Text,
+    pub rows: List<Row>,
+}

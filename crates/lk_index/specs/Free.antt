@@ -151,3 +151,10 @@ in_byte_order words = finite.keys (finite.from_entries {R = slice_cmp nat_cmp} (
 -- the free names of a lambda in byte order, each once
 abbrev pub captured : LambdaExpr → List (List ℕ)
 captured lambda = in_byte_order (free_lambda lambda no_names)
+
+-- the same of what a query or a change of a table captures
+abbrev pub captured_query : Expr → List (List ℕ)
+captured_query body = in_byte_order (free body no_names)
+
+abbrev pub captured_change : ChangeExpr → List (List ℕ)
+captured_change change = in_byte_order (free_change change no_names)

@@ -1,6 +1,6 @@
-//! The names that a lambda captures.
+//! The names that a lambda, a query or a change of a table captures.
 
-ghost use Rattle.lk_index.specs.Free.{texts, all_uses, some_uses, use_of, free, free_node, free_part, free_lambda, free_case, free_last, free_change, byte_order, in_byte_order, captured};
+ghost use Rattle.lk_index.specs.Free.{texts, all_uses, some_uses, use_of, free, free_node, free_part, free_lambda, free_case, free_last, free_change, byte_order, in_byte_order, captured, captured_change, captured_query};
 ghost use Rattle.lk_scope.specs.Names.{no_names, bind, bind_all, bind_some};
 ghost use Rattle.std.specs.BTreeSet.{IsFromIterResult};
 ghost use Rattle.std.specs.Option.{option_copied, option_map};
@@ -21,6 +21,28 @@ pub fn captured<'p>(alloc: Global, e: &'p LambdaExpr) -> Result<List<&'p str>, N
     let mut bound = Names::new(alloc);
     let mut found = List::new(alloc);
     lambda(alloc, &mut bound, &mut found, e)?;
+    Ok(in_order(alloc, found.as_slice())?)
+}
+
+/// The names that a query with this body captures, its free ones, in byte order and each once. `NoMemory` where memory runs
+/// out.
+pub fn captured_query<'p>(alloc: Global, body: &'p Expr) -> Result<List<&'p str>, NoMemory>
+    ensures { IfOk result (λ names. texts names ≡ captured_query body.now) }
+{
+    let mut bound = Names::new(alloc);
+    let mut found = List::new(alloc);
+    expr(alloc, &mut bound, &mut found, body)?;
+    Ok(in_order(alloc, found.as_slice())?)
+}
+
+/// The names that an update or a deletion captures, its free ones, in byte order and each once. `NoMemory` where memory runs
+/// out.
+pub fn captured_change<'p>(alloc: Global, rows: &'p ChangeExpr) -> Result<List<&'p str>, NoMemory>
+    ensures { IfOk result (λ names. texts names ≡ captured_change rows.now) }
+{
+    let mut bound = Names::new(alloc);
+    let mut found = List::new(alloc);
+    change(alloc, &mut bound, &mut found, rows)?;
     Ok(in_order(alloc, found.as_slice())?)
 }
 

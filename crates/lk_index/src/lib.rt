@@ -1,4 +1,4 @@
-//! Where the functions of a program stand, and which names a lambda captures.
+//! Where the functions of a program stand, and which names a lambda, a query or a change of a table captures.
 #![tactic(auto)]
 
 mod free;
@@ -7,5 +7,5 @@ mod places;
 #[cfg(test)]
 mod tests;
 
-pub use free::captured;
+pub use free::{captured, captured_change, captured_query};
 pub use index::{Index, IndexedLambda};

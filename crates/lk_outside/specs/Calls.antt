@@ -1,4 +1,4 @@
--- The calls made of files or of a sink in memory.
+-- The calls made of a form in memory, and which of them fail.
 use Rattle.std.specs.Prelude.{ℕ, List, Contains}
 use Rattle.lk_outside.specs.Causes.{next_count}
 

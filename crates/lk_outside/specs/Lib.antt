@@ -5,3 +5,4 @@ pub mod Files
 pub mod MemFiles
 pub mod MemSink
 pub mod Sink
+pub mod Store

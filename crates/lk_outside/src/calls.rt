@@ -4,9 +4,10 @@ ghost use Rattle.lk_outside.specs.Calls.{NextFails, calls_after};
 use lk_ast::List;
 use std::marker::Model;
 
-/// The calls of a form in memory: which are to fail, by their numbers from 0, and how many there were.
+/// The calls of a form in memory: which are to fail, by their numbers from 0, and how many there were. The count stays
+/// at the greatest `u64` once it is there.
 #[derive(Debug, Drop)]
-pub(crate) struct NumberedCalls {
+pub struct NumberedCalls {
     failing: List<u64>,
     made: u64,
 }
@@ -21,14 +22,14 @@ impl Model for NumberedCalls {
 
 impl NumberedCalls {
     /// No call yet. Those of these numbers are to fail.
-    pub(crate) fn new(failing: List<u64>) -> NumberedCalls
+    pub fn new(failing: List<u64>) -> NumberedCalls
         ensures { result ≡ record { failing = failing; made = 0 } }
     {
         NumberedCalls { failing, made: 0 }
     }
 
     /// Makes one more call, and tells whether it is to fail.
-    pub(crate) fn next_fails(&mut self) -> bool
+    pub fn next_fails(&mut self) -> bool
         ensures fails { IsTrue result ↔ NextFails self.old }
         ensures made { self.new ≡ calls_after self.old }
     {

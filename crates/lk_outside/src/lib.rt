@@ -1,5 +1,5 @@
-//! The outside of a program: the files that it reads and the sink that it writes to, each as a trait, with a form in
-//! memory and an adapter over the real thing.
+//! The outside of a program, each part as a trait: the files that it reads and the sink that it writes to, each with a
+//! form in memory and an adapter over the real thing, and the store that keeps its tables.
 #![tactic(auto)]
 
 mod calls;
@@ -12,7 +12,9 @@ mod mem_sink;
 mod os_files;
 mod sink;
 mod std_sink;
+mod store;
 
+pub use calls::NumberedCalls;
 pub use entry::FileEntry;
 pub use fault::OutFault;
 pub use files::Files;
@@ -21,6 +23,7 @@ pub use mem_sink::MemSink;
 pub use os_files::OsFiles;
 pub use sink::Sink;
 pub use std_sink::StdSink;
+pub use store::Store;
 
 #[cfg(test)]
 mod tests;

@@ -1,0 +1,4 @@
+pub mod Bag
+pub mod Blocks
+pub mod Change
+pub mod Legal

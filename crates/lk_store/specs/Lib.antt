@@ -1,0 +1,2 @@
+pub mod FailingStore
+pub mod MemoryStore

@@ -1,0 +1,13 @@
+pub mod Accepted
+pub mod Back
+pub mod Entries
+pub mod Exact
+pub mod Fits
+pub mod Lists
+pub mod Members
+pub mod Objects
+pub mod Puts
+pub mod ReadsBack
+pub mod Refusals
+pub mod Sorting
+pub mod Words

@@ -1,0 +1,5 @@
+pub mod Choices
+pub mod Law
+pub mod Printing
+pub mod Reading
+pub mod Words
