@@ -1,6 +1,14 @@
--- Tables: which rows one may hold, and the rows of several by name.
-use Rattle.std.specs.Prelude.{ℕ, List, [], ◌∷◌, Bool, true, false, ◌&&◌, bytes_eq, if◌then◌else◌}
-use Rattle.std.specs.List.{list_all}
+-- Tables: which a program declares, which rows one may hold, and the rows of several by name.
+use Rattle.std.specs.Prelude.{ℕ, List, [], ◌∷◌, Bool, true, false, ◌&&◌, bytes_eq, if◌then◌else◌, map}
+use Rattle.std.specs.Cmp.Lexicographic.{slice_cmp}
+use Rattle.std.specs.FinMap as finite
+use Rattle.std.specs.List.{flat_map, list_all}
+use Rattle.std.specs.Ordering.{nat_cmp}
+use Rattle.lk_ast.specs.declared.declaration.ColumnDecl.{ColumnDecl}
+use Rattle.lk_ast.specs.declared.declaration.Decl.{Decl}
+use Rattle.lk_ast.specs.declared.declaration.Decl.TheVariants.{Table, Fun, Mutual}
+use Rattle.lk_ast.specs.declared.declaration.Program.{Program}
+use Rattle.lk_ast.specs.declared.declaration.TableDecl.{TableDecl}
 use Rattle.lk_ast.specs.declared.table.Base.{Base}
 use Rattle.lk_ast.specs.declared.table.Base.TheVariants as base
 use Rattle.lk_ast.specs.declared.table.BaseKind.{BaseKind}
@@ -39,3 +47,26 @@ Tables = List ℕ → List Row
 abbrev pub rows_of : List TableRows → Tables
 rows_of [] name = []
 rows_of (table ∷ tables) name = if bytes_eq name table.name then table.rows else rows_of tables name
+
+-- ---- declarations
+
+abbrev pub tables_in : Decl → List TableDecl
+tables_in (Table table) = table ∷ []
+tables_in (Fun f) = []
+tables_in (Mutual functions) = []
+
+-- the tables that a program declares, in text order
+abbrev pub tables_of : Program → List TableDecl
+tables_of program = flat_map tables_in program.decls
+
+-- the kinds of columns by their labels
+abbrev pub kinds : List ColumnDecl → finite.FinMap (slice_cmp nat_cmp) BaseKind
+kinds [] = finite.empty
+kinds (column ∷ columns) = finite.insert (kinds columns) column.label.text column.kind
+
+-- the definition of a table has its columns in byte order of their labels
+abbrev pub table_def : TableDecl → TableDef
+table_def table = record { name = table.name.text; columns = map (λ entry. record { label = entry.0; kind = entry.1 }) (finite.entries (kinds table.columns)) }
+
+abbrev pub table_defs : Program → List TableDef
+table_defs program = map table_def (tables_of program)

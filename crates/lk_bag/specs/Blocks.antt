@@ -67,7 +67,7 @@ blocks_in = para-Expr Found Found Found Found Found Found Found node_in case_in 
 abbrev pub blocks_of : Program → List Expr
 blocks_of p = flat_map (λ (f : FunDef). blocks_in f.body) (functions_of p)
 
-abbrev begins : ℕ → Expr → Bool
+abbrev pub begins : ℕ → Expr → Bool
 begins site block = block.span.start == site
 
 -- the first that begins at this place

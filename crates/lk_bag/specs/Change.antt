@@ -17,16 +17,16 @@ use Rattle.lk_operators.specs.Values.{base_in, bool_in}
 abbrev pub with_rows : List ℕ → List Row → Tables → Tables
 with_rows name rows tables other = if bytes_eq name other then rows else tables other
 
-abbrev is_true : Option Bool → Bool
+abbrev pub is_true : Option Bool → Bool
 is_true (Some true) = true
 is_true other = false
 
 -- the value for a column, where it is set
-abbrev set_value : Option PartExpr → (PartExpr → Base) → Base → Base
+abbrev pub set_value : Option PartExpr → (PartExpr → Base) → Base → Base
 set_value None value old = old
 set_value (Some part) value old = value part
 
-abbrev sets_label : List ℕ → PartExpr → Bool
+abbrev pub sets_label : List ℕ → PartExpr → Bool
 sets_label label part = bytes_eq part.label.text label
 
 module _ (p : Program) (names : Names) where

@@ -56,7 +56,7 @@ names_in block args = bind_each locals.no_names (captured_in block) args
 
 module _ (p : Program) where
   -- what a query gives, or a reading of a table, as records
-  abbrev bag_by : Tables → Expr → Layer → List Value → List Value
+  abbrev pub bag_by : Tables → Expr → Layer → List Value → List Value
   bag_by tables block (Node-F.Query keys e) args = items (gives p tables e (names_in block args))
   bag_by tables block (Node-F.Table t) args = map row_value (tables t.text)
   bag_by tables block other args = []
@@ -69,17 +69,17 @@ abbrev pub keys_at : Layer → List SortKey
 keys_at (Node-F.Query keys e) = keys
 keys_at other = []
 
-abbrev has_label : List ℕ → Cell → Bool
+abbrev pub has_label : List ℕ → Cell → Bool
 has_label label cell = bytes_eq cell.label label
 
-abbrev compared : Option Cell → Option Cell → Ordering
+abbrev pub compared : Option Cell → Option Cell → Ordering
 compared (Some c) (Some d) = base_cmp c.value d.value
 compared c d = Equal
 
-abbrev at_key : SortKey → Row → Option Cell
+abbrev pub at_key : SortKey → Row → Option Cell
 at_key key row = find (has_label key.label.text) row.cells
 
-abbrev goes_before : Bool → Ordering → Bool
+abbrev pub goes_before : Bool → Ordering → Bool
 goes_before true order = is_gt order
 goes_before false order = is_lt order
 

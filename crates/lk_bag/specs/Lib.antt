@@ -1,4 +1,9 @@
 pub mod Bag
 pub mod Blocks
+pub mod Cells
 pub mod Change
+pub mod Columns
+pub mod Forms
+pub mod Inside
 pub mod Legal
+pub mod Sorting

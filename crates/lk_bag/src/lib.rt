@@ -1,2 +1,20 @@
-//! What queries give over tables, and what changes make of them.
+//! The tables of a program, what queries give over them, and what changes make of them.
 #![tactic(auto)]
+
+mod answers;
+mod blocks;
+mod captured;
+mod change;
+mod order;
+mod rows;
+mod sort;
+mod tables;
+#[cfg(test)]
+mod tests;
+mod walk;
+
+pub use answers::answer;
+pub use blocks::Blocks;
+pub use change::{kept_rows, updated_rows};
+pub use tables::table_defs;
+pub use walk::query_value;

@@ -5,7 +5,7 @@ ghost use Rattle.lk_index.specs.Free.{texts, captured};
 ghost use Rattle.lk_index.specs.Index.{FindsNamed, FindsPlaced, FindsLambdas};
 ghost use Rattle.lk_index.specs.Places.{function_at, lambda_at, lambdas_of, seen, shown};
 ghost use Rattle.std.specs.Option.{option_copied, option_map};
-ghost use Rattle.std.specs.Prelude.{◌≡◌, IfOk, IfSome};
+ghost use Rattle.std.specs.Prelude.{◌≡◌, IfOk, IfSome, length};
 
 use crate::free::captured;
 use crate::places::lambdas;
@@ -25,6 +25,7 @@ pub struct IndexedLambda<'p> {
 #[derive(Drop)]
 pub struct Index<'p> {
     program: &'p Program,
+    count: usize,
     named: BTreeMap<&'p str, &'p FunDef>,
     placed: BTreeMap<u32, &'p FunDef>,
     lambdas: BTreeMap<u32, IndexedLambda<'p>>,
@@ -38,6 +39,7 @@ impl<'p> Model for Index<'p> {
     ghost use Rattle.lk_index.specs.Index.{FindsNamed, FindsPlaced, FindsLambdas};
     ghost use Rattle.lk_index.specs.Places.{lambdas_of};
     ghost use Rattle.std.specs.Coded.{codes};
+    ghost use Rattle.std.specs.Prelude.{◌≡◌, length};
 
     ghost Value = { TheProgram };
 
@@ -45,7 +47,7 @@ impl<'p> Model for Index<'p> {
 
     ghost view = { λ index. index.program.now };
 
-    ghost invariant = { λ index. FindsNamed index.named (functions_of index.program.now) × FindsPlaced index.placed (functions_of index.program.now) × FindsLambdas index.lambdas (lambdas_of (functions_of index.program.now)) };
+    ghost invariant = { λ index. (index.count ≡ length (functions_of index.program.now)) × FindsNamed index.named (functions_of index.program.now) × FindsPlaced index.placed (functions_of index.program.now) × FindsLambdas index.lambdas (lambdas_of (functions_of index.program.now)) };
 }
 
 impl<'p> Index<'p> {
@@ -54,16 +56,25 @@ impl<'p> Index<'p> {
         ensures { IfOk result (λ index. index ≡ program.now) }
     {
         let functions = functions_of(alloc, program)?;
+        let count = functions.len();
         let named = by_name(alloc, functions.as_slice())?;
         let placed = by_place(alloc, functions.as_slice())?;
         let found = lambdas(alloc, functions.as_slice())?;
         let lambdas = indexed(alloc, found.as_slice())?;
         Ok(Index {
             program,
+            count,
             named,
             placed,
             lambdas,
         })
+    }
+
+    /// How many functions the program has.
+    pub fn function_count(&self) -> usize
+        ensures { result ≡ length (functions_of self.now) }
+    {
+        self.count
     }
 
     /// The first function of this name.

@@ -1,5 +1,5 @@
 -- What the calls of a store do to its tables.
-use Rattle.std.specs.Prelude.{◌≡◌, ◌≢◌, ◌⊎◌, ◌≤◌, ℕ, List, false, Option, Result, IfSome, IsSomeAnd, IsErrOf}
+use Rattle.std.specs.Prelude.{◌≡◌, ◌≢◌, ◌⊎◌, ◌≤◌, ℕ, List, false, Option, Some, None, Result, IsSomeAnd, IsErrOf}
 use Rattle.lk_ast.specs.Tables.{Tables, all_fit}
 use Rattle.lk_ast.specs.declared.table.Row.{Row}
 use Rattle.lk_ast.specs.declared.table.TableDef.{TableDef}
@@ -12,10 +12,11 @@ pub record Puts (old new : Tables) (name : List ℕ) (rows : List Row) : Type 0 
   pub named : new name ≡ rows
   pub others : (other : List ℕ) → other ≢ name → new other ≡ old other
 
--- where the tables were told they still are, and the table of this name alone has changed, by this change of its rows
+-- The table of this name alone has changed, by this change of its rows: where the tables were told they still are, and where they
+-- weren't they aren't now.
 abbrev pub Changes : Option Tables → Option Tables → List ℕ → (List Row → List Row) → Type 0
-Changes old new name change =
-    IfSome old (λ before. IsSomeAnd new (λ after. Puts before after name (change (before name))))
+Changes None new name change = new ≡ None
+Changes (Some before) new name change = IsSomeAnd new (λ after. Puts before after name (change (before name)))
 
 -- the tables are told, and this one holds a row of other columns
 abbrev pub HasForeignRow : Option Tables → TableDef → Type 0

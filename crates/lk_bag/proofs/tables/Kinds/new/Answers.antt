@@ -1,0 +1,5 @@
+use Rattle.lk_bag.proofs.Ascending.{finite-none}
+use Rattle.lk_bag.proofs.tables.Kinds.new.Goals as goal
+
+pub returns : goal.returns
+returns c = finite-none _ c.new.ensures.empty

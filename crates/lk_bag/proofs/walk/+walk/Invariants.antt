@@ -1,0 +1,46 @@
+use Rattle.std.proofs.Common.{◌≡◌, ℕ, ◌+◌, ◌*◌, ◌++◌, map, flat_map, take}
+use Rattle.std.specs.Vec.Iter.{into_iter_items}
+use Rattle.lk_ast.specs.Tables.{rows_of}
+use Rattle.lk_bag.specs.Bag.{called, given, items}
+use Rattle.lk_bag.specs.Forms.{all_given, exprs_of}
+use Rattle.lk_locals.specs.Names.{bind}
+use Rattle.lk_bag.proofs.walk.+walk.Given as goal
+
+-- each part has less room than what it stands in
+abbrev level : ℕ → ℕ
+level room = room * 5
+
+abbrev pub decreases-value : goal.decreases-value
+decreases-value l = level l.room
+
+abbrev pub decreases-form : goal.decreases-form
+decreases-form l = level l.room + 4
+
+abbrev pub decreases-choice : goal.decreases-choice
+decreases-choice l = level l.room + 3
+
+abbrev pub decreases-operation : goal.decreases-operation
+decreases-operation l = level l.room + 2
+
+abbrev pub decreases-values : goal.decreases-values
+decreases-values l = level l.room + 1
+
+abbrev pub decreases-part_values : goal.decreases-part_values
+decreases-part_values l = level l.room + 1
+
+abbrev pub decreases-for_each : goal.decreases-for_each
+decreases-for_each l = level l.room + 1
+
+abbrev pub decreases-call : goal.decreases-call
+decreases-call l = level l.room + 1
+
+abbrev pub invariant-values-loop-e : goal.invariant-values-loop-e
+invariant-values-loop-e l = l.found ≡ all_given (rows_of l.over.tables.now) (called l.over.index.now (rows_of l.over.tables.now) l.calls) (take l.e-index l.list) l.names
+
+abbrev pub invariant-part_values-loop-part : goal.invariant-part_values-loop-part
+invariant-part_values-loop-part l = l.found ≡ all_given (rows_of l.over.tables.now) (called l.over.index.now (rows_of l.over.tables.now) l.calls) (exprs_of (take l.part-index l.list)) l.names
+
+abbrev pub invariant-for_each-loop-element : goal.invariant-for_each-loop-element
+invariant-for_each-loop-element l =
+    l.found ++ flat_map (λ v. items (given (rows_of l.over.tables.now) (called l.over.index.now (rows_of l.over.tables.now) l.calls) l.body (bind l.name.text v l.names))) (into_iter_items l.element-iterator)
+    ≡ l.initial.found ++ flat_map (λ v. items (given (rows_of l.over.tables.now) (called l.over.index.now (rows_of l.over.tables.now) l.calls) l.body (bind l.name.text v l.names))) (into_iter_items l.initial.element-iterator)

@@ -1,0 +1,394 @@
+//! What a query gives over tables.
+
+ghost use Rattle.lk_ast.specs.Tables.{rows_of};
+ghost use Rattle.lk_ast.specs.declared.expression.Node.{out-Node};
+ghost use Rattle.lk_ast.specs.declared.value.Value.TheVariants as value_at;
+ghost use Rattle.lk_bag.specs.Bag.{called, for_each, given, gives, items, value_of};
+ghost use Rattle.lk_bag.specs.Change.{is_true};
+ghost use Rattle.lk_bag.specs.Forms.{all_given, choice_given, exprs_of, form_given, operation_given};
+ghost use Rattle.lk_operators.specs.Operators.{operated};
+ghost use Rattle.lk_operators.specs.Values.{bool_in, unit};
+ghost use Rattle.lk_locals.specs.Names.{lookup};
+ghost use Rattle.std.specs.Prelude.{◌≡◌, ◌++◌, IfOk, OnOk, unwrap_or};
+
+use lk_ast::{
+    Base, Expr, List, NoMemory, Node, PartExpr, Row, TableRows, Text, Value, Word, copy_value,
+    rows_value,
+};
+use lk_index::Index;
+use lk_locals::Locals;
+use lk_operators::{Outcome, operate};
+use std::alloc::Global;
+
+/// How deep parts and calls may stand in one another, each of which takes a piece of the stack.
+const ROOM: usize = 2048;
+
+/// What a query is over: a program with its index, and tables.
+#[derive(Drop)]
+struct Over<'a, 'p> {
+    alloc: Global,
+    index: &'a Index<'p>,
+    tables: &'a [TableRows],
+}
+
+/// What an expression gives in a query over these tables, under these names. `NoMemory` where memory runs out, and where
+/// parts and calls stand more than 2,048 deep in one another, since each takes a piece of the stack.
+pub fn query_value<'p>(
+    alloc: Global,
+    index: &Index<'p>,
+    tables: &[TableRows],
+    e: &'p Expr,
+    names: Locals<'p>,
+) -> Result<Value, NoMemory>
+    ensures { IfOk result (λ value. value ≡ gives index.now (rows_of tables.now) e.now names.entry) }
+{
+    let over = Over {
+        alloc,
+        index,
+        tables,
+    };
+    Ok(value(&over, index.function_count(), ROOM, e, &names)?)
+}
+
+/// What an expression gives where so many calls may stand one in the other.
+#[cycle(walk)]
+#[tactic(auto, using(crate::proofs::Forms::given_by_form))]
+fn value<'p>(
+    over: &Over<'_, 'p>,
+    calls: usize,
+    room: usize,
+    e: &'p Expr,
+    names: &Locals<'p>,
+) -> Result<Value, NoMemory>
+    ensures { IfOk result (λ value. value ≡ given (rows_of over.now.tables.now) (called over.now.index.now (rows_of over.now.tables.now) calls) e.now names.now) }
+{
+    if room == 0 {
+        return Err(NoMemory);
+    }
+    Ok(form(over, calls, room - 1, e.node.get(), names)?)
+}
+
+/// What a node gives.
+#[cycle(walk)]
+fn form<'p>(
+    over: &Over<'_, 'p>,
+    calls: usize,
+    room: usize,
+    node: &'p Node,
+    names: &Locals<'p>,
+) -> Result<Value, NoMemory>
+    ensures { IfOk result (λ value. value ≡ form_given (rows_of over.now.tables.now) (called over.now.index.now (rows_of over.now.tables.now) calls) (out-Node node.now) names.now) }
+{
+    match node {
+        Node::Name(name) => Ok(named(over.alloc, name, names)?),
+        Node::Call(name, args) => {
+            let args = values(over, calls, room, args.as_slice(), names)?;
+            Ok(call(over, calls, room, &name.text, args)?)
+        }
+        Node::Var(name, e, rest) => {
+            let bound = value(over, calls, room, e, names)?;
+            let inner = names.share()?.bind(over.alloc, name.text.as_str(), bound)?;
+            Ok(value(over, calls, room, rest, &inner)?)
+        }
+        Node::Seq(_, e) | Node::Query(_, e) => Ok(value(over, calls, room, e, names)?),
+        Node::ForList(name, e, body) | Node::ForTable(name, e, body) => {
+            let elements = value(over, calls, room, e, names)?;
+            let elements = items_of(over.alloc, elements);
+            Ok(for_each(over, calls, room, name, elements, body, names)?)
+        }
+        Node::Table(name) => Ok(rows_value(over.alloc, rows_under(over.tables, &name.text))?),
+        node => Ok(choice(over, calls, room, node, names)?),
+    }
+}
+
+/// What a choice gives.
+#[cycle(walk)]
+#[tactic(auto, using(crate::proofs::Forms::chosen_by))]
+fn choice<'p>(
+    over: &Over<'_, 'p>,
+    calls: usize,
+    room: usize,
+    node: &'p Node,
+    names: &Locals<'p>,
+) -> Result<Value, NoMemory>
+    ensures { IfOk result (λ value. value ≡ choice_given (rows_of over.now.tables.now) (called over.now.index.now (rows_of over.now.tables.now) calls) (out-Node node.now) names.now) }
+{
+    match node {
+        Node::If(c, then, other) => {
+            if is_true(&value(over, calls, room, c, names)?) {
+                Ok(value(over, calls, room, then, names)?)
+            } else {
+                Ok(value(over, calls, room, other, names)?)
+            }
+        }
+        Node::And(a, b) => {
+            if is_true(&value(over, calls, room, a, names)?) {
+                Ok(value(over, calls, room, b, names)?)
+            } else {
+                Ok(Value::Base(Base::Bool(false)))
+            }
+        }
+        Node::Or(a, b) => {
+            if is_true(&value(over, calls, room, a, names)?) {
+                Ok(Value::Base(Base::Bool(true)))
+            } else {
+                Ok(value(over, calls, room, b, names)?)
+            }
+        }
+        Node::Where(c, e) => {
+            if is_true(&value(over, calls, room, c, names)?) {
+                Ok(value(over, calls, room, e, names)?)
+            } else {
+                Ok(Value::List(List::new(over.alloc)))
+            }
+        }
+        node => Ok(operation(over, calls, room, node, names)?),
+    }
+}
+
+/// What an operation gives. What has no value in a query gives the unit value.
+#[cycle(walk)]
+fn operation<'p>(
+    over: &Over<'_, 'p>,
+    calls: usize,
+    room: usize,
+    node: &'p Node,
+    names: &Locals<'p>,
+) -> Result<Value, NoMemory>
+    ensures { IfOk result (λ value. value ≡ operation_given (rows_of over.now.tables.now) (called over.now.index.now (rows_of over.now.tables.now) calls) (out-Node node.now) names.now) }
+{
+    match node {
+        Node::Int(_) | Node::Text(_) | Node::Bool(_) => {
+            Ok(done(over.alloc, node, List::new(over.alloc))?)
+        }
+        Node::Concat(a, b)
+        | Node::Append(a, b)
+        | Node::Cons(a, b)
+        | Node::Add(a, b)
+        | Node::Sub(a, b)
+        | Node::Mul(a, b)
+        | Node::Div(a, b)
+        | Node::Mod(a, b)
+        | Node::Eq(a, b)
+        | Node::Ne(a, b)
+        | Node::Lt(a, b)
+        | Node::Le(a, b)
+        | Node::Gt(a, b)
+        | Node::Ge(a, b) => {
+            let mut operands = List::new(over.alloc);
+            operands.push(value(over, calls, room, a, names)?)?;
+            operands.push(value(over, calls, room, b, names)?)?;
+            Ok(done(over.alloc, node, operands)?)
+        }
+        Node::Neg(e)
+        | Node::Not(e)
+        | Node::Hd(e)
+        | Node::Tl(e)
+        | Node::Empty(e)
+        | Node::IntToString(e)
+        | Node::Project(e, _)
+        | Node::Tag(_, e) => {
+            let mut operands = List::new(over.alloc);
+            operands.push(value(over, calls, room, e, names)?)?;
+            Ok(done(over.alloc, node, operands)?)
+        }
+        Node::List(list) => {
+            let operands = values(over, calls, room, list.as_slice(), names)?;
+            Ok(done(over.alloc, node, operands)?)
+        }
+        Node::Record(parts) => {
+            let operands = part_values(over, calls, room, parts.as_slice(), names)?;
+            Ok(done(over.alloc, node, operands)?)
+        }
+        Node::Extend(parts, e) => {
+            let mut operands = part_values(over, calls, room, parts.as_slice(), names)?;
+            operands.push(value(over, calls, room, e, names)?)?;
+            Ok(done(over.alloc, node, operands)?)
+        }
+        Node::Name(_)
+        | Node::Function(_)
+        | Node::Lambda(_)
+        | Node::Call(_, _)
+        | Node::Apply(_, _)
+        | Node::Var(_, _, _)
+        | Node::Seq(_, _)
+        | Node::If(_, _, _)
+        | Node::And(_, _)
+        | Node::Or(_, _)
+        | Node::Print(_)
+        | Node::Switch(_, _, _)
+        | Node::ForList(_, _, _)
+        | Node::ForTable(_, _, _)
+        | Node::Table(_)
+        | Node::Where(_, _)
+        | Node::Query(_, _)
+        | Node::Insert(_, _)
+        | Node::Update(_)
+        | Node::Delete(_) => Ok(unit_value(over.alloc)),
+    }
+}
+
+/// What expressions give, each by itself.
+#[cycle(walk)]
+fn values<'p>(
+    over: &Over<'_, 'p>,
+    calls: usize,
+    room: usize,
+    list: &'p [Expr],
+    names: &Locals<'p>,
+) -> Result<List<Value>, NoMemory>
+    ensures { IfOk result (λ values. values ≡ all_given (rows_of over.now.tables.now) (called over.now.index.now (rows_of over.now.tables.now) calls) list.now names.now) }
+{
+    let mut found = List::new(over.alloc);
+    for e in list {
+        found.push(value(over, calls, room, e, names)?)?;
+    }
+    Ok(found)
+}
+
+/// What the expressions of `l = e, m = d` give.
+#[cycle(walk)]
+fn part_values<'p>(
+    over: &Over<'_, 'p>,
+    calls: usize,
+    room: usize,
+    list: &'p [PartExpr],
+    names: &Locals<'p>,
+) -> Result<List<Value>, NoMemory>
+    ensures { IfOk result (λ values. values ≡ all_given (rows_of over.now.tables.now) (called over.now.index.now (rows_of over.now.tables.now) calls) (exprs_of list.now) names.now) }
+{
+    let mut found = List::new(over.alloc);
+    for part in list {
+        found.push(value(over, calls, room, &part.expr, names)?)?;
+    }
+    Ok(found)
+}
+
+/// The lists that a body gives for each of these elements in turn, one behind the other.
+#[cycle(walk)]
+fn for_each<'p>(
+    over: &Over<'_, 'p>,
+    calls: usize,
+    room: usize,
+    name: &'p Word,
+    elements: List<Value>,
+    body: &'p Expr,
+    names: &Locals<'p>,
+) -> Result<Value, NoMemory>
+    ensures { IfOk result (λ value. value ≡ for_each name.now.text elements (given (rows_of over.now.tables.now) (called over.now.index.now (rows_of over.now.tables.now) calls) body.now) names.now) }
+{
+    let mut found = List::new(over.alloc);
+    for element in elements.into_vec() {
+        let inner = names
+            .share()?
+            .bind(over.alloc, name.text.as_str(), element)?;
+        add_items(&mut found, value(over, calls, room, body, &inner)?)?;
+    }
+    Ok(Value::List(found))
+}
+
+/// What a call of the function of that name gives, where so many calls may stand one in the other.
+#[cycle(walk)]
+fn call<'p>(
+    over: &Over<'_, 'p>,
+    calls: usize,
+    room: usize,
+    name: &Text,
+    args: List<Value>,
+) -> Result<Value, NoMemory>
+    ensures { IfOk result (λ value. value ≡ called over.now.index.now (rows_of over.now.tables.now) calls name.now args) }
+{
+    if calls == 0 {
+        return Ok(Value::List(List::new(over.alloc)));
+    }
+    let Some(function) = over.index.function(name.as_str()) else {
+        return Ok(Value::List(List::new(over.alloc)));
+    };
+    let none = Locals::new(over.alloc)?;
+    match none.bind_all(over.alloc, function.params.as_slice(), args)? {
+        Some(inner) => Ok(value(over, calls - 1, room, &function.body, &inner)?),
+        None => Ok(Value::List(List::new(over.alloc))),
+    }
+}
+
+/// The value of a name.
+fn named(alloc: Global, name: &Text, names: &Locals) -> Result<Value, NoMemory>
+    ensures { IfOk result (λ value. value ≡ unwrap_or (lookup names.now name.now) unit) }
+{
+    match names.get(name.as_str()) {
+        Some(value) => Ok(copy_value(alloc, value)?),
+        None => Ok(unit_value(alloc)),
+    }
+}
+
+/// What a node gives with the values of its parts.
+fn done(alloc: Global, node: &Node, values: List<Value>) -> Result<Value, NoMemory>
+    ensures { IfOk result (λ value. value ≡ value_of (operated (out-Node node.now) values)) }
+{
+    match operate(alloc, node, values)? {
+        Outcome::Value(value) => Ok(value),
+        Outcome::Trap(_) => Ok(unit_value(alloc)),
+        Outcome::NoRule => Ok(unit_value(alloc)),
+    }
+}
+
+/// The unit value.
+fn unit_value(alloc: Global) -> Value
+    ensures { result ≡ unit }
+{
+    Value::Fields(List::new(alloc))
+}
+
+/// Whether a value is `true`.
+pub fn is_true(value: &Value) -> bool
+    ensures { result ≡ is_true (bool_in value.now) }
+{
+    match value {
+        Value::Base(Base::Bool(truth)) => *truth,
+        _ => false,
+    }
+}
+
+/// The elements of a list, and none of another value.
+pub fn items_of(alloc: Global, value: Value) -> List<Value>
+    ensures { result ≡ items value }
+{
+    match value {
+        Value::List(elements) => elements,
+        _ => List::new(alloc),
+    }
+}
+
+/// The elements of this list too.
+fn add_items(found: &mut List<Value>, value: Value) -> Result<(), NoMemory>
+    ensures { OnOk result (found.new ≡ found.old ++ items value) }
+{
+    match value {
+        Value::List(elements) => Ok(add_all(found, elements)?),
+        _ => Ok(()),
+    }
+}
+
+/// These values too.
+fn add_all(found: &mut List<Value>, more: List<Value>) -> Result<(), NoMemory>
+    ensures { OnOk result (found.new ≡ found.old ++ more) }
+{
+    for value in more.into_vec() {
+        found.push(value)?;
+    }
+    Ok(())
+}
+
+/// The rows of the first table of that name, and none where there is no such table.
+pub fn rows_under<'a>(tables: &'a [TableRows], name: &Text) -> &'a [Row]
+    ensures { result.now ≡ rows_of tables.now name.now }
+{
+    let mut left = tables;
+    while let [table, others @ ..] = left {
+        if name.equals(&table.name) {
+            return table.rows.as_slice();
+        }
+        left = others;
+    }
+    &[]
+}
