@@ -1,4 +1,3 @@
 pub mod Chains
 mod NoFloat
 pub mod PlainLevels
-pub mod PlainRows

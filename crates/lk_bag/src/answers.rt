@@ -15,7 +15,7 @@ use lk_index::Index;
 use std::alloc::Global;
 
 /// The answer of a reading (a query, or a table) with what it captured: its rows in the order of its keys. None where what
-/// it gives isn't a list of rows.
+/// it gives isn't a list of rows. `NoMemory` as for `query_value`.
 pub fn answer<'p>(
     alloc: Global,
     index: &Index<'p>,

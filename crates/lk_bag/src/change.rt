@@ -19,7 +19,7 @@ use lk_index::Index;
 use lk_locals::Locals;
 use std::alloc::Global;
 
-/// The rows of a table after an update, whose conditions and values see the old row alone.
+/// The rows of a table after an update, whose conditions and values see the old row alone. `NoMemory` as for `query_value`.
 pub fn updated_rows<'p>(
     alloc: Global,
     index: &Index<'p>,
@@ -34,7 +34,7 @@ pub fn updated_rows<'p>(
     Ok(update_all(alloc, index, change, &names, rows)?)
 }
 
-/// The rows of a table that a deletion leaves.
+/// The rows of a table that a deletion leaves. `NoMemory` as for `query_value`.
 pub fn kept_rows<'p>(
     alloc: Global,
     index: &Index<'p>,
