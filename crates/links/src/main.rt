@@ -1,9 +1,12 @@
-//! The program `links`: the real files and standard output, and the top call, which does all else.
+//! The program `links`: the real files, standard output and a store in memory, and the top call, which does all else.
 #![tactic(auto)]
 
+ghost use Rattle.std.specs.Prelude.{◌≡◌, All, IfOk, false};
+
 use lk_cli::links_main;
-use lk_outside::{OsFiles, StdSink};
-use std::alloc::Global;
+use lk_outside::{OsFiles, StdSink, Store};
+use lk_store::MemoryStore;
+use std::alloc::{AllocError, Global};
 use std::io::ErrorKind;
 use std::process::ExitCode;
 use std::rt::Env;
@@ -17,9 +20,13 @@ fn main(rt: HostRuntime) -> ExitCode {
         // Words that aren't UTF-8 have no form, as no words at all.
         Err(_) => Vec::new(alloc),
     };
+    let Ok(stores) = stores(alloc) else {
+        return ExitCode::from(5);
+    };
     let mut files = OsFiles::new(&rt);
     let mut out = StdSink::new(&rt);
-    ExitCode::from(links_main(alloc, &words, &mut files, &mut out))
+    let ran = links_main(alloc, &words, &mut files, stores, &mut out);
+    ExitCode::from(ran.status)
 }
 
 /// The words of the command line, without the program's own name.
@@ -29,4 +36,13 @@ fn words(rt: &(impl Env + AllocGlobal), alloc: Global) -> io::Result<Vec<String>
         words.push(word)?;
     }
     Ok(words)
+}
+
+/// The stores that a command may ask for: one in memory, without tables.
+fn stores(alloc: Global) -> Result<Vec<Box<dyn Store + Drop>>, AllocError>
+    ensures { IfOk result (λ stores. All (λ store. is_open store ≡ false) stores.items) }
+{
+    let mut stores: Vec<Box<dyn Store + Drop>> = Vec::new(alloc);
+    stores.push(Box::new(alloc, MemoryStore::new(alloc))?)?;
+    Ok(stores)
 }

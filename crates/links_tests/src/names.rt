@@ -462,7 +462,7 @@ const DONE: Rows = &[
     ("fun main(main) client { main }", "done 1 \"ann\"\n"),
     (
         "table t with (t : Int); fun main(t) client { t }",
-        "done 1 \"ann\"\n",
+        "tables {\"t\":[]}\ndone 1 \"ann\"\n",
     ),
     (
         "fun main(a) client { var x = a; var x = x; x }",
@@ -483,7 +483,7 @@ const DONE: Rows = &[
     ),
     (
         "table t with (n : Int); table u with (n : Int); fun main(a) client { a }",
-        "done 1 \"ann\"\n",
+        "tables {\"t\":[],\"u\":[]}\ndone 1 \"ann\"\n",
     ),
     (
         "sig f : ((l : (l : Int)), (l : Int)) -> [|A : [|A : Int|], B : ()|]; fun f(x, y) { B } fun main(a) client { a }",

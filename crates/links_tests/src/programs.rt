@@ -1,6 +1,6 @@
 //! Programs, and what `source` prints for them, worked by hand: every node that is entered is counted.
 
-use crate::source::words;
+use crate::source::{stores, words};
 use lk_ast::{Bytes, List, Text};
 use lk_cli::links_main;
 use lk_outside::{FileEntry, MemFiles, MemSink};
@@ -26,9 +26,9 @@ fn run_on(alloc: Global, program: &str, words: &[String]) -> Result<(u8, String)
     })?;
     let mut files = MemFiles::new(entries, List::new(alloc));
     let mut out = MemSink::new(alloc, List::new(alloc));
-    let status = links_main(alloc, words, &mut files, &mut out);
+    let ran = links_main(alloc, words, &mut files, stores(alloc)?, &mut out);
     let printed = String::from_utf8(Vec::from_slice(alloc, out.taken().as_slice())?)?;
-    Ok((status, printed))
+    Ok((ran.status, printed))
 }
 
 /// The status of `source` on this program, and what the sink took.
@@ -186,8 +186,8 @@ const TEXTS: Programs = &[
         "table t with (n : Int);\r\nfun main(a) client {\r\n  for (x <-- t)\r\n  [x]\r\n}",
         "ann",
         "",
-        "enter\nno-store 49 69\n",
-        8,
+        "enter\nread @49 [] []\nleave\ntables {\"t\":[]}\ndone 2 []\n",
+        0,
     ),
     (
         "fun main(a) client { # \u{e9}\n 1 + a }",
@@ -200,8 +200,8 @@ const TEXTS: Programs = &[
         "table t with (n : Int); fun main(a) client { # \u{e9}\n for (x <-- t) [x] }",
         "ann",
         "",
-        "enter\nno-store 51 68\n",
-        8,
+        "enter\nread @51 [] []\nleave\ntables {\"t\":[]}\ndone 2 []\n",
+        0,
     ),
     (
         "fun main(a) client { \"\u{e9}\" ^^ 1 }",
@@ -214,8 +214,8 @@ const TEXTS: Programs = &[
         "table t with (n : Int); fun main(a) client { print(\"\u{e9}\"); for (x <-- t) [x] }",
         "ann",
         "",
-        "print \"\u{e9}\"\nenter\nno-store 58 75\n",
-        8,
+        "print \"\u{e9}\"\nenter\nread @58 [] []\nleave\ntables {\"t\":[]}\ndone 5 []\n",
+        0,
     ),
     (
         "fun main(a) client { print(\"q\\\"\u{e9}\\\\\\n\\r\\t\") }",

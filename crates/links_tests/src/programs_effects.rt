@@ -1,5 +1,5 @@
 //! Programs with each effect in the type of `main` and without it: what `check` says of them, and what `source` does. What
-//! is printed, traps or wants a store is what the effects allow; what they allow need not happen.
+//! is printed, traps or acts on tables is what the effects allow; what they allow need not happen.
 
 use crate::programs::{run, run_check};
 use std::alloc::Global;
@@ -374,49 +374,49 @@ const TABLES: Effects = &[
     (
         "table t with (n : Int); fun main(a) client { query { for (r <-- t) [(n = r.n)] } }",
         "main : (String) {move,scan|t1}-> [(n:Int)]\n",
-        "enter\nno-store 45 80\n",
-        8,
+        "enter\nread @45 [] []\nleave\ntables {\"t\":[]}\ndone 1 []\n",
+        0,
     ),
     (
         "table t with (n : Int); fun main(a) client { print(a); query { for (r <-- t) [(n = r.n)] } }",
         "main : (String) {move,print,scan|t1}-> [(n:Int)]\n",
-        "print \"ann\"\nenter\nno-store 55 90\n",
-        8,
+        "print \"ann\"\nenter\nread @55 [] []\nleave\ntables {\"t\":[]}\ndone 4 []\n",
+        0,
     ),
     (
         "table t with (n : Int); fun main(a) client { insert t values [(n = 1)] }",
         "main : (String) {move,write|t1}-> ()\n",
-        "enter\nno-store 45 70\n",
-        8,
+        "enter\nwrite @45 [[{\"n\":1}]]\nleave\ntables {\"t\":[{\"n\":1}]}\ndone 4 null\n",
+        0,
     ),
     (
         "table t with (n : Int); fun main(a) client { delete (r <-- t) where (r.n == 1) }",
         "main : (String) {move,write|t1}-> ()\n",
-        "enter\nno-store 45 78\n",
-        8,
+        "enter\nwrite @45 []\nleave\ntables {\"t\":[]}\ndone 1 null\n",
+        0,
     ),
     (
         "table t with (n : Int); fun main(a) client { update (r <-- t) where (true) set (n = 1) }",
         "main : (String) {move,write|t1}-> ()\n",
-        "enter\nno-store 45 86\n",
-        8,
+        "enter\nwrite @45 []\nleave\ntables {\"t\":[]}\ndone 1 null\n",
+        0,
     ),
     (
         "table t with (n : Int); fun main(a) client { if (false) query { for (r <-- t) [(n = r.n)] } else [] }",
         "main : (String) {move,scan|t1}-> [(n:Int)]\n",
-        "done 3 []\n",
+        "tables {\"t\":[]}\ndone 3 []\n",
         0,
     ),
     (
         "table t with (n : Int); fun main(a) client { if (false) insert t values [(n = 1)] else () }",
         "main : (String) {move,write|t1}-> ()\n",
-        "done 3 null\n",
+        "tables {\"t\":[]}\ndone 3 null\n",
         0,
     ),
     (
         "table t with (n : Int); fun main(a) client { var f = fun () { query { for (r <-- t) [(n = r.n)] } }; a }",
         "main : (String) {local,move|t1}-> String\n",
-        "done 3 \"ann\"\n",
+        "tables {\"t\":[]}\ndone 3 \"ann\"\n",
         0,
     ),
 ];
@@ -442,6 +442,6 @@ fn functions_by_their_effects(rt: HostRuntime) -> Result<(), Fail> {
 }
 
 #[test]
-fn what_acts_on_tables_wants_a_store(rt: HostRuntime) -> Result<(), Fail> {
+fn what_acts_on_tables(rt: HostRuntime) -> Result<(), Fail> {
     check(&rt, rt.alloc(), TABLES)
 }

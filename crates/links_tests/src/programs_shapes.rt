@@ -55,13 +55,13 @@ const ACCEPTED: Programs = &[
         "enter\nleave\nenter\nleave\ndone 13 \"annann\"\n",
         0,
     ),
-    // a query of flat rows, where there is no store
+    // a query of flat rows
     (
         "table t with (n : Int, s : String); fun main(a) client { query { for (x <-- t) [x] } }",
         "ann",
         "",
-        "enter\nno-store 57 84\n",
-        8,
+        "enter\nread @57 [] []\nleave\ntables {\"t\":[]}\ndone 1 []\n",
+        0,
     ),
     // a function in a record that isn't answered
     (

@@ -1,8 +1,11 @@
 //! `source`, from the words to the bytes of the sink and the status.
 
+ghost use Rattle.std.specs.Prelude.{◌≡◌, All, IfOk, false};
+
 use lk_ast::{Bytes, List, Text};
 use lk_cli::links_main;
-use lk_outside::{FileEntry, MemFiles, MemSink};
+use lk_outside::{FileEntry, MemFiles, MemSink, Store};
+use lk_store::MemoryStore;
 use std::alloc::Global;
 use std::process::Abort;
 use std::test::Fail;
@@ -16,6 +19,15 @@ pub fn words(alloc: Global, line: &[&str]) -> Result<Vec<String>, Fail> {
         words.push(String::from_str(alloc, word)?)?;
     }
     Ok(words)
+}
+
+/// One store: `memory`, which is empty.
+pub fn stores(alloc: Global) -> Result<Vec<Box<dyn Store + Drop>>, Fail>
+    ensures { IfOk result (λ stores. All (λ store. is_open store ≡ false) stores.items) }
+{
+    let mut stores: Vec<Box<dyn Store + Drop>> = Vec::new(alloc);
+    stores.push(Box::new(alloc, MemoryStore::new(alloc))?)?;
+    Ok(stores)
 }
 
 /// The files `hello.links` and `other.links`, which is no program; the reads of these numbers fail.
@@ -52,8 +64,8 @@ fn check(
     let words = words(alloc, line)?;
     let mut files = files(alloc, failing_reads)?;
     let mut out = MemSink::new(alloc, failing_writes);
-    let status = links_main(alloc, &words, &mut files, &mut out);
-    assert_eq!(rt; status, want.0);
+    let ran = links_main(alloc, &words, &mut files, stores(alloc)?, &mut out);
+    assert_eq!(rt; ran.status, want.0);
     assert_eq!(rt; out.taken().as_slice(), want.1.as_bytes());
     Ok(())
 }
@@ -79,9 +91,9 @@ pub fn run_words(alloc: Global, line: &[&str]) -> Result<(u8, Vec<u8>), Fail> {
     let words = words(alloc, line)?;
     let mut files = files(alloc, List::new(alloc))?;
     let mut out = MemSink::new(alloc, List::new(alloc));
-    let status = links_main(alloc, &words, &mut files, &mut out);
+    let ran = links_main(alloc, &words, &mut files, stores(alloc)?, &mut out);
     let printed = Vec::from_slice(alloc, out.taken().as_slice())?;
-    Ok((status, printed))
+    Ok((ran.status, printed))
 }
 
 /// The status of `source` on a file with this text, and what the sink took.
@@ -94,9 +106,9 @@ pub fn run_source(alloc: Global, text: &[u8]) -> Result<(u8, Vec<u8>), Fail> {
     let words = words(alloc, &["source", "text.links", "ann"])?;
     let mut files = MemFiles::new(entries, List::new(alloc));
     let mut out = MemSink::new(alloc, List::new(alloc));
-    let status = links_main(alloc, &words, &mut files, &mut out);
+    let ran = links_main(alloc, &words, &mut files, stores(alloc)?, &mut out);
     let printed = Vec::from_slice(alloc, out.taken().as_slice())?;
-    Ok((status, printed))
+    Ok((ran.status, printed))
 }
 
 /// Runs `source` on a file with this text, and asserts that it is refused by this line.

@@ -1,3 +1,4 @@
 pub mod Chains
 mod NoFloat
 pub mod PlainLevels
+pub mod PlainRows

@@ -2,7 +2,11 @@ pub mod Forms
 pub mod Grounds
 pub mod Limits
 pub mod Lines
+pub mod LoadedTables
 pub mod Numbers
-pub mod PlainRows
+pub mod Putting
 pub mod Samples
-pub mod Sessions
+pub mod ScannedTables
+pub mod TablesApart
+pub mod Found
+pub mod Stages

@@ -6,9 +6,9 @@ use Rattle.lk_cli.specs.Words.{check_of, form_of, source_of}
 use Rattle.lk_cli.specs.declared.command.Command.{Command}
 use Rattle.lk_cli.specs.declared.command.Command.TheVariants.{Check, Source}
 
--- `source p` with this argument and fuel
+-- `source p` with this argument and fuel, and no other option
 abbrev source : List ℕ → ℕ → Option Command
-source arg fuel = Some (Source (record { program = codes "p"; arg = arg; fuel = fuel }))
+source arg fuel = Some (Source (record { program = codes "p"; arg = arg; tables = None; store = codes "memory"; fuel = fuel }))
 
 -- `check` of a file of this name
 abbrev check : List ℕ → Option Command
@@ -27,6 +27,11 @@ option_between = refl
 option_in_one_word : form_of (codes "source" ∷ codes "--fuel=1000000000" ∷ codes "p" ∷ codes "a" ∷ []) ≡ source (codes "a") 1_000_000_000
 unfolding clap_on_literals form_of source_of digits
 option_in_one_word = refl
+
+all_options : form_of (codes "source" ∷ codes "--store=failing" ∷ codes "p" ∷ codes "--tables" ∷ codes "t" ∷ codes "a" ∷ codes "--fuel=7" ∷ [])
+    ≡ Some (Source (record { program = codes "p"; arg = codes "a"; tables = Some (codes "t"); store = codes "failing"; fuel = 7 }))
+unfolding clap_on_literals form_of source_of digits
+all_options = refl
 
 checked : (form_of (codes "check" ∷ codes "p" ∷ []) ≡ check (codes "p")) × (form_of (codes "check" ∷ codes "--" ∷ codes "-p" ∷ []) ≡ check (codes "-p"))
     × (form_of (codes "check" ∷ codes "source" ∷ []) ≡ check (codes "source"))

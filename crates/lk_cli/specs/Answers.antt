@@ -1,9 +1,12 @@
 -- The answers to a command line: which come, with their causes; what is printed for each, and the status.
-use Rattle.std.specs.Prelude.{◌≡◌, ◌⊎◌, ℕ, List, [], ◌∷◌, Option, Some, None, Result, Ok, Err, MatchResult, length, ◌<◌, codes, decimal}
-use Rattle.lk_ast.specs.Functions.{functions_of, main_of}
+use Rattle.std.specs.Prelude.{◌≡◌, ◌≢◌, ◌⊎◌, ℕ, List, [], ◌∷◌, Option, Some, None, Result, Ok, Err, MatchResult, length, ◌<◌, codes, decimal}
+use Rattle.std.specs.List.{AllZip}
+use Rattle.lk_ast.specs.Functions.{functions_of}
+use Rattle.lk_ast.specs.Tables.{Tables, table_defs}
 use Rattle.lk_ast.specs.declared.place.Span.{Span}
-use Rattle.lk_ast.specs.declared.declaration.FunDef.{FunDef}
 use Rattle.lk_ast.specs.declared.declaration.Program.{Program}
+use Rattle.lk_ast.specs.declared.table.TableDef.{TableDef}
+use Rattle.lk_ast.specs.declared.table.TableRows.{TableRows}
 use Rattle.lk_infer.specs.Inferred.{HasTypes}
 use Rattle.lk_infer.specs.Programs.{EndsIllTyped, EndsTooLarge}
 use Rattle.lk_infer.specs.declared.error.InferError.{InferError}
@@ -24,24 +27,31 @@ use Rattle.lk_names.specs.declared.error.NameError.{NameError}
 use Rattle.lk_names.specs.declared.error.NameError.TheVariants as fault
 use Rattle.lk_outside.specs.Causes.{Rose}
 use Rattle.lk_outside.specs.Sink.{Appends, AppendsFront}
+use Rattle.lk_outside.specs.declared.fault.OutFault.{OutFault}
+use Rattle.lk_outside.specs.declared.fault.OutFault.TheVariants as outside
 use Rattle.lk_parse.specs.Refusals.{IsProgramText, IsRefused}
 use Rattle.lk_parse.specs.declared.error.ParseError.{ParseError}
 use Rattle.lk_parse.specs.declared.error.ParseError.TheVariants as parse
-use Rattle.lk_sem.specs.SourceRuns.{IsRunOf}
-use Rattle.lk_evaluation.specs.Source.{session}
+use Rattle.lk_sem.specs.SourceRuns.{IsRun, IsPlainRun}
 use Rattle.lk_sem.specs.declared.run.SourceEnd.{SourceEnd}
 use Rattle.lk_sem.specs.declared.run.SourceEnd.TheVariants as end
-use Rattle.lk_sem.specs.declared.run.SourceRun.{SourceRun}
+use Rattle.lk_sound.specs.Instances.{IsShaped}
+use Rattle.lk_tables.specs.Reading.{refusal}
+use Rattle.lk_tables.specs.declared.error.TablesError.{TablesError}
+use Rattle.lk_tables.specs.declared.error.TablesError.TheVariants as error
 use Rattle.lk_typing.specs.Programs.{ArePrincipal, IsWellTyped}
-use Rattle.lk_cli.specs.Report.{IsShownRun, line, lines_of, report_of}
-use Rattle.lk_cli.specs.Seen.{FilesSeen, HasText}
+use Rattle.lk_cli.specs.Loading.{AreLeft, AreLoaded, HasToldSession, IsOfTable}
+use Rattle.lk_cli.specs.Report.{IsReport, line, lines_of}
+use Rattle.lk_cli.specs.Seen.{CameBack, FilesSeen, HasText, StoresSeen}
 use Rattle.lk_parse.specs.Tokens.{text_limit}
 use Rattle.lk_cli.specs.declared.answer.Answer.{Answer}
 use Rattle.lk_cli.specs.declared.answer.Answer.TheVariants.{Schemes, Run}
+use Rattle.lk_cli.specs.declared.answer.Done.{Done}
 use Rattle.lk_cli.specs.declared.answer.Refusal.{Refusal}
-use Rattle.lk_cli.specs.declared.answer.Refusal.TheVariants.{Words, ReadFault, TextTooLong, NotUtf8, BadToken, TooNested, Unexpected, Unbound, Twice, NoMain, TypeTooLarge, IllTyped, Shape, TooManyInstances, NoMemory}
+use Rattle.lk_cli.specs.declared.answer.Refusal.TheVariants.{Words, ReadFault, TextTooLong, NotUtf8, BadToken, TooNested, Unexpected, Unbound, Twice, NoMain, TypeTooLarge, IllTyped, Shape, TooManyInstances, NoStore, Tables as BadTables, StoreFault, NoMemory}
 use Rattle.lk_cli.specs.declared.command.Command.{Command}
 use Rattle.lk_cli.specs.declared.command.Command.TheVariants.{Check, Source}
+use Rattle.lk_cli.specs.declared.command.SourceCommand.{SourceCommand}
 
 -- the program that the text of that file is
 abbrev pub IsProgram : FilesSeen → List ℕ → Program → Type 0
@@ -56,36 +66,49 @@ IsTyped program typed = names.IsBound program × ArePrincipal program typed.sche
 -- shapes that can be shown, compared and run by a database. Its sessions end as those of the program, with the same fuel, steps
 -- and events, and no function stands in what these show.
 abbrev pub HasGround : Program → Typed → Type 0
-HasGround program typed = (ground_program : GroundProgram) × IsGrounded program typed.schemes typed.types ground_program × Keeps program ground_program × ShowsPlain program
+HasGround program typed = (ground_program : GroundProgram) × IsGrounded program typed.schemes typed.types ground_program × Keeps program ground_program × ShowsPlain program × IsShaped program
 
 -- nothing refuses the program: it is typed so, and has a ground program
 abbrev pub IsAccepted : Program → Typed → Type 0
 IsAccepted program typed = IsTyped program typed × HasGround program typed
 
--- The program is accepted with some schemes and types. The run is the evaluation of its session with this argument, which
--- begins with this fuel.
-abbrev pub IsSession : Program → List ℕ → ℕ → SourceRun → Type 0
-IsSession program arg fuel run = (typed : Typed) × IsAccepted program typed × (main : FunDef) × (main_of program ≡ Some main) × IsRunOf (session program main arg) fuel run
+-- the program of the file of that name, which nothing refuses
+abbrev pub IsAcceptedOf : FilesSeen → List ℕ → Program → Type 0
+IsAcceptedOf files name program = IsProgram files name program × ((typed : Typed) × IsAccepted program typed)
 
--- the file that a command names
-abbrev pub program_of : Command → List ℕ
-program_of (Check command) = command.program
-program_of (Source command) = command.program
+-- An answered session that began with these rows over the tables of a store before it: a run of the program with the argument and
+-- the fuel that are asked for, which doesn't end where the store failed, and the declared tables with rows that fit them, which
+-- are the rows that they have at its end.
+pub record IsSessionOver (program : Program) (command : SourceCommand) (loaded : List TableRows) (done : Done) (before after : Option Tables) : Type 0 where
+  pub run : IsRun program command.arg command.fuel after done.run
+  pub ended : done.run.end ≢ end.StoreFault
+  pub tables : AllZip IsOfTable (table_defs program) done.tables
+  pub told : HasToldSession program loaded done.run.log done.tables before after
 
--- What a command comes to where nothing refuses it. `check`: the program of the file, accepted with its schemes and types.
--- `source`: a run of that program's session.
-abbrev pub Gives : FilesSeen → Option Command → Answer → Type 0
-Gives files (Some (Check command)) (Schemes checked) = IsProgram files command.program checked.program × IsAccepted checked.program checked.typed
-Gives files (Some (Source command)) (Run run) = (program : Program) × IsProgram files command.program program × IsSession program command.arg command.fuel run
-Gives files command answer = ⊥
+-- the same over the store that is asked for, with the rows that are asked for
+abbrev pub IsSession : FilesSeen → StoresSeen → SourceCommand → Program → Done → Type 0
+IsSession files stores command program done =
+    (loaded : List TableRows) × AreLoaded files command.tables (table_defs program) loaded
+    × CameBack stores (λ before after. IsSessionOver program command loaded done before.tables after.tables)
+
+-- What a command comes to where nothing refuses it. `check`: the program of the file, accepted with its schemes and types; no
+-- store comes back. `source`: a session of that program.
+abbrev pub Gives : FilesSeen → StoresSeen → Option Command → Answer → Type 0
+Gives files stores (Some (Check command)) (Schemes checked) = IsProgram files command.program checked.program × IsAccepted checked.program checked.typed × (stores.back ≡ None)
+Gives files stores (Some (Source command)) (Run done) = (program : Program) × IsAcceptedOf files command.program program × IsSession files stores command program done
+Gives files stores command answer = ⊥
 
 -- the text of that file is refused for this reason
 abbrev pub IsRefusedText : FilesSeen → List ℕ → ParseError → Type 0
 IsRefusedText files name reason = (text : List ℕ) × HasText files name text × IsRefused text reason
 
--- why no program comes of that file: it couldn't be read, and this was the last failed read; or its text is no program
+-- the file couldn't be read, and this was the last failed read
+abbrev pub HasFailed : FilesSeen → List ℕ → List ℕ → Type 0
+HasFailed files name failed = Rose files.before files.after × (failed ≡ files.failed) × (failed ≡ name)
+
+-- why no program comes of that file: it couldn't be read, or its text is no program
 abbrev pub HasNoProgram : FilesSeen → List ℕ → Refusal → Type 0
-HasNoProgram files name (ReadFault failed) = Rose files.before files.after × (failed ≡ files.failed) × (failed ≡ name)
+HasNoProgram files name (ReadFault failed) = HasFailed files name failed
 HasNoProgram files name TextTooLong = (text : List ℕ) × HasText files name text × (text_limit < length text)
 HasNoProgram files name (NotUtf8 at) = IsRefusedText files name (parse.NotUtf8 at)
 HasNoProgram files name (BadToken at) = IsRefusedText files name (parse.BadToken at)
@@ -123,6 +146,11 @@ refusal_of_ground mono.TooManyInstances = TooManyInstances
 refusal_of_ground (mono.Shape kind at) = Shape kind at
 refusal_of_ground mono.NoMemory = NoMemory
 
+-- a reason why a text isn't a tables file as a refusal
+abbrev pub refusal_of_tables : TablesError → Refusal
+refusal_of_tables error.NoMemory = NoMemory
+refusal_of_tables kind = BadTables kind
+
 -- Why a program isn't typed. Its names aren't bound, for this first reason in text order; or they are, and there is no
 -- `main`. Or its names are bound, and this is the first place of the walk through it at which what is said up to there
 -- can't hold, and it isn't well typed; or the first one at which a type that matters is too large.
@@ -146,7 +174,7 @@ IsNotGround program typed refusal = ⊥
 
 -- what is printed for the answer has no function in it
 abbrev pub IsShown : Result Answer Refusal → Type 0
-IsShown (Ok (Run run)) = IsShownRun run
+IsShown (Ok (Run done)) = IsPlainRun done.run
 IsShown (Ok (Schemes checked)) = Unit {0}
 IsShown (Err refusal) = Unit {0}
 
@@ -154,16 +182,73 @@ IsShown (Err refusal) = Unit {0}
 abbrev pub IsNotAccepted : Program → Refusal → Type 0
 IsNotAccepted program refusal = IsNotTyped program refusal ⊎ ((typed : Typed) × IsTyped program typed × IsNotGround program typed refusal)
 
--- why a command is refused: no form has the words; there is no program; it isn't accepted; want of memory has no cause
-abbrev pub RefusedBy : FilesSeen → Option Command → Refusal → Type 0
-RefusedBy files None Words = Unit {0}
-RefusedBy files None NoMemory = Unit {0}
-RefusedBy files None refusal = ⊥
-RefusedBy files (Some command) refusal = HasNoProgram files (program_of command) refusal ⊎ ((program : Program) × IsProgram files (program_of command) program × IsNotAccepted program refusal)
+-- why no program that is accepted comes of that file: no program comes of it, or it isn't accepted
+abbrev pub HasNoAccepted : FilesSeen → List ℕ → Refusal → Type 0
+HasNoAccepted files name refusal = HasNoProgram files name refusal ⊎ ((program : Program) × IsProgram files name program × IsNotAccepted program refusal)
+
+-- why there are no rows to begin with: the tables file that is asked for couldn't be read, or its text isn't one
+abbrev pub HasNoRows : FilesSeen → Option (List ℕ) → List TableDef → Refusal → Type 0
+HasNoRows files (Some file) defs (ReadFault failed) = HasFailed files file failed
+HasNoRows files (Some file) defs (BadTables kind) = (text : List ℕ) × HasText files file text × (refusal defs text ≡ Some kind)
+HasNoRows files file defs NoMemory = Unit {0}
+HasNoRows files file defs other = ⊥
+
+-- the store came back as it was handed in
+abbrev pub IsUntouched : StoresSeen → Type 0
+IsUntouched stores = CameBack stores (λ before after. after ≡ before)
+
+-- no store has the name that is asked for, and none comes back
+abbrev pub HasNoStore : StoresSeen → List ℕ → Refusal → Type 0
+HasNoStore stores wanted (NoStore name) = (name ≡ wanted) × (stores.given ≡ None) × (stores.back ≡ None)
+HasNoStore stores wanted NoMemory = Unit {0}
+HasNoStore stores wanted refusal = ⊥
+
+-- a call of the store failed, and what it has now is what some events made of the rows that the session was to begin with
+abbrev pub HasStoreFault : FilesSeen → StoresSeen → Option (List ℕ) → Program → Refusal → Type 0
+HasStoreFault files stores tables program StoreFault =
+    (loaded : List TableRows) × AreLoaded files tables (table_defs program) loaded
+    × CameBack stores (λ before after. Rose before.faults after.faults × AreLeft program loaded before.tables after.tables)
+HasStoreFault files stores tables program NoMemory = Unit {0}
+HasStoreFault files stores tables program refusal = ⊥
+
+-- why a session of an accepted program isn't answered: there is no store; or there are no rows to begin with, and the store comes
+-- back as it was; or the store failed
+abbrev pub IsUnanswered : FilesSeen → StoresSeen → SourceCommand → Program → Refusal → Type 0
+IsUnanswered files stores command program refusal =
+    HasNoStore stores command.store refusal
+    ⊎ ((HasNoRows files command.tables (table_defs program) refusal × IsUntouched stores)
+    ⊎ HasStoreFault files stores command.tables program refusal)
+
+-- the answer to `source` where a session came to this over its store
+abbrev pub answer_of : Result Done OutFault → Result Answer Refusal
+answer_of (Ok done) = Ok (Run done)
+answer_of (Err outside.Failed) = Err StoreFault
+answer_of (Err outside.NoMemory) = Err NoMemory
+
+-- an answer to `source` for an accepted program, with its cause
+abbrev pub AnswersSession : FilesSeen → StoresSeen → SourceCommand → Program → Result Answer Refusal → Type 0
+AnswersSession files stores command program (Ok (Run done)) = IsSession files stores command program done
+AnswersSession files stores command program (Ok (Schemes checked)) = ⊥
+AnswersSession files stores command program (Err refusal) = IsUnanswered files stores command program refusal
+
+-- why there is no command: no form has the words
+abbrev pub HasNoForm : Refusal → Type 0
+HasNoForm Words = Unit {0}
+HasNoForm NoMemory = Unit {0}
+HasNoForm refusal = ⊥
+
+-- Why a command is refused. There is none; or it has no program that is accepted, and no store comes back; or the session of its
+-- program isn't answered. Want of memory has no cause.
+abbrev pub RefusedBy : FilesSeen → StoresSeen → Option Command → Refusal → Type 0
+RefusedBy files stores None refusal = (stores.back ≡ None) × HasNoForm refusal
+RefusedBy files stores (Some (Check command)) refusal = (stores.back ≡ None) × HasNoAccepted files command.program refusal
+RefusedBy files stores (Some (Source command)) refusal =
+    ((stores.back ≡ None) × HasNoAccepted files command.program refusal)
+    ⊎ ((program : Program) × IsAcceptedOf files command.program program × IsUnanswered files stores command program refusal)
 
 -- an answer with its cause
-abbrev pub Answers : FilesSeen → Option Command → Result Answer Refusal → Type 0
-Answers files command answer = MatchResult answer (Gives files command) (RefusedBy files command)
+abbrev pub Answers : FilesSeen → StoresSeen → Option Command → Result Answer Refusal → Type 0
+Answers files stores command answer = MatchResult answer (Gives files stores command) (RefusedBy files stores command)
 
 -- a refusal by its number and name, with a place in the program's text
 abbrev pub refused_at : ℕ → List ℕ → Span → List ℕ
@@ -180,36 +265,53 @@ shape_name QueryCapture = codes "QueryCapture"
 abbrev pub refused_shape : ShapeKind → Span → List ℕ
 refused_shape kind at = line (codes "refused" ∷ codes "12" ∷ codes "Shape" ∷ shape_name kind ∷ decimal at.start ∷ decimal at.end ∷ [])
 
--- what is printed: a line for each function in text order, or the report of a run; `words`, `read fault NAME`, or
--- `refused` with the number, the name and the fields of a refusal
-abbrev pub printed : Result Answer Refusal → List ℕ
-printed (Ok (Schemes checked)) = lines_of (functions_of checked.program) checked.typed.schemes
-printed (Ok (Run run)) = report_of run
-printed (Err Words) = line (codes "words" ∷ [])
-printed (Err (ReadFault name)) = line (codes "read" ∷ codes "fault" ∷ name ∷ [])
-printed (Err (NotUtf8 at)) = line (codes "refused" ∷ codes "1" ∷ codes "NotUtf8" ∷ decimal at ∷ [])
-printed (Err (BadToken at)) = refused_at 2 (codes "BadToken") at
-printed (Err (Unexpected at)) = refused_at 3 (codes "Unexpected") at
-printed (Err (TooNested at)) = refused_at 4 (codes "TooNested") at
-printed (Err TextTooLong) = line (codes "refused" ∷ codes "5" ∷ codes "TextTooLong" ∷ [])
-printed (Err (Unbound at)) = refused_at 6 (codes "Unbound") at
-printed (Err (Twice at)) = refused_at 7 (codes "Twice") at
-printed (Err NoMain) = line (codes "refused" ∷ codes "8" ∷ codes "NoMain" ∷ [])
-printed (Err (TypeTooLarge at)) = refused_at 10 (codes "TypeTooLarge") at
-printed (Err (IllTyped at)) = refused_at 11 (codes "IllTyped") at
-printed (Err (Shape kind at)) = refused_shape kind at
-printed (Err TooManyInstances) = line (codes "refused" ∷ codes "13" ∷ codes "TooManyInstances" ∷ [])
-printed (Err NoMemory) = []
+-- why a text isn't a tables file
+abbrev pub tables_word : TablesError → List ℕ
+tables_word error.TooLong = codes "TooLong"
+tables_word error.NotJson = codes "NotJson"
+tables_word error.UnknownTable = codes "UnknownTable"
+tables_word error.BadRows = codes "BadRows"
+tables_word error.TooManyRows = codes "TooManyRows"
+tables_word error.NoMemory = codes "NoMemory"
+
+-- what is printed for a refusal: `words`, `read fault NAME`, `store NAME`, `tables KIND`, `store fault`, or `refused` with its
+-- number, its name and its fields
+abbrev pub refusal_text : Refusal → List ℕ
+refusal_text Words = line (codes "words" ∷ [])
+refusal_text (ReadFault name) = line (codes "read" ∷ codes "fault" ∷ name ∷ [])
+refusal_text (NotUtf8 at) = line (codes "refused" ∷ codes "1" ∷ codes "NotUtf8" ∷ decimal at ∷ [])
+refusal_text (BadToken at) = refused_at 2 (codes "BadToken") at
+refusal_text (Unexpected at) = refused_at 3 (codes "Unexpected") at
+refusal_text (TooNested at) = refused_at 4 (codes "TooNested") at
+refusal_text TextTooLong = line (codes "refused" ∷ codes "5" ∷ codes "TextTooLong" ∷ [])
+refusal_text (Unbound at) = refused_at 6 (codes "Unbound") at
+refusal_text (Twice at) = refused_at 7 (codes "Twice") at
+refusal_text NoMain = line (codes "refused" ∷ codes "8" ∷ codes "NoMain" ∷ [])
+refusal_text (TypeTooLarge at) = refused_at 10 (codes "TypeTooLarge") at
+refusal_text (IllTyped at) = refused_at 11 (codes "IllTyped") at
+refusal_text (Shape kind at) = refused_shape kind at
+refusal_text TooManyInstances = line (codes "refused" ∷ codes "13" ∷ codes "TooManyInstances" ∷ [])
+refusal_text (NoStore name) = line (codes "store" ∷ name ∷ [])
+refusal_text (BadTables kind) = line (codes "tables" ∷ tables_word kind ∷ [])
+refusal_text StoreFault = line (codes "store" ∷ codes "fault" ∷ [])
+refusal_text NoMemory = []
+
+-- what is printed for an answer: a line for each function in text order, the report of a session, or the line of a refusal
+abbrev pub IsPrintedFor : Result Answer Refusal → List ℕ → Type 0
+IsPrintedFor (Ok (Schemes checked)) text = text ≡ lines_of (functions_of checked.program) checked.typed.schemes
+IsPrintedFor (Ok (Run done)) text = IsReport done text
+IsPrintedFor (Err refusal) text = text ≡ refusal_text refusal
 
 abbrev pub end_status : SourceEnd → ℕ
 end_status (end.Value v) = 0
 end_status (end.Trap trap) = 8
 end_status end.Spent = 12
-end_status (end.NoStore at) = 8
+end_status (end.TableFull size) = 8
+end_status end.StoreFault = 13
 
 abbrev pub status_of : Result Answer Refusal → ℕ
 status_of (Ok (Schemes checked)) = 0
-status_of (Ok (Run run)) = end_status run.end
+status_of (Ok (Run done)) = end_status done.run.end
 status_of (Err (NotUtf8 at)) = 1
 status_of (Err (BadToken at)) = 1
 status_of (Err (Unexpected at)) = 1
@@ -225,11 +327,20 @@ status_of (Err TooManyInstances) = 1
 status_of (Err Words) = 2
 status_of (Err (ReadFault name)) = 3
 status_of (Err NoMemory) = 5
+status_of (Err (BadTables kind)) = 6
+status_of (Err (NoStore name)) = 11
+status_of (Err StoreFault) = 13
 
--- How a run ends with an answer: what is printed for it was taken whole, and the status is its own; or a first part of
--- that was taken, and the status is 4, since the sink failed, or 5, for want of memory.
+-- How a run ends that has this to print for an answer: it was taken whole, and the status is the answer's; or a first part of it
+-- was taken, and the status is 4, since the sink failed, or 5, for want of memory.
+abbrev pub IsWritten : Result Answer Refusal → List ℕ → Option (List ℕ) → Option (List ℕ) → ℕ → ℕ → ℕ → Type 0
+IsWritten answer text before after faults_before faults_after status =
+    ((status ≡ status_of answer) × Appends before after text)
+    ⊎ (((status ≡ 4) × Rose faults_before faults_after × AppendsFront before after text)
+    ⊎ ((status ≡ 5) × AppendsFront before after text))
+
+-- How a run ends with an answer: what is printed for it was written; or nothing was, for want of memory, and the status is 5.
 abbrev pub Ends : Result Answer Refusal → Option (List ℕ) → Option (List ℕ) → ℕ → ℕ → ℕ → Type 0
 Ends answer before after faults_before faults_after status =
-    ((status ≡ status_of answer) × Appends before after (printed answer))
-    ⊎ (((status ≡ 4) × Rose faults_before faults_after × AppendsFront before after (printed answer))
-    ⊎ ((status ≡ 5) × AppendsFront before after (printed answer)))
+    ((text : List ℕ) × IsPrintedFor answer text × IsWritten answer text before after faults_before faults_after status)
+    ⊎ ((status ≡ 5) × (after ≡ before))

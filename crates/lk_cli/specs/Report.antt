@@ -1,6 +1,6 @@
--- What commands print. `check`: a line for each function in text order. `source`: a line for each event in order, and a
--- last line for the end; values are JSON texts.
-use Rattle.std.specs.Prelude.{ℕ, List, [], ◌∷◌, ◌++◌, codes, decimal}
+-- What commands print. `check`: a line for each function in text order. `source`: a line for each event in order, a line for the
+-- declared tables, and a last line for the end; values and tables are JSON texts.
+use Rattle.std.specs.Prelude.{◌≡◌, ℕ, List, [], ◌∷◌, ◌++◌, codes, decimal}
 use Rattle.std.specs.List.{flat_map}
 use Rattle.lk_ast.specs.JsonText.{value_text_of}
 use Rattle.lk_ast.specs.Rows.{rows_value}
@@ -9,15 +9,17 @@ use Rattle.lk_ast.specs.declared.event.Event.{Event}
 use Rattle.lk_ast.specs.declared.event.Event.TheVariants.{Print, Enter, Leave, Read, Write}
 use Rattle.lk_ast.specs.declared.event.Trap.{Trap}
 use Rattle.lk_ast.specs.declared.event.Trap.TheVariants.{Divide, Head, Tail}
+use Rattle.lk_ast.specs.declared.table.TableRows.{TableRows}
 use Rattle.lk_ast.specs.declared.value.Value.TheVariants as value
-use Rattle.lk_mono.specs.Plain.{IsPlain, IsPlainEvent}
 use Rattle.lk_operators.specs.Values.{text}
 use Rattle.lk_sem.specs.declared.run.SourceEnd.{SourceEnd}
 use Rattle.lk_sem.specs.declared.run.SourceEnd.TheVariants as end
-use Rattle.lk_sem.specs.declared.run.SourceRun.{SourceRun}
-use Rattle.lk_types.specs.Each.{Each}
+use Rattle.lk_tables.specs.Printing.{IsPrinted}
 use Rattle.lk_types.specs.TypeText.{type_text}
 use Rattle.lk_types.specs.declared.scheme.Scheme.{Scheme}
+use Rattle.serde_json.specs.Data.{Data}
+use Rattle.serde_json.specs.Written.{compact_text}
+use Rattle.lk_cli.specs.declared.answer.Done.{Done}
 
 -- words with a space between them, and a line feed
 abbrev pub line : List (List ℕ) → List ℕ
@@ -56,23 +58,23 @@ trap_name Divide = codes "divide"
 trap_name Head = codes "head"
 trap_name Tail = codes "tail"
 
--- `done FUEL VALUE`, `trap FUEL KIND`, `spent` or `no-store START END`
+-- the text of a tables file with all of these tables
+abbrev pub IsTablesText : List TableRows → List ℕ → Type 0
+IsTablesText tables text = (file : Data) × IsPrinted tables file × (text ≡ compact_text file)
+
+-- `tables OBJECT` for the declared tables, of which there is at least one
+abbrev pub IsTablesLine : List TableRows → List ℕ → Type 0
+IsTablesLine [] text = text ≡ []
+IsTablesLine (table ∷ tables) text = (object : List ℕ) × IsTablesText (table ∷ tables) object × (text ≡ line (codes "tables" ∷ object ∷ []))
+
+-- `done FUEL VALUE`, `trap FUEL KIND`, `spent` or `table-full SIZE`; where the store failed, a session isn't answered
 abbrev pub end_line : SourceEnd → ℕ → List ℕ
 end_line (end.Value v) used = line (codes "done" ∷ decimal used ∷ value_text_of v ∷ [])
 end_line (end.Trap trap) used = line (codes "trap" ∷ decimal used ∷ trap_name trap ∷ [])
 end_line end.Spent used = line (codes "spent" ∷ [])
-end_line (end.NoStore at) used = line (codes "no-store" ∷ decimal at.start ∷ decimal at.end ∷ [])
+end_line (end.TableFull size) used = line (codes "table-full" ∷ decimal size ∷ [])
+end_line end.StoreFault used = line (codes "store" ∷ codes "fault" ∷ [])
 
-abbrev pub report_of : SourceRun → List ℕ
-report_of run = flat_map event_line run.log ++ end_line run.end run.used
-
--- ---- what can be printed: values in which no function stands
-
-abbrev pub IsShownEnd : SourceEnd → Type 0
-IsShownEnd (end.Value v) = IsPlain v
-IsShownEnd (end.Trap trap) = Unit {0}
-IsShownEnd end.Spent = Unit {0}
-IsShownEnd (end.NoStore at) = Unit {0}
-
-abbrev pub IsShownRun : SourceRun → Type 0
-IsShownRun run = IsShownEnd run.end × Each IsPlainEvent run.log
+-- what is printed for a session
+abbrev pub IsReport : Done → List ℕ → Type 0
+IsReport done text = (tables : List ℕ) × IsTablesLine done.tables tables × (text ≡ flat_map event_line done.run.log ++ (tables ++ end_line done.run.end done.run.used))

@@ -1,6 +1,7 @@
--- What a run saw of the files.
-use Rattle.std.specs.Prelude.{◌≡◌, ℕ, List, Option, Some, IfSome}
+-- What a run saw of the files and of the store that the words ask for.
+use Rattle.std.specs.Prelude.{◌≡◌, ℕ, List, Option, Some, IfSome, IsSomeAnd, bytes_eq, find, option_map}
 use Rattle.std.specs.FinMap.{get}
+use Rattle.lk_ast.specs.Tables.{Tables}
 use Rattle.lk_outside.specs.Files.{Contents}
 
 -- what they contain where that is told, the name of the last failed read, and the count of faults before and after
@@ -16,3 +17,26 @@ seen contents failed faults old new = record { contents = contents old; failed =
 -- where it is told what files contain, this is the text of the file of that name
 abbrev pub HasText : FilesSeen → List ℕ → List ℕ → Type 0
 HasText files name text = IfSome files.contents (λ contents. get contents name ≡ Some text)
+
+-- of a store: its tables where they are told, and its count of faults
+pub record StoreSeen : Type 0 where
+  pub tables : Option Tables
+  pub faults : ℕ
+
+-- the first store of the name that is asked for, as it was handed in, and the store that came back
+pub record StoresSeen : Type 0 where
+  pub given : Option StoreSeen
+  pub back : Option StoreSeen
+
+abbrev pub store_seen : {S : Type 0} → (S → Option Tables) → (S → ℕ) → S → StoreSeen
+store_seen tables faults store = record { tables = tables store; faults = faults store }
+
+abbrev pub stores_seen : {S : Type 0} → (S → List ℕ) → (S → Option Tables) → (S → ℕ) → List S → Option S → List ℕ → StoresSeen
+stores_seen name tables faults stores back wanted = record {
+  given = option_map (store_seen tables faults) (find (λ store. bytes_eq wanted (name store)) stores);
+  back = option_map (store_seen tables faults) back;
+}
+
+-- the store that was asked for was handed in and came back, and this holds of it before and after
+abbrev pub CameBack : StoresSeen → (StoreSeen → StoreSeen → Type 0) → Type 0
+CameBack stores P = IsSomeAnd stores.given (λ before. IsSomeAnd stores.back (λ after. P before after))

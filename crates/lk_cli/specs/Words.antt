@@ -6,7 +6,7 @@
 -- each once at most, as `--NAME VALUE` or as `--NAME=VALUE`. A word that begins with `-` is an option; only `-` alone
 -- isn't, and no word behind the first `--`, which itself stands for nothing (POSIX.1-2017, section 12.2, Utility Syntax
 -- Guidelines 10 and 14; options with long names, and behind arguments, go beyond these).
-use Rattle.std.specs.Prelude.{ℕ, ◌&&◌, nat_le, true, List, [], ◌∷◌, Option, Some, None, if◌then◌else◌, codes, decimal, bytes_eq, option_and_then}
+use Rattle.std.specs.Prelude.{ℕ, ◌&&◌, nat_le, true, List, [], ◌∷◌, Option, Some, None, if◌then◌else◌, codes, decimal, bytes_eq, option_and_then, unwrap_or}
 use Rattle.std.specs.Str.Parse.{digits_value}
 use Rattle.clap.specs.Faults.{fault_of}
 use Rattle.clap.specs.Kinds.{Kinds}
@@ -30,9 +30,13 @@ optional name = record (new_rule name) { long = Some name; action = Some Set }
 abbrev pub check_app : App
 check_app = with_rule (new_app (codes "check")) (needed (codes "program"))
 
--- `source PROGRAM ARG`, with `--fuel N`
+-- `source PROGRAM ARG`
+abbrev pub bare_source_app : App
+bare_source_app = with_rule (with_rule (new_app (codes "source")) (needed (codes "program"))) (needed (codes "arg"))
+
+-- the same with `--tables FILE`, `--store NAME` and `--fuel N`
 abbrev pub source_app : App
-source_app = with_rule (with_rule (with_rule (new_app (codes "source")) (needed (codes "program"))) (needed (codes "arg"))) (optional (codes "fuel"))
+source_app = with_rule (with_rule (with_rule bare_source_app (optional (codes "tables"))) (optional (codes "store"))) (optional (codes "fuel"))
 
 -- a command line without its subcommands, one of which has to be there; no word asks for help or for the version
 abbrev pub bare_app : App
@@ -66,6 +70,10 @@ abbrev pub number_or : ℕ → Option (List ℕ) → Option ℕ
 number_or default None = Some default
 number_or default (Some text) = number_of text
 
+-- the store of `source` where the words name none
+abbrev pub default_store : List ℕ
+default_store = codes "memory"
+
 -- what comes of a value, where there is one
 infixl 10 ◌>>=◌
 abbrev ◌>>=◌ : {A B : Type 0} → Option A → (A → Option B) → Option B
@@ -77,13 +85,19 @@ check_of rows = do
   program ← first_of (codes "program") rows
   Some (Check (record { program = program }))
 
--- `source`, by the values of its arguments: the program and the argument are any texts, and the fuel is a number
+-- `source`, by the values of its arguments: the fuel is a number, and all others are any texts
 unfoldable pub source_of : List Row → Option Command
 source_of rows = do
   program ← first_of (codes "program") rows
   arg ← first_of (codes "arg") rows
   fuel ← number_or default_fuel (first_of (codes "fuel") rows)
-  Some (Source (record { program = program; arg = arg; fuel = fuel }))
+  Some (Source (record {
+    program = program;
+    arg = arg;
+    tables = first_of (codes "tables") rows;
+    store = unwrap_or (first_of (codes "store") rows) default_store;
+    fuel = fuel;
+  }))
 
 -- ---- the words
 
@@ -100,3 +114,8 @@ unless (kind ∷ kinds) command = None
 -- isn't the number that it has to be.
 unfoldable pub form_of : List (List ℕ) → Option Command
 form_of words = unless (fault_of links_app words) (option_and_then command_of (subcommand_of links_app words))
+
+-- the name of the store that a command asks for; only `source` asks for one
+abbrev pub store_of : Option Command → List ℕ
+store_of (Some (Source command)) = command.store
+store_of command = []

@@ -1,16 +1,18 @@
 //! Answers to a command line, their texts and their statuses.
 
-ghost use Rattle.std.specs.Prelude.{◌≡◌, IfOk};
-ghost use Rattle.lk_cli.specs.Answers.{IsShown, end_status, printed, refused_at, refused_shape, shape_name, status_of};
+ghost use Rattle.std.specs.Prelude.{◌≡◌, [], ◌∷◌, IfOk};
+ghost use Rattle.lk_cli.specs.Report.{line};
+ghost use Rattle.lk_cli.specs.Answers.{IsPrintedFor, IsShown, end_status, refusal_text, refused_at, refused_shape, shape_name, status_of, tables_word};
 
 use crate::report::report;
 use crate::schemes::print_schemes;
-use lk_ast::{NoMemory as OutOfMemory, Span, Text};
+use lk_ast::{List, NoMemory as OutOfMemory, Span, TableRows, Text};
 use lk_infer::{InferError, Typed};
 use lk_mono::{MonoError, ShapeKind};
 use lk_names::{NameError, Scoped};
 use lk_parse::ParseError;
 use lk_sem::{SourceEnd, SourceRun};
+use lk_tables::TablesError;
 use std::alloc::Global;
 use thiserror::Error;
 
@@ -19,8 +21,8 @@ use thiserror::Error;
 pub enum Answer {
     /// Of `check`: the schemes of a program.
     Schemes(Checked),
-    /// Of `source`: the evaluation of a session.
-    Run(SourceRun),
+    /// Of `source`: a session.
+    Run(Done),
 }
 
 /// A program whose names are bound, and what is inferred of it.
@@ -28,6 +30,15 @@ pub enum Answer {
 pub struct Checked {
     pub program: Scoped,
     pub typed: Typed,
+}
+
+/// A session that has come to its end.
+#[derive(Drop)]
+pub struct Done {
+    /// Its run, which doesn't end where the store failed.
+    pub run: SourceRun,
+    /// The declared tables with the rows that they have then.
+    pub tables: List<TableRows>,
 }
 
 /// Why a command is refused.
@@ -61,6 +72,12 @@ pub enum Refusal {
     Shape(ShapeKind, Span),
     #[error("functions are used at too many types")]
     TooManyInstances,
+    #[error("no store has the name")]
+    NoStore(Text),
+    #[error("the text is not a tables file")]
+    Tables(TablesError),
+    #[error("a store failed")]
+    StoreFault,
     #[error("out of memory")]
     NoMemory,
 }
@@ -136,6 +153,19 @@ impl From<MonoError> for Refusal {
     }
 }
 
+impl From<TablesError> for Refusal {
+    ghost use Rattle.lk_cli.specs.Answers.{refusal_of_tables};
+
+    ghost from_gives = { λ error refusal. refusal ≡ refusal_of_tables error };
+
+    fn from(error: TablesError) -> Self {
+        match error {
+            TablesError::NoMemory => Refusal::NoMemory,
+            kind => Refusal::Tables(kind),
+        }
+    }
+}
+
 /// The line of a refusal that has a place in the program's text.
 fn refused_at(alloc: Global, number: u8, name: &str, at: Span) -> Result<Text, OutOfMemory>
     ensures { IfOk result (λ text. text ≡ refused_at number name.now at) }
@@ -165,42 +195,70 @@ fn name_of_shape(kind: ShapeKind) -> &'static str
     }
 }
 
+fn word_of_tables(kind: TablesError) -> &'static str
+    ensures { result.now ≡ tables_word kind }
+{
+    match kind {
+        TablesError::TooLong => "TooLong",
+        TablesError::NotJson => "NotJson",
+        TablesError::UnknownTable => "UnknownTable",
+        TablesError::BadRows => "BadRows",
+        TablesError::TooManyRows => "TooManyRows",
+        TablesError::NoMemory => "NoMemory",
+    }
+}
+
 /// What is printed for an answer, in which no function is shown.
 pub fn print_answer(alloc: Global, answer: &Result<Answer, Refusal>) -> Result<Text, OutOfMemory>
     requires shown { IsShown answer.now }
-    ensures { IfOk result (λ text. text ≡ printed answer.now) }
+    ensures { IfOk result (IsPrintedFor answer.now) }
 {
     match answer {
-        Ok(Answer::Schemes(checked)) => print_schemes(
+        Ok(Answer::Schemes(checked)) => Ok(print_schemes(
             alloc,
             checked.program.program(),
             checked.typed.schemes.as_slice(),
-        ),
-        Ok(Answer::Run(run)) => report(alloc, run),
-        Err(Refusal::Words) => Ok(Text::from_str(alloc, "words\n")?),
-        Err(Refusal::ReadFault(name)) => {
-            let line = format!(in alloc; "read fault {}\n", name.as_str())?;
-            Ok(Text::from_string(line))
-        }
-        Err(Refusal::NotUtf8(at)) => {
+        )?),
+        Ok(Answer::Run(done)) => Ok(report(alloc, done)?),
+        Err(refusal) => Ok(print_refusal(alloc, refusal)?),
+    }
+}
+
+/// The line of a refusal.
+fn print_refusal(alloc: Global, refusal: &Refusal) -> Result<Text, OutOfMemory>
+    ensures { IfOk result (λ text. text ≡ refusal_text refusal.now) }
+{
+    match refusal {
+        Refusal::Words => Ok(Text::from_str(alloc, "words\n")?),
+        Refusal::ReadFault(name) => line_with(alloc, "read fault", name.as_str()),
+        Refusal::NotUtf8(at) => {
             let line = format!(in alloc; "refused 1 NotUtf8 {}\n", *at)?;
             Ok(Text::from_string(line))
         }
-        Err(Refusal::BadToken(at)) => refused_at(alloc, 2, "BadToken", *at),
-        Err(Refusal::Unexpected(at)) => refused_at(alloc, 3, "Unexpected", *at),
-        Err(Refusal::TooNested(at)) => refused_at(alloc, 4, "TooNested", *at),
-        Err(Refusal::TextTooLong) => Ok(Text::from_str(alloc, "refused 5 TextTooLong\n")?),
-        Err(Refusal::Unbound(at)) => refused_at(alloc, 6, "Unbound", *at),
-        Err(Refusal::Twice(at)) => refused_at(alloc, 7, "Twice", *at),
-        Err(Refusal::NoMain) => Ok(Text::from_str(alloc, "refused 8 NoMain\n")?),
-        Err(Refusal::TypeTooLarge(at)) => refused_at(alloc, 10, "TypeTooLarge", *at),
-        Err(Refusal::IllTyped(at)) => refused_at(alloc, 11, "IllTyped", *at),
-        Err(Refusal::Shape(kind, at)) => refused_shape(alloc, *kind, *at),
-        Err(Refusal::TooManyInstances) => {
-            Ok(Text::from_str(alloc, "refused 13 TooManyInstances\n")?)
-        }
-        Err(Refusal::NoMemory) => Ok(Text::new(alloc)),
+        Refusal::BadToken(at) => refused_at(alloc, 2, "BadToken", *at),
+        Refusal::Unexpected(at) => refused_at(alloc, 3, "Unexpected", *at),
+        Refusal::TooNested(at) => refused_at(alloc, 4, "TooNested", *at),
+        Refusal::TextTooLong => Ok(Text::from_str(alloc, "refused 5 TextTooLong\n")?),
+        Refusal::Unbound(at) => refused_at(alloc, 6, "Unbound", *at),
+        Refusal::Twice(at) => refused_at(alloc, 7, "Twice", *at),
+        Refusal::NoMain => Ok(Text::from_str(alloc, "refused 8 NoMain\n")?),
+        Refusal::TypeTooLarge(at) => refused_at(alloc, 10, "TypeTooLarge", *at),
+        Refusal::IllTyped(at) => refused_at(alloc, 11, "IllTyped", *at),
+        Refusal::Shape(kind, at) => refused_shape(alloc, *kind, *at),
+        Refusal::TooManyInstances => Ok(Text::from_str(alloc, "refused 13 TooManyInstances\n")?),
+        Refusal::NoStore(name) => line_with(alloc, "store", name.as_str()),
+        Refusal::Tables(kind) => line_with(alloc, "tables", word_of_tables(*kind)),
+        Refusal::StoreFault => Ok(Text::from_str(alloc, "store fault\n")?),
+        Refusal::NoMemory => Ok(Text::new(alloc)),
     }
+}
+
+/// A word and another behind it, as a line.
+fn line_with(alloc: Global, first: &str, word: &str) -> Result<Text, OutOfMemory>
+    ensures { IfOk result (λ text. text ≡ line (first.now ∷ word.now ∷ [])) }
+{
+    let line = format!(in alloc; "{} {}\n", first, word)?;
+    Ok(Text::from_string(line))
 }
 
 /// The status of an answer that was printed whole.
@@ -209,7 +267,7 @@ pub fn answer_status(answer: &Result<Answer, Refusal>) -> u8
 {
     match answer {
         Ok(Answer::Schemes(_)) => 0,
-        Ok(Answer::Run(run)) => status_of_end(&run.end),
+        Ok(Answer::Run(done)) => status_of_end(&done.run.end),
         Err(Refusal::TextTooLong)
         | Err(Refusal::NotUtf8(_))
         | Err(Refusal::BadToken(_))
@@ -225,6 +283,9 @@ pub fn answer_status(answer: &Result<Answer, Refusal>) -> u8
         Err(Refusal::Words) => 2,
         Err(Refusal::ReadFault(_)) => 3,
         Err(Refusal::NoMemory) => 5,
+        Err(Refusal::Tables(_)) => 6,
+        Err(Refusal::NoStore(_)) => 11,
+        Err(Refusal::StoreFault) => 13,
     }
 }
 
@@ -233,7 +294,8 @@ fn status_of_end(end: &SourceEnd) -> u8
 {
     match end {
         SourceEnd::Value(_) => 0,
-        SourceEnd::Trap(_) | SourceEnd::NoStore(_) => 8,
+        SourceEnd::Trap(_) | SourceEnd::TableFull(_) => 8,
         SourceEnd::Spent => 12,
+        SourceEnd::StoreFault => 13,
     }
 }

@@ -1,10 +1,10 @@
 //! The words of a command line.
 
-ghost use Rattle.std.specs.Prelude.{◌≡◌, false, IfOk, map, option_and_then, option_map, string_bytes};
+ghost use Rattle.std.specs.Prelude.{◌≡◌, false, IfOk, map, option_and_then, option_map, string_bytes, unwrap_or};
 ghost use Rattle.clap.specs.Walk.{first_of, rows_of, rule_of};
 ghost use Rattle.clap.specs.Words.{app_of, found_of, subcommand_rows_of};
 ghost use Rattle.clap.specs.declared.builder.command.Command.TheViews.{out-Command as fields_of};
-ghost use Rattle.lk_cli.specs.Words.{bare_app, links_app, source_app, needed, optional, form_of, check_app, check_of, command_of, source_of, number_or, number_of};
+ghost use Rattle.lk_cli.specs.Words.{bare_app, bare_source_app, links_app, source_app, needed, optional, form_of, check_app, check_of, command_of, default_store, source_of, number_or, number_of};
 
 use clap::error::ErrorKind;
 use clap::{Arg, ArgAction, ArgMatches};
@@ -13,6 +13,9 @@ use std::alloc::{AllocError, Global};
 
 /// The fuel of `source` where the words ask for none.
 const DEFAULT_FUEL: u64 = 1_000_000;
+
+/// The store of `source` where the words name none.
+const DEFAULT_STORE: &str = "memory";
 
 /// The most fuel that the words may ask for.
 const MOST_FUEL: u64 = 1_000_000_000;
@@ -31,13 +34,17 @@ pub struct CheckCommand {
     pub program: Text,
 }
 
-/// `source PROGRAM ARG`, with `--fuel N`.
+/// `source PROGRAM ARG`, with `--tables FILE`, `--store NAME` and `--fuel N`.
 #[derive(Debug, Drop)]
 pub struct SourceCommand {
     /// The file of the program.
     pub program: Text,
     /// The argument of its session.
     pub arg: Text,
+    /// The file of the rows that the session begins with, where it doesn't begin with none.
+    pub tables: Option<Text>,
+    /// The name of the store that the session runs over.
+    pub store: Text,
     /// How many nodes the evaluation may enter.
     pub fuel: u64,
 }
@@ -95,7 +102,15 @@ fn source_of(alloc: Global, matches: &ArgMatches<'_>) -> Result<Option<Command>,
     };
     let program = Text::from_str(alloc, program)?;
     let arg = Text::from_str(alloc, arg)?;
-    Ok(Some(Command::Source(SourceCommand { program, arg, fuel })))
+    let tables = some_text(alloc, value_of(matches, "tables"))?;
+    let store = Text::from_str(alloc, value_of(matches, "store").unwrap_or(DEFAULT_STORE))?;
+    Ok(Some(Command::Source(SourceCommand {
+        program,
+        arg,
+        tables,
+        store,
+        fuel,
+    })))
 }
 
 /// The value of an argument, by its name.
@@ -103,6 +118,16 @@ fn value_of<'a>(matches: &ArgMatches<'a>, name: &str) -> Option<&'a str>
     ensures { option_map (λ value. value.now) result ≡ first_of name.now (rows_of (found_of matches.now)) }
 {
     matches.get_str(name)
+}
+
+/// The text of an option, where it is there.
+fn some_text(alloc: Global, text: Option<&str>) -> Result<Option<Text>, NoMemory>
+    ensures { IfOk result (λ copy. copy ≡ option_map (λ value. value.now) text.entry) }
+{
+    match text {
+        Some(text) => Ok(Some(Text::from_str(alloc, text)?)),
+        None => Ok(None),
+    }
 }
 
 /// The number of an option, or its default where it isn't there.
@@ -159,14 +184,23 @@ fn check_command<'a>(alloc: Global) -> Result<clap::Command<'a>, AllocError>
     clap::Command::new(alloc, "check").arg(needed(alloc, "program"))
 }
 
-/// `source PROGRAM ARG`, with `--fuel N`.
+/// `source PROGRAM ARG`, with `--tables FILE`, `--store NAME` and `--fuel N`.
 fn source_command<'a>(alloc: Global) -> Result<clap::Command<'a>, AllocError>
     ensures { IfOk result (λ command. (app_of command ≡ source_app) × ((fields_of command).has_globals ≡ false)) }
 {
+    bare_source(alloc)?
+        .arg(optional(alloc, "tables"))?
+        .arg(optional(alloc, "store"))?
+        .arg(optional(alloc, "fuel"))
+}
+
+/// `source PROGRAM ARG`, without its options.
+fn bare_source<'a>(alloc: Global) -> Result<clap::Command<'a>, AllocError>
+    ensures { IfOk result (λ command. (app_of command ≡ bare_source_app) × ((fields_of command).has_globals ≡ false)) }
+{
     clap::Command::new(alloc, "source")
         .arg(needed(alloc, "program"))?
-        .arg(needed(alloc, "arg"))?
-        .arg(optional(alloc, "fuel"))
+        .arg(needed(alloc, "arg"))
 }
 
 /// An argument that has to be there, at its place among the others.

@@ -1,16 +1,22 @@
-//! The top call: all that the program `links` does, over any files and any sink. The README has the table of its
-//! statuses, `specs/Answers.antt` their causes.
+//! The top call: all that the program `links` does, over any files, any stores and any sink. The README has the table of
+//! its statuses, `specs/Answers.antt` their causes.
 #![tactic(auto)]
 
 mod answer;
 mod command;
+mod compile;
+mod load;
 mod report;
 mod schemes;
+mod session;
 mod top;
 
-pub use answer::{Answer, Checked, Refusal};
+pub use answer::{Answer, Checked, Done, Refusal};
 pub use command::{CheckCommand, Command, SourceCommand};
-pub use top::links_main;
+pub use top::{Ran, links_main};
 
 /// How many bytes of a program's file are read: one more than a program's text may have.
 const READ_MAX: u64 = 1_048_577;
+
+/// How many bytes of a tables file are read: one more than a tables file may have.
+const TABLES_READ_MAX: u64 = 16_777_217;

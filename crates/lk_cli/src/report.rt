@@ -1,29 +1,66 @@
-//! What `source` prints for a run.
+//! What `source` prints for a session.
 
-ghost use Rattle.std.specs.List.{list_any};
-ghost use Rattle.std.specs.Prelude.{◌≡◌, IfOk, false};
+ghost use Rattle.std.specs.List.{flat_map, list_any};
+ghost use Rattle.std.specs.Prelude.{◌≡◌, ◌++◌, IfOk, false};
 ghost use Rattle.lk_ast.specs.JsonText.{value_text_of};
 ghost use Rattle.lk_ast.specs.Plain.{holds_function};
 ghost use Rattle.lk_ast.specs.declared.value.Value.TheVariants.{List as list_value};
-ghost use Rattle.lk_cli.specs.Report.{IsShownEnd, IsShownRun, event_line, end_line, report_of, trap_name};
-ghost use Rattle.lk_mono.specs.Plain.{IsPlainEvent};
+ghost use Rattle.lk_cli.specs.Report.{IsReport, IsTablesLine, event_line, end_line, trap_name};
 ghost use Rattle.lk_operators.specs.Values.{text as text_value};
+ghost use Rattle.lk_types.specs.Each.{Each};
+ghost use Rattle.lk_sem.specs.SourceRuns.{IsPlainEnd, IsPlainEvent, IsPlainRun};
 
-use lk_ast::{Base, Event, NoMemory, Text, Trap, Value, copy_values, rows_value, value_text};
-use lk_sem::{SourceEnd, SourceRun};
+use crate::answer::Done;
+use lk_ast::{
+    Base, Event, NoMemory, TableRows, Text, Trap, Value, copy_values, rows_value, value_text,
+};
+use lk_sem::SourceEnd;
+use lk_tables::print_tables;
 use std::alloc::Global;
 
-/// The report of a run in which no function is shown: a line for each event in order, and one for its end.
-pub fn report(alloc: Global, run: &SourceRun) -> Result<Text, NoMemory>
-    requires shown { IsShownRun run.now }
-    ensures { IfOk result (λ text. text ≡ report_of run.now) }
+/// The report of a session in which no function is shown: a line for each event in order, one for the declared tables, and
+/// one for the end.
+pub fn report(alloc: Global, done: &Done) -> Result<Text, NoMemory>
+    requires shown { IsPlainRun done.now.run }
+    ensures { IfOk result (IsReport done.now) }
+{
+    let events = lines_of_events(alloc, done.run.log.as_slice())?;
+    let tables = line_of_tables(alloc, done.tables.as_slice())?;
+    let end = line_of_end(alloc, &done.run.end, done.run.used)?;
+    Ok(joined(events, &tables, &end)?)
+}
+
+/// Two texts behind another.
+fn joined(first: Text, second: &Text, third: &Text) -> Result<Text, NoMemory>
+    ensures { IfOk result (λ text. text ≡ first ++ (second.now ++ third.now)) }
+{
+    let mut text = first;
+    text.push(second.as_str())?;
+    text.push(third.as_str())?;
+    Ok(text)
+}
+
+fn lines_of_events(alloc: Global, log: &[Event]) -> Result<Text, NoMemory>
+    requires plain { Each IsPlainEvent log.now }
+    ensures { IfOk result (λ text. text ≡ flat_map event_line log.now) }
 {
     let mut text = Text::new(alloc);
-    for event in run.log.as_slice() {
+    for event in log {
         text.push(line_of_event(alloc, event)?.as_str())?;
     }
-    text.push(line_of_end(alloc, &run.end, run.used)?.as_str())?;
     Ok(text)
+}
+
+/// The line of the declared tables, if there are any.
+fn line_of_tables(alloc: Global, tables: &[TableRows]) -> Result<Text, NoMemory>
+    ensures { IfOk result (IsTablesLine tables.now) }
+{
+    if tables.is_empty() {
+        return Ok(Text::new(alloc));
+    }
+    let object = print_tables(alloc, tables)?;
+    let line = format!(in alloc; "tables {}\n", object.as_str())?;
+    Ok(Text::from_string(line))
 }
 
 fn line_of_event(alloc: Global, event: &Event) -> Result<Text, NoMemory>
@@ -58,7 +95,7 @@ fn line_of_event(alloc: Global, event: &Event) -> Result<Text, NoMemory>
 }
 
 fn line_of_end(alloc: Global, end: &SourceEnd, used: u64) -> Result<Text, NoMemory>
-    requires shown { IsShownEnd end.now }
+    requires shown { IsPlainEnd end.now }
     ensures { IfOk result (λ line. line ≡ end_line end.now used) }
 {
     match end {
@@ -72,8 +109,9 @@ fn line_of_end(alloc: Global, end: &SourceEnd, used: u64) -> Result<Text, NoMemo
             Ok(Text::from_string(line))
         }
         SourceEnd::Spent => Ok(Text::from_str(alloc, "spent\n")?),
-        SourceEnd::NoStore(at) => {
-            let line = format!(in alloc; "no-store {} {}\n", at.start, at.end)?;
+        SourceEnd::StoreFault => Ok(Text::from_str(alloc, "store fault\n")?),
+        SourceEnd::TableFull(size) => {
+            let line = format!(in alloc; "table-full {}\n", *size)?;
             Ok(Text::from_string(line))
         }
     }

@@ -1,43 +1,66 @@
-//! The top call, and its stages.
+//! The top call, and the answers to commands.
 
-ghost use Rattle.std.specs.Prelude.{◌≡◌, Result, Some, IfOk, IfErr, map, string_bytes};
-ghost use Rattle.lk_cli.specs.Answers.{Answers, Ends, HasGround, HasNoProgram, IsAccepted, IsNotAccepted, IsNotGround, IsNotTyped, IsProgram, IsSession, IsShown, IsTyped};
-ghost use Rattle.lk_cli.specs.Report.{IsShownRun};
-ghost use Rattle.lk_cli.specs.Seen.{seen};
-ghost use Rattle.lk_cli.specs.Words.{form_of};
+ghost use Rattle.std.specs.List.{AllZip};
+ghost use Rattle.std.specs.Prelude.{◌≡◌, ◌≤◌, false, All, IfErr, IfOk, IfSome, None, Result, Some, bytes_eq, find, map, string_bytes};
+ghost use Rattle.lk_ast.specs.Tables.{table_defs as declared_tables};
+ghost use Rattle.lk_bag.specs.Blocks.{AreBlocksApart};
+ghost use Rattle.lk_cli.specs.Answers.{Answers, AnswersSession, Ends, HasNoAccepted, HasNoRows, HasNoStore, IsAccepted, IsProgram, IsShown, answer_of};
+ghost use Rattle.lk_cli.specs.Loading.{AreLoaded, IsOfTable};
+ghost use Rattle.lk_cli.specs.Seen.{StoresSeen, seen, stores_seen};
+ghost use Rattle.lk_cli.specs.Words.{form_of, store_of};
 ghost use Rattle.lk_cli.specs.declared.answer.Answer.{Answer as TheAnswer};
 ghost use Rattle.lk_cli.specs.declared.answer.Refusal.{Refusal as TheRefusal};
 ghost use Rattle.lk_cli.specs.declared.command.Command.TheVariants.{Check, Source};
-ghost use Rattle.lk_ground.specs.UsesApart.{AreUsesApart};
 ghost use Rattle.lk_index.specs.Places.{ArePlaced};
+ghost use Rattle.lk_sound.specs.Instances.{IsShaped};
+ghost use Rattle.lk_sound.specs.Law.{AreBoundAndApart};
 
-use crate::READ_MAX;
 use crate::answer::{Answer, Checked, Refusal, answer_status, print_answer};
 use crate::command::{CheckCommand, Command, SourceCommand, read_words};
-use lk_ast::{NoMemory, Program, Text};
-use lk_infer::infer;
-use lk_mono::ground;
-use lk_names::resolve;
-use lk_outside::{Files, OutFault, Sink};
-use lk_parse::parse;
-use lk_places::places_law;
-use lk_sem::{SourceRun, source_run};
+use crate::compile::{check_program, read_program};
+use crate::load::rows_to_load;
+use crate::session::{Rows, Tried, run_in_box};
+use lk_ast::{Program, Text};
+use lk_bag::table_defs;
+use lk_outside::{Files, OutFault, Sink, Store};
+use lk_store::pick;
 use std::alloc::Global;
 
-/// All that the program does: reads the words, does what they ask for over the files, prints to the sink and gives the
-/// status. There is an answer that has its cause, and the run ends with it.
+/// The status of a run, and the store that was picked for it.
+#[derive(Drop)]
+pub struct Ran {
+    pub status: u8,
+    pub store: Option<Box<dyn Store + Drop>>,
+}
+
+/// An answer that isn't printed yet, and the store that was picked for it.
+#[derive(Drop)]
+struct Answered {
+    answer: Result<Answer, Refusal>,
+    store: Option<Box<dyn Store + Drop>>,
+}
+
+/// All that the program does: reads the words, does what they ask for over the files and a store, prints to the sink and
+/// gives the status, with the store if one was picked. There is an answer that has its cause, and the run ends with it.
 pub fn links_main<F: Files, O: Sink>(
     alloc: Global,
     words: &[String],
     files: &mut F,
+    stores: Vec<Box<dyn Store + Drop>>,
     out: &mut O,
-) -> u8
+) -> Ran
+    requires idle { All (λ store. is_open store ≡ false) stores.items }
     ensures answer { (answer : Result TheAnswer TheRefusal)
-        × Answers (seen F.contents F.failed F.faults files.old files.new) (form_of (map string_bytes words.now)) answer
-        × Ends answer (O.taken out.old) (O.taken out.new) (O.faults out.old) (O.faults out.new) result }
+        × Answers (seen F.contents F.failed F.faults files.old files.new)
+        (stores_seen (λ store. name store) (λ store. tables store) (λ store. (⟦<dyn Store as Store>⟧ store.vtable).faults store.value) stores.items result.store (store_of (form_of (map string_bytes words.now))))
+        (form_of (map string_bytes words.now)) answer
+        × Ends answer (O.taken out.old) (O.taken out.new) (O.faults out.old) (O.faults out.new) result.status }
+    ensures idle { IfSome result.store (λ store. is_open store ≡ false) }
+    ensures named { IfSome result.store (λ store. name store ≡ store_of (form_of (map string_bytes words.now))) }
 {
-    let answer = answer_words(alloc, words, files);
-    deliver(alloc, &answer, out)
+    let Answered { answer, store } = answer_words(alloc, words, files, stores);
+    let status = deliver(alloc, &answer, out);
+    Ran { status, store }
 }
 
 /// Prints an answer and gives its status, or that of a sink that failed, or of want of memory.
@@ -56,114 +79,183 @@ fn deliver<O: Sink>(alloc: Global, answer: &Result<Answer, Refusal>, out: &mut O
 }
 
 /// The answer to the words.
-fn answer_words<F: Files>(alloc: Global, words: &[String], files: &mut F) -> Result<Answer, Refusal>
-    ensures shown { IsShown result }
-    ensures answers { Answers (seen F.contents F.failed F.faults files.old files.new) (form_of (map string_bytes words.now)) result }
+fn answer_words<F: Files>(
+    alloc: Global,
+    words: &[String],
+    files: &mut F,
+    stores: Vec<Box<dyn Store + Drop>>,
+) -> Answered
+    requires idle { All (λ store. is_open store ≡ false) stores.items }
+    ensures shown { IsShown result.answer }
+    ensures answers { Answers (seen F.contents F.failed F.faults files.old files.new)
+        (stores_seen (λ store. name store) (λ store. tables store) (λ store. (⟦<dyn Store as Store>⟧ store.vtable).faults store.value) stores.items result.store (store_of (form_of (map string_bytes words.now))))
+        (form_of (map string_bytes words.now)) result.answer }
+    ensures idle { IfSome result.store (λ store. is_open store ≡ false) }
+    ensures named { IfSome result.store (λ store. name store ≡ store_of (form_of (map string_bytes words.now))) }
 {
     match read_words(alloc, words) {
-        Err(_) => Err(Refusal::NoMemory),
-        Ok(None) => Err(Refusal::Words),
-        Ok(Some(Command::Check(command))) => answer_check(alloc, &command, files),
-        Ok(Some(Command::Source(command))) => answer_source(alloc, &command, files),
+        Err(_) => Answered {
+            answer: Err(Refusal::NoMemory),
+            store: None,
+        },
+        Ok(None) => Answered {
+            answer: Err(Refusal::Words),
+            store: None,
+        },
+        Ok(Some(Command::Check(command))) => Answered {
+            answer: answer_check(alloc, &command, files),
+            store: None,
+        },
+        Ok(Some(Command::Source(command))) => answer_source(alloc, &command, files, stores),
     }
 }
 
-/// The answer to `check`.
+/// The answer to `check`, which asks for no store.
 fn answer_check<F: Files>(
     alloc: Global,
     command: &CheckCommand,
     files: &mut F,
 ) -> Result<Answer, Refusal>
     ensures shown { IsShown result }
-    ensures answers { Answers (seen F.contents F.failed F.faults files.old files.new) (Some (Check command.now)) result }
+    ensures answers { (stores : StoresSeen) → stores.back ≡ None → Answers (seen F.contents F.failed F.faults files.old files.new) stores (Some (Check command.now)) result }
 {
-    let program = read_program(alloc, command.program.as_str(), files)?;
-    Ok(Answer::Schemes(check_program(alloc, program)?))
+    Ok(Answer::Schemes(accepted_program(alloc, command.program.as_str(), files)?))
 }
 
-/// The answer to `source`.
+/// The answer to `source`. Its program is read and accepted before a store is picked.
 fn answer_source<F: Files>(
     alloc: Global,
     command: &SourceCommand,
     files: &mut F,
-) -> Result<Answer, Refusal>
-    ensures shown { IsShown result }
-    ensures answers { Answers (seen F.contents F.failed F.faults files.old files.new) (Some (Source command.now)) result }
+    stores: Vec<Box<dyn Store + Drop>>,
+) -> Answered
+    requires idle { All (λ store. is_open store ≡ false) stores.items }
+    ensures shown { IsShown result.answer }
+    ensures answers { Answers (seen F.contents F.failed F.faults files.old files.new)
+        (stores_seen (λ store. name store) (λ store. tables store) (λ store. (⟦<dyn Store as Store>⟧ store.vtable).faults store.value) stores.items result.store command.now.store)
+        (Some (Source command.now)) result.answer }
+    ensures idle { IfSome result.store (λ store. is_open store ≡ false) }
+    ensures named { IfSome result.store (λ store. name store ≡ command.now.store) }
 {
-    let program = read_program(alloc, command.program.as_str(), files)?;
-    let checked = check_program(alloc, program)?;
-    let run = run_session(alloc, &checked, &command.arg, command.fuel)?;
-    Ok(Answer::Run(run))
+    match accepted_program(alloc, command.program.as_str(), files) {
+        Ok(checked) => answer_session(alloc, checked.program.program(), command, files, stores),
+        Err(refusal) => Answered {
+            answer: Err(refusal),
+            store: None,
+        },
+    }
 }
 
-/// The program of the file of that name. Its functions and lambdas begin at places of their own, and so do the uses of
-/// functions in each body.
-fn read_program<F: Files>(alloc: Global, name: &str, files: &mut F) -> Result<Program, Refusal>
-    ensures program { IfOk result (IsProgram (seen F.contents F.failed F.faults files.old files.new) name.now) }
-    ensures placed { IfOk result ArePlaced }
-    ensures apart { IfOk result AreUsesApart }
-    ensures refused { IfErr result (HasNoProgram (seen F.contents F.failed F.faults files.old files.new) name.now) }
+/// The answer to `source` for an accepted program. A store is picked before the tables file is read.
+fn answer_session<F: Files>(
+    alloc: Global,
+    program: &Program,
+    command: &SourceCommand,
+    files: &mut F,
+    stores: Vec<Box<dyn Store + Drop>>,
+) -> Answered
+    requires apart { AreBoundAndApart program.now }
+    requires shaped { IsShaped program.now }
+    requires idle { All (λ store. is_open store ≡ false) stores.items }
+    ensures contents { F.contents files.new ≡ F.contents files.old }
+    ensures later { F.faults files.old ≤ F.faults files.new }
+    ensures shown { IsShown result.answer }
+    ensures answers { AnswersSession (seen F.contents F.failed F.faults files.old files.new)
+        (stores_seen (λ store. name store) (λ store. tables store) (λ store. (⟦<dyn Store as Store>⟧ store.vtable).faults store.value) stores.items result.store command.now.store)
+        command.now program.now result.answer }
+    ensures idle { IfSome result.store (λ store. is_open store ≡ false) }
+    ensures named { IfSome result.store (λ store. name store ≡ command.now.store) }
 {
-    places_law();
-    let text = match files.read(alloc, name, READ_MAX) {
-        Ok(text) => text,
-        Err(OutFault::NoMemory) => return Err(Refusal::NoMemory),
-        Err(OutFault::Failed) => {
-            return Err(Refusal::ReadFault(Text::from_str(alloc, files.failed())?));
+    let Some(store) = ready(stores, command.store.as_str()) else {
+        return Answered {
+            answer: Err(no_store(alloc, &command.store)),
+            store: None,
+        };
+    };
+    let rows = match rows_of_session(alloc, program, command, files) {
+        Ok(rows) => rows,
+        Err(refusal) => {
+            return Answered {
+                answer: Err(refusal),
+                store: Some(store),
+            };
         }
     };
-    Ok(parse(alloc, text.as_slice())?)
+    tell(run_in_box(alloc, program, command, rows, store))
 }
 
-/// The program with its names bound, its schemes and its types, and with a ground program.
-fn check_program(alloc: Global, program: Program) -> Result<Checked, Refusal>
-    requires placed { ArePlaced program }
-    ensures same { IfOk result (λ checked. checked.program ≡ program) }
+/// The answer to `source` where a session was tried, with its store.
+fn tell(tried: Tried) -> Answered
+    ensures answer { result.answer ≡ answer_of tried.outcome }
+    ensures store { result.store ≡ Some tried.store }
+{
+    let Tried { outcome, store } = tried;
+    let store = Some(store);
+    match outcome {
+        Ok(done) => Answered {
+            answer: Ok(Answer::Run(done)),
+            store,
+        },
+        Err(OutFault::Failed) => Answered {
+            answer: Err(Refusal::StoreFault),
+            store,
+        },
+        Err(OutFault::NoMemory) => Answered {
+            answer: Err(Refusal::NoMemory),
+            store,
+        },
+    }
+}
+
+/// The program of the file of that name, accepted with its schemes and types.
+fn accepted_program<F: Files>(alloc: Global, file: &str, files: &mut F) -> Result<Checked, Refusal>
+    ensures contents { F.contents files.new ≡ F.contents files.old }
+    ensures later { F.faults files.old ≤ F.faults files.new }
+    ensures program { IfOk result (λ checked. IsProgram (seen F.contents F.failed F.faults files.old files.new) file.now checked.program) }
     ensures accepted { IfOk result (λ checked. IsAccepted checked.program checked.typed) }
     ensures placed { IfOk result (λ checked. ArePlaced checked.program) }
-    ensures refused { IfErr result (IsNotAccepted program) }
+    ensures blocks { IfOk result (λ checked. AreBlocksApart checked.program) }
+    ensures refused { IfErr result (HasNoAccepted (seen F.contents F.failed F.faults files.old files.new) file.now) }
 {
-    let checked = type_program(alloc, program)?;
-    make_ground(alloc, &checked)?;
-    Ok(checked)
+    let program = read_program(alloc, file, files)?;
+    Ok(check_program(alloc, program)?)
 }
 
-/// The program with its names bound, its schemes and its types.
-fn type_program(alloc: Global, program: Program) -> Result<Checked, Refusal>
-    ensures same { IfOk result (λ checked. checked.program ≡ program) }
-    ensures typed { IfOk result (λ checked. IsTyped checked.program checked.typed) }
-    ensures refused { IfErr result (IsNotTyped program) }
+/// The store of that name, which has no transaction under way.
+fn ready(stores: Vec<Box<dyn Store + Drop>>, wanted: &str) -> Option<Box<dyn Store + Drop>>
+    requires idle { All (λ store. is_open store ≡ false) stores.items }
+    ensures first { result ≡ find (λ store. bytes_eq wanted.now (name store)) stores.items }
+    ensures idle { IfSome result (λ store. is_open store ≡ false) }
+    ensures named { IfSome result (λ store. name store ≡ wanted.now) }
 {
-    let scoped = resolve(alloc, program)?;
-    let typed = infer(alloc, &scoped)?;
-    Ok(Checked {
-        program: scoped,
-        typed,
-    })
+    pick(stores, wanted)
 }
 
-/// Makes the ground program of a typed program, only to see that there is one.
-fn make_ground(alloc: Global, checked: &Checked) -> Result<(), Refusal>
-    requires typed { IsTyped checked.now.program checked.now.typed }
-    ensures made { IfOk result (λ done. HasGround checked.now.program checked.now.typed) }
-    ensures refused { IfErr result (IsNotGround checked.now.program checked.now.typed) }
+/// The refusal of a name that no store has.
+fn no_store(alloc: Global, wanted: &Text) -> Refusal
+    ensures { (stores : StoresSeen) → stores.given ≡ None → stores.back ≡ None → HasNoStore stores wanted.now result }
 {
-    ground(alloc, &checked.program, &checked.typed)?;
-    Ok(())
+    match wanted.copy(alloc) {
+        Ok(wanted) => Refusal::NoStore(wanted),
+        Err(_) => Refusal::NoMemory,
+    }
 }
 
-/// The evaluation of the session of a program with this argument and fuel. The program is accepted, and its functions and
-/// lambdas begin at places of their own, so no expression in it lacks a rule and no function is shown.
-fn run_session(
+/// The declared tables of a program, with the rows that are asked for.
+fn rows_of_session<F: Files>(
     alloc: Global,
-    checked: &Checked,
-    arg: &Text,
-    fuel: u64,
-) -> Result<SourceRun, NoMemory>
-    requires accepted { IsAccepted checked.now.program checked.now.typed }
-    requires placed { ArePlaced checked.now.program }
-    ensures session { IfOk result (IsSession checked.now.program arg.now fuel) }
-    ensures shown { IfOk result IsShownRun }
+    program: &Program,
+    command: &SourceCommand,
+    files: &mut F,
+) -> Result<Rows, Refusal>
+    ensures contents { F.contents files.new ≡ F.contents files.old }
+    ensures later { F.faults files.old ≤ F.faults files.new }
+    ensures declared { IfOk result (λ rows. rows.defs ≡ declared_tables program.now) }
+    ensures loaded { IfOk result (λ rows. AreLoaded (seen F.contents F.failed F.faults files.old files.new) command.now.tables (declared_tables program.now) rows.loaded) }
+    ensures fit { IfOk result (λ rows. AllZip IsOfTable rows.defs rows.loaded) }
+    ensures refused { IfErr result (HasNoRows (seen F.contents F.failed F.faults files.old files.new) command.now.tables (declared_tables program.now)) }
 {
-    Ok(source_run(alloc, checked.program.program(), arg, fuel)?)
+    let defs = table_defs(alloc, program)?;
+    let loaded = rows_to_load(alloc, command.tables.as_ref(), defs.as_slice(), files)?;
+    Ok(Rows { defs, loaded })
 }

@@ -7,7 +7,7 @@ use Rattle.lk_ast.specs.declared.declaration.Decl.{Decl}
 use Rattle.lk_ast.specs.declared.declaration.TableDecl.{TableDecl}
 use Rattle.lk_types.specs.Rows.{Label}
 use Rattle.lk_typing.specs.Names.{Named, named}
-use Rattle.lk_typing.specs.Programs.{tables_in}
+use Rattle.lk_ast.specs.Tables.{tables_in}
 use Rattle.lk_equations.specs.Tabled.{AreNamed}
 use denote.Ref.{Bor}
 

@@ -3,7 +3,7 @@
 ghost use Rattle.std.specs.Option.{option_copied};
 ghost use Rattle.std.specs.Prelude.{◌≡◌, IfOk, bytes_eq, find};
 ghost use Rattle.lk_typing.specs.Names.{table_named};
-ghost use Rattle.lk_typing.specs.Programs.{tables_of};
+ghost use Rattle.lk_ast.specs.Tables.{tables_of};
 
 use crate::proper::make_row;
 use crate::scope::Scope;

@@ -7,7 +7,7 @@ use Rattle.lk_ast.specs.declared.table.Row.{Row}
 use Rattle.lk_ast.specs.declared.value.Value.{Value}
 use Rattle.lk_evaluation.specs.Evaluation.{Language, Evaluates, client_call, reading, node, eval_to, eval}
 use Rattle.lk_evaluation.specs.Laws.{run_of}
-use Rattle.lk_evaluation.specs.Run.{Run, Out, Goes, Stops, Spent, Trapped, Stuck, NoStore, and_then, step, logs, enter, enter_with, Callee, Called, Returned}
+use Rattle.lk_evaluation.specs.Run.{Run, Out, Goes, Stops, Spent, Trapped, Stuck, and_then, step, logs, enter, enter_with, Callee, Called, Returned}
 use Rattle.lk_evaluation.proofs.Walk.{Walk, Keeps, node_walks}
 
 -- the same run, with at most that much fuel
@@ -38,7 +38,6 @@ walk n = record {
   goes = λ i A a r s h. (ap (Goes a) h.0, h.1);
   fails = λ i t r s h. (ap (Stops (Trapped t)) h.0, h.1);
   lacks = λ i t r s h. (ap (Stops (Stuck t)) h.0, h.1);
-  misses = λ i t r s h. (ap (Stops (NoStore t)) h.0, h.1);
   steps = λ i r s h. (ap step h.0, h.1);
   logged = λ i e c r s h. (ap (logs e c) h.0, h.1);
   reads = λ i site args r s h. subst (λ x. Same n Value (reading site args r.answers r) (reading site args x.answers x)) h.0 (reads_same n site args r.answers r h.1);

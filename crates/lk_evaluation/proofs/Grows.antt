@@ -11,10 +11,10 @@ use Rattle.lk_evaluation.specs.Run.{Run, Entry, Out, Goes, Stops, and_then, step
 use Rattle.lk_evaluation.proofs.Walk.{Walk, node_walks}
 
 -- the log of a run, and of an outcome, begins with `log`
-abbrev Runs : List Entry → Run → Run → Type 0
+abbrev pub Runs : List Entry → Run → Run → Type 0
 Runs log r s = Extends log s.log
 
-abbrev Outs : List Entry → (A : Type 0) → Out A → Out A → Type 0
+abbrev pub Outs : List Entry → (A : Type 0) → Out A → Out A → Type 0
 Outs log A o p = Extends log (run_of p).log
 
 pub extends_itself : (log : List Entry) → Extends log log
@@ -40,12 +40,11 @@ pub enter_extends : (log : List Entry) (fuel : ℕ) (s : Run) (k : Run → Out V
 enter_extends log zero s k e kk = e
 enter_extends log (suc n) s k e kk = kk (record s { fuel = n; steps = s.steps + 1 }) e
 
-walk : Walk (List Entry) Runs Outs
+pub walk : Walk (List Entry) Runs Outs
 walk = record {
   goes = λ log A a r s e. e;
   fails = λ log t r s e. e;
   lacks = λ log t r s e. e;
-  misses = λ log t r s e. e;
   steps = λ log r s e. e;
   logged = λ log event what r s e. extends_later log _ s.log e;
   reads = λ log site args r s e. reading_extends log site args s.answers s e;
@@ -54,7 +53,7 @@ walk = record {
 }
 
 module _ (l : Language) where
-  grows_to : (d : ℕ) (log : List Entry) (e : l.Point) (place : Loc) (r s : Run) → Runs log r s → Outs log Value (eval_to d l e place r) (eval_to d l e place s)
+  pub grows_to : (d : ℕ) (log : List Entry) (e : l.Point) (place : Loc) (r s : Run) → Runs log r s → Outs log Value (eval_to d l e place r) (eval_to d l e place s)
   unfolding eval_to
   grows_to zero log e place r s h = h
   grows_to (suc d) log e place r s h = enter_extends log s.fuel s (node l (eval_to d l) e place) h (λ t g. node_walks l (List Entry) Runs Outs walk (eval_to d l) (eval_to d l) (grows_to d) log e place t t g)

@@ -7,7 +7,7 @@ use Rattle.lk_ast.specs.declared.table.Row.{Row}
 use Rattle.lk_ast.specs.declared.value.Value.{Value}
 use Rattle.lk_evaluation.specs.Evaluation.{Language, client_call, reading, node, eval_to, eval}
 use Rattle.lk_evaluation.specs.Laws.{run_of, Extends, with_returns, richer, IsRicher}
-use Rattle.lk_evaluation.specs.Run.{Run, Entry, Out, Goes, Stops, Spent, Waiting, Trapped, Stuck, NoStore, Asked, Callee, Called, Returned, and_then, step, logs, enter_with}
+use Rattle.lk_evaluation.specs.Run.{Run, Entry, Out, Goes, Stops, Spent, Waiting, Trapped, Stuck, Asked, Callee, Called, Returned, and_then, step, logs, enter_with}
 use Rattle.lk_evaluation.proofs.Fixpoint.{one_level}
 use Rattle.lk_evaluation.proofs.Grows.{extends_itself, extends_later, then_extends, reading_extends, call_extends, enter_extends}
 use Rattle.lk_evaluation.proofs.Walk.{Walk, Keeps, node_walks}
@@ -43,9 +43,8 @@ module _ (fuel : ℕ) (answers : List (List Row)) (returns : List Value) where
   then_richer None A B (Goes a r) p j k e jk = subst (λ q. IsRich B (j a r) (and_then q k)) (sym e) (jk None a r _ refl)
   then_richer None A B (Stops (Trapped t) r) p j k e jk = ap (λ q. and_then q k) e
   then_richer None A B (Stops (Stuck at) r) p j k e jk = ap (λ q. and_then q k) e
-  then_richer None A B (Stops (NoStore at) r) p j k e jk = ap (λ q. and_then q k) e
   then_richer None A B (Stops Spent r) p j k e jk = alone r.log A B p j k e jk
-  then_richer None A B (Stops Waiting r) p j k e jk = alone r.log A B p j k e jk
+  then_richer None A B (Stops (Waiting site args) r) p j k e jk = alone r.log A B p j k e jk
   then_richer None A B (Stops (Asked c args) r) p j k e jk = alone r.log A B p j k e jk
 
   reads_richer : (site : ℕ) (args : List Value) (own : List (List Row)) (r : Run) → IsRich Value (reading site args own r) (reading site args (own ++ answers) (rich r))
@@ -66,7 +65,6 @@ module _ (fuel : ℕ) (answers : List (List Row)) (returns : List Value) where
     goes = λ i A a r s. elim i as (λ n. R n r s → O n A (Goes a r) (Goes a s)) [ None ↦ λ e. ap (Goes a) e | Some log ↦ λ e. e ];
     fails = λ i t r s. elim i as (λ n. R n r s → O n Value (Stops (Trapped t) r) (Stops (Trapped t) s)) [ None ↦ λ e. ap (Stops (Trapped t)) e | Some log ↦ λ e. e ];
     lacks = λ i t r s. elim i as (λ n. R n r s → O n Value (Stops (Stuck t) r) (Stops (Stuck t) s)) [ None ↦ λ e. ap (Stops (Stuck t)) e | Some log ↦ λ e. e ];
-    misses = λ i t r s. elim i as (λ n. R n r s → O n Value (Stops (NoStore t) r) (Stops (NoStore t) s)) [ None ↦ λ e. ap (Stops (NoStore t)) e | Some log ↦ λ e. e ];
     steps = λ i r s. elim i as (λ n. R n r s → R n (step r) (step s)) [ None ↦ λ e. ap step e | Some log ↦ λ e. e ];
     logged = λ i v c r s. elim i as (λ n. R n r s → R n (logs v c r) (logs v c s)) [ None ↦ λ e. ap (logs v c) e | Some log ↦ λ e. extends_later log _ s.log e ];
     reads = λ i site args r s. elim i as (λ n. R n r s → O n Value (reading site args r.answers r) (reading site args s.answers s)) [

@@ -1,27 +1,45 @@
 -- Evaluations worked by hand, computed by the definition.
-use Rattle.std.proofs.Common.{◌≡◌, ℕ, List, [], ◌∷◌}
+use Rattle.std.proofs.Common.{◌≡◌, ℕ, List, [], ◌∷◌, ◌++◌, if◌then◌else◌, map, length, pos, sym, ap, ◌∙◌}
 use Rattle.std.specs.Prelude.{codes, None, Some, cond}
 use Rattle.std.proofs.lemmas.Cmp.{nat_list_cmp_total}
 use Rattle.std.specs.Cmp.Lexicographic.{slice_cmp}
 use Rattle.std.specs.FinMap as finite
+use Rattle.std.specs.FinSet as set
 use Rattle.std.specs.Ordering.{nat_cmp, eq_by_cmp}
+use Rattle.std.specs.declared.cmp.Ordering.{Ordering}
+use Rattle.lk_ast.specs.Layers.{Layer, layer}
+use Rattle.lk_ast.specs.Rows.{rows_value}
 use Rattle.lk_ast.specs.declared.declaration.Decl.TheVariants as decl
 use Rattle.lk_ast.specs.declared.declaration.FunDef.{FunDef}
 use Rattle.lk_ast.specs.declared.declaration.Program.{Program}
-use Rattle.lk_ast.specs.declared.event.Event.TheVariants.{Print, Enter, Leave}
-use Rattle.lk_ast.specs.declared.expression.Expr.{Expr}
-use Rattle.lk_ast.specs.declared.expression.Node.{Node}
+use Rattle.lk_ast.specs.declared.event.Event.TheVariants.{Print, Enter, Leave, Read, Write}
+use Rattle.lk_ast.specs.declared.expression.Case.{Case}
+use Rattle.lk_ast.specs.declared.expression.ChangeExpr.{ChangeExpr}
+use Rattle.lk_ast.specs.declared.expression.Expr.{Expr, fold_out-Expr}
+use Rattle.lk_ast.specs.declared.expression.LambdaExpr.{LambdaExpr}
+use Rattle.lk_ast.specs.declared.expression.LastCase.{LastCase}
+use Rattle.lk_ast.specs.declared.expression.Node.{Node, fold_out-Node}
+use Rattle.lk_ast.specs.declared.expression.Node.TheFolds.{map-Node}
+use Rattle.lk_ast.specs.declared.expression.Node.TheOpen.{Node-F}
 use Rattle.lk_ast.specs.declared.expression.Node.TheVariants as node
+use Rattle.lk_ast.specs.declared.expression.PartExpr.{PartExpr, fold_out-PartExpr}
 use Rattle.lk_ast.specs.declared.place.Loc.{Loc}
 use Rattle.lk_ast.specs.declared.place.Loc.TheVariants.{Client, Server}
 use Rattle.lk_ast.specs.declared.place.Word.{Word}
+use Rattle.lk_ast.specs.declared.table.Base.{Base}
+use Rattle.lk_ast.specs.declared.table.Base.TheVariants as base
+use Rattle.lk_ast.specs.declared.table.BaseKind.TheVariants as kind
+use Rattle.lk_ast.specs.declared.table.Row.{Row}
 use Rattle.lk_ast.specs.declared.value.Value.{Value}
 use Rattle.lk_ast.specs.declared.value.Value.TheVariants as value
+use Rattle.lk_index.specs.Free.{Uses, free, free_node, free_case, free_change, free_lambda, free_last, free_part, node_in, case_in, change_in, expr_in, lambda_in, last_in, part_in, in_byte_order, captured_query}
 use Rattle.lk_locals.specs.Names.{Names, bind, lookup}
 use Rattle.lk_evaluation.specs.Evaluation.{eval_to}
-use Rattle.lk_evaluation.specs.Run.{Goes, Within, Called, Returned, Function, start}
+use Rattle.lk_evaluation.specs.Run.{Goes, Stops, Waiting, Within, Called, Returned, Function, Site, start}
 use Rattle.lk_evaluation.specs.Source.{session}
-use Rattle.lk_operators.specs.Values.{text}
+use Rattle.lk_operators.specs.Records.{record_of}
+use Rattle.lk_operators.specs.Values.{field, fields, int, text, unit}
+use Rattle.lk_operators.specs.declared.outcome.Outcome.TheVariants as outcome
 
 -- the value of a name that was bound
 lookup-bind : (names : Names) (x : List ℕ) (v : Value) (q : List ℕ) → lookup (bind x v names) q ≡ cond (eq_by_cmp (slice_cmp nat_cmp) q x) (Some v) (lookup names q)
@@ -58,7 +76,7 @@ abbrev greet : Program
 greet = record { decls = decl.Fun (function 4 (codes "greet") (codes "n") Server (joined (literal (codes "hi ")) (name (codes "n")))) ∷ decl.Fun greet_main ∷ [] }
 
 -- five nodes are entered, control passes to the server and back, and each takes a step
-pub greets : session greet greet_main (codes "ann") (start 10)
+pub greets : session greet greet_main (codes "ann") (start 10 [])
     ≡ Goes (text (codes "hi ann")) (record {
       fuel = 5;
       steps = 7;
@@ -82,7 +100,7 @@ nest = record {
 }
 
 -- fourteen nodes are entered; four changes of place, the values of `print`, of `log` and of the inner `^^` take a step each
-pub nests : session nest nest_main (codes "ann") (start 20)
+pub nests : session nest nest_main (codes "ann") (start 20 [])
     ≡ Goes (text (codes "<ann!>")) (record {
       fuel = 6;
       steps = 21;
@@ -96,3 +114,155 @@ pub nests : session nest nest_main (codes "ann") (start 20)
     })
 unfolding eval_to
 nests = simp (node.outs-Concat, node.outs-Text, node.outs-Name, node.outs-Call, node.outs-Seq, node.outs-Print, value.outs-Base, value.outs-Fields, lookup-bind)
+
+-- ---- tables
+
+-- a node that begins at that byte of the text
+abbrev placed : ℕ → Node → Expr
+placed start n = record { span = record { start = start; end = 0 }; node = n }
+
+-- a row with one column
+abbrev row : List ℕ → Base → Row
+row label b = record { cells = record { label = label; value = b } ∷ [] }
+
+-- table t with (n : Int); fun main(a) client { for (r <-- t) [r.n] }
+abbrev numbers_main : FunDef
+numbers_main = function 28 (codes "main") (codes "a") Client
+    (placed 45 (node.ForTable (word 0 (codes "r")) (placed 45 (node.Table (word 0 (codes "t")))) (at_zero (node.List (at_zero (node.Project (name (codes "r")) (word 0 (codes "n"))) ∷ [])))))
+
+abbrev numbers : Program
+numbers = record { decls = decl.Table (record { name = word 6 (codes "t"); columns = record { label = word 0 (codes "n"); kind = kind.Int } ∷ [] }) ∷ decl.Fun numbers_main ∷ [] }
+
+-- the table's rows
+abbrev one_and_two : List Row
+one_and_two = row (codes "n") (base.Int (pos 1)) ∷ row (codes "n") (base.Int (pos 2)) ∷ []
+
+-- Eight nodes are entered: the loop and its table, and for each row three. Two changes of place, the table's value, those of
+-- `r.n` and those of the lists take a step each. The reading is the server's.
+pub numbered : session numbers numbers_main (codes "ann") (start 10 (one_and_two ∷ [] ∷ []))
+    ≡ Goes (value.List (int (pos 1) ∷ int (pos 2) ∷ [])) (record {
+      fuel = 2;
+      steps = 15;
+      log = record { number = 3; event = Enter; crossing = Called (Site 45) [] }
+          ∷ record { number = 3; event = Read (record { site = 45; args = []; answer = one_and_two }); crossing = Within }
+          ∷ record { number = 4; event = Leave; crossing = Returned (rows_value one_and_two) } ∷ [];
+      answers = [] ∷ [];
+      returns = None;
+    })
+unfolding eval_to
+numbered = simp (node.outs-ForTable, node.outs-Table, node.outs-List, node.outs-Project, node.outs-Name, value.outs-Fields, value.outs-List, lookup-bind)
+
+-- the same without an answer: the reading waits, and says which it is
+pub waits : session numbers numbers_main (codes "ann") (start 10 [])
+    ≡ Stops (Waiting 45 []) (record {
+      fuel = 8;
+      steps = 3;
+      log = record { number = 3; event = Enter; crossing = Called (Site 45) [] } ∷ [];
+      answers = [];
+      returns = None;
+    })
+unfolding eval_to
+waits = simp (node.outs-ForTable, node.outs-Table)
+
+-- fun main(a) client { query { [(n = a)] } }
+abbrev asked_part : PartExpr
+asked_part = record { label = word 0 (codes "n"); expr = name (codes "a") }
+
+abbrev asked_parts : List PartExpr
+asked_parts = asked_part ∷ []
+
+abbrev asked : Expr
+asked = at_zero (node.List (at_zero (node.Record asked_parts) ∷ []))
+
+abbrev query_main : FunDef
+query_main = function 4 (codes "main") (codes "a") Client (placed 21 (node.Query [] asked))
+
+abbrev query : Program
+query = record { decls = decl.Fun query_main ∷ [] }
+
+abbrev order : List ℕ → List ℕ → Ordering
+order = slice_cmp nat_cmp
+
+-- one word is in order
+one_word : (x : List ℕ) → in_byte_order (x ∷ []) ≡ x ∷ []
+one_word x =
+    let entry : List (List ℕ × Unit {0}) = (x, tt) ∷ [] in
+    let same : (q : List ℕ) → finite.get (finite.from_entries {R = order} entry) q ≡ finite.get (finite.from_sorted {R = order} entry) q = λ q. finite.get-from_entries nat_list_cmp_total entry q ∙ sym (finite.get-from_sorted order entry q tt) in
+    let is : finite.from_entries {R = order} entry ≡ finite.from_sorted entry = finite.same_map nat_list_cmp_total (finite.slice_cmp-IsAntisymmetric finite.nat_cmp-IsAntisymmetric) _ _ same in
+    ap finite.keys is ∙ ap (map (λ e. e.0)) (finite.entries-from_sorted order entry tt)
+
+-- a level with the uses in its parts
+abbrev mapped : Layer → Node-F Uses Uses Uses Uses Uses Uses Uses
+mapped = map-Node Node Case ChangeExpr Expr LambdaExpr LastCase PartExpr Uses Uses Uses Uses Uses Uses Uses free_node free_case free_change free free_lambda free_last free_part
+
+-- the free names of an expression of this form
+level : (e : Expr) (l : Layer) → layer e ≡ l → free e set.empty ≡ node_in (mapped l) set.empty
+level e l is =
+    ap (λ f. f set.empty) (fold_out-Expr Uses Uses Uses Uses Uses Uses Uses node_in case_in change_in expr_in lambda_in last_in part_in e)
+    ∙ ap (λ f. f set.empty) (fold_out-Node Uses Uses Uses Uses Uses Uses Uses node_in case_in change_in expr_in lambda_in last_in part_in e.node)
+    ∙ ap (λ l. node_in (mapped l) set.empty) is
+
+part_level : (part : PartExpr) → free_part part set.empty ≡ free part.expr set.empty
+part_level part = ap (λ f. f set.empty) (fold_out-PartExpr Uses Uses Uses Uses Uses Uses Uses node_in case_in change_in expr_in lambda_in last_in part_in part)
+
+-- nothing binds `a` in the query
+asks_for : free asked set.empty ≡ codes "a" ∷ []
+asks_for =
+    level asked _ (node.outs-List _)
+    ∙ ap (λ found. found ++ []) (level (at_zero (node.Record asked_parts)) _ (node.outs-Record asked_parts)
+    ∙ ap (λ found. found ++ []) (part_level asked_part ∙ level (name (codes "a")) _ (node.outs-Name (codes "a"))
+    ∙ ap (λ b. if b then [] else codes "a" ∷ []) (set.contains-empty order (codes "a"))))
+
+captures : captured_query asked ≡ codes "a" ∷ []
+captures = ap in_byte_order asks_for ∙ one_word (codes "a")
+
+-- a query is evaluated by its store, which is told the values that it captured
+pub queries : session query query_main (codes "ann") (start 10 ((row (codes "n") (base.Text (codes "ann")) ∷ []) ∷ []))
+    ≡ Goes (rows_value (row (codes "n") (base.Text (codes "ann")) ∷ [])) (record {
+      fuel = 9;
+      steps = 3;
+      log = record { number = 2; event = Enter; crossing = Called (Site 21) (text (codes "ann") ∷ []) }
+          ∷ record { number = 2; event = Read (record { site = 21; args = text (codes "ann") ∷ []; answer = row (codes "n") (base.Text (codes "ann")) ∷ [] }); crossing = Within }
+          ∷ record { number = 3; event = Leave; crossing = Returned (rows_value (row (codes "n") (base.Text (codes "ann")) ∷ [])) } ∷ [];
+      answers = [];
+      returns = None;
+    })
+unfolding eval_to
+queries = simp (node.outs-Query, captures, lookup-bind)
+
+-- a record of one field
+one_field : (l : List ℕ) (v : Value) → record_of (field l v ∷ []) ≡ outcome.Value (fields (field l v ∷ []))
+one_field l v = simp (as_entries, counted)
+  where
+    entry : List (List ℕ × Value)
+    entry = (l, v) ∷ []
+
+    is : finite.insert {R = order} finite.empty l v ≡ finite.from_sorted entry
+    is = finite.same_map nat_list_cmp_total (finite.slice_cmp-IsAntisymmetric finite.nat_cmp-IsAntisymmetric) _ _ (λ q. finite.get-from_entries nat_list_cmp_total entry q ∙ sym (finite.get-from_sorted order entry q tt))
+
+    as_entries : finite.entries (finite.insert {R = order} finite.empty l v) ≡ entry
+    as_entries = ap finite.entries is ∙ finite.entries-from_sorted order entry tt
+
+    counted : finite.len (finite.insert {R = order} finite.empty l v) ≡ 1
+    counted = finite.len-entries (finite.insert finite.empty l v) ∙ ap length as_entries
+
+-- table t with (n : String); fun main(a) client { insert t values [(n = a)] }
+abbrev insert_main : FunDef
+insert_main = function 31 (codes "main") (codes "a") Client (placed 48 (node.Insert (word 0 (codes "t")) asked))
+
+abbrev insert : Program
+insert = record { decls = decl.Table (record { name = word 6 (codes "t"); columns = record { label = word 0 (codes "n"); kind = kind.Text } ∷ [] }) ∷ decl.Fun insert_main ∷ [] }
+
+-- Four nodes are entered; two changes of place, the row's value and the list's take a step each. The server writes.
+pub inserts : session insert insert_main (codes "ann") (start 10 [])
+    ≡ Goes unit (record {
+      fuel = 6;
+      steps = 8;
+      log = record { number = 7; event = Enter; crossing = Called (Site 48) (value.List (fields (field (codes "n") (text (codes "ann")) ∷ []) ∷ []) ∷ []) }
+          ∷ record { number = 7; event = Write (record { site = 48; args = value.List (fields (field (codes "n") (text (codes "ann")) ∷ []) ∷ []) ∷ [] }); crossing = Within }
+          ∷ record { number = 8; event = Leave; crossing = Returned unit } ∷ [];
+      answers = [];
+      returns = None;
+    })
+unfolding eval_to
+inserts = simp (node.outs-Insert, node.outs-List, node.outs-Record, node.outs-Name, one_field, lookup-bind)

@@ -9,7 +9,7 @@ use Rattle.lk_ast.specs.declared.table.Row.{Row}
 use Rattle.lk_ast.specs.declared.value.Value.{Value}
 use Rattle.lk_evaluation.specs.Evaluation.{Language, client_call, reading, node, eval_to, eval}
 use Rattle.lk_evaluation.specs.Laws.{moved, shift, shifted}
-use Rattle.lk_evaluation.specs.Run.{Run, Entry, Out, Goes, Stops, Trapped, Stuck, NoStore, Spent, Within, Callee, Crossing, Called, Returned, and_then, step, logs, enter_with}
+use Rattle.lk_evaluation.specs.Run.{Run, Entry, Out, Goes, Stops, Trapped, Stuck, Spent, Within, Callee, Crossing, Called, Returned, and_then, step, logs, enter_with}
 use Rattle.lk_evaluation.proofs.Walk.{Walk, node_walks}
 
 pub moved-append : (n : ℕ) (l m : List Entry) → moved n (l ++ m) ≡ moved n l ++ moved n m
@@ -56,7 +56,6 @@ module _ (n : ℕ) (log : List Entry) where
     goes = λ i A a r s h. ap (Goes a) h;
     fails = λ i t r s h. ap (Stops (Trapped t)) h;
     lacks = λ i t r s h. ap (Stops (Stuck t)) h;
-    misses = λ i t r s h. ap (Stops (NoStore t)) h;
     steps = λ i r s h. ap step h ∙ stepped r;
     logged = λ i event what r s h. ap (logs event what) h ∙ logged event what r;
     reads = λ i site args r s h. ap (λ x. reading site args x.answers x) h ∙ reads site args r.answers r;

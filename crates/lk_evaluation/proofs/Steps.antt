@@ -6,7 +6,7 @@ use Rattle.lk_ast.specs.declared.place.Loc.TheVariants.{Client, Server, Any}
 use Rattle.lk_ast.specs.declared.place.Span.{Span}
 use Rattle.lk_ast.specs.declared.table.Row.{Row}
 use Rattle.lk_ast.specs.declared.value.Value.{Value}
-use Rattle.lk_evaluation.specs.Evaluation.{Primitive, Printing, Reading, Writing, Missing, Act, Give, Tail, Goto, Uses, Each, Fails, Lacks, Language, Evaluates, eval_to, eval, handed, part, all_parts, client_call, call_from, reading, used, joined, each, perform, node}
+use Rattle.lk_evaluation.specs.Evaluation.{Primitive, Printing, Reading, Writing, Act, Give, Tail, Goto, Uses, Each, Fails, Lacks, Language, Evaluates, eval_to, eval, handed, part, all_parts, client_call, call_from, reading, used, joined, each, perform, node}
 use Rattle.lk_evaluation.specs.Laws.{run_of}
 use Rattle.lk_evaluation.specs.Run.{Run, Out, Goes, Stops, and_then, enter_with, Callee}
 use Rattle.lk_operators.specs.Values.{list_in}
@@ -41,7 +41,6 @@ used_pays : (n : ℕ) (primitive : Primitive) (r : Run) → pot r + 1 ≤ n → 
 used_pays n (Printing bytes) r le = omega arith
 used_pays n (Reading site args) r le = reading_pays n site args r.answers r le
 used_pays n (Writing site args) r le = omega arith
-used_pays n (Missing at) r le = omega arith
 
 client_call_pays : (n : ℕ) (returns : Option (List Value)) (c : Callee) (args : List Value) (b : Run → Out Value) (r : Run) → ((m : ℕ) (t : Run) → pot t + 1 ≤ m → Pays 1 m (b t)) → pot r + 2 ≤ n → Pays 1 n (client_call returns c args b r)
 client_call_pays n None c args b r bp le = then_pays 1 1 (pot r + 1) n _ _ (omega arith) (bp (pot r + 1) r (omega arith)) (λ v s h. omega arith)

@@ -9,8 +9,8 @@ use Rattle.lk_ast.specs.declared.place.Loc.{Loc}
 use Rattle.lk_ast.specs.declared.place.Loc.TheVariants.{Client, Server, Any}
 use Rattle.lk_ast.specs.declared.place.Span.{Span}
 use Rattle.lk_ast.specs.declared.value.Value.{Value}
-use Rattle.lk_evaluation.specs.Evaluation.{Primitive, Printing, Reading, Writing, Missing, Act, Give, Tail, Goto, Uses, Each, Fails, Lacks, Language, Evaluates, handed, client_call, call_from, reading, used, joined, part, all_parts, each, perform, node}
-use Rattle.lk_evaluation.specs.Run.{Run, Out, Goes, Stops, Stuck, NoStore, Trapped, and_then, step, logs, Callee, Crossing, Called}
+use Rattle.lk_evaluation.specs.Evaluation.{Primitive, Printing, Reading, Writing, Act, Give, Tail, Goto, Uses, Each, Fails, Lacks, Language, Evaluates, handed, client_call, call_from, reading, used, joined, part, all_parts, each, perform, node}
+use Rattle.lk_evaluation.specs.Run.{Run, Out, Goes, Stops, Stuck, Trapped, and_then, step, logs, Callee, Crossing, Called}
 use Rattle.lk_operators.specs.Values.{list_in}
 
 -- a relation of two runs and one of two outcomes, for each index, that each rule keeps
@@ -18,7 +18,6 @@ pub record Walk (I : Type 0) (Runs : I → Run → Run → Type 0) (Outs : I →
   pub goes : (i : I) (A : Type 0) (a : A) (r s : Run) → Runs i r s → Outs i A (Goes a r) (Goes a s)
   pub fails : (i : I) (trap : Trap) (r s : Run) → Runs i r s → Outs i Value (Stops (Trapped trap) r) (Stops (Trapped trap) s)
   pub lacks : (i : I) (at : Span) (r s : Run) → Runs i r s → Outs i Value (Stops (Stuck at) r) (Stops (Stuck at) s)
-  pub misses : (i : I) (at : Span) (r s : Run) → Runs i r s → Outs i Value (Stops (NoStore at) r) (Stops (NoStore at) s)
   pub steps : (i : I) (r s : Run) → Runs i r s → Runs i (step r) (step s)
   pub logged : (i : I) (event : Event) (what : Crossing) (r s : Run) → Runs i r s → Runs i (logs event what r) (logs event what s)
   pub reads : (i : I) (site : ℕ) (args : List Value) (r s : Run) → Runs i r s → Outs i Value (reading site args r.answers r) (reading site args s.answers s)
@@ -58,7 +57,6 @@ module _ (l : Language) (I : Type 0) (Runs : I → Run → Run → Type 0) (Outs
   used_walks i (Printing bytes) r s h = w.goes i _ _ _ _ (w.logged i _ _ r s h)
   used_walks i (Reading site args) r s h = w.reads i site args r s h
   used_walks i (Writing site args) r s h = w.goes i _ _ _ _ (w.logged i _ _ r s h)
-  used_walks i (Missing at) r s h = w.misses i at r s h
 
   joined_walks : (i : I) (at : Span) (made : List Value) (o : Option (List Value)) (j k : List Value → Run → Out Value) (r s : Run) → Runs i r s → ((all : List Value) → Outs i Value (j all r) (k all s))
       → Outs i Value (joined at made o j r) (joined at made o k s)

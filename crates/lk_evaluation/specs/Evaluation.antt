@@ -12,16 +12,15 @@ use Rattle.lk_ast.specs.declared.table.Row.{Row}
 use Rattle.lk_ast.specs.declared.value.FunValue.{FunValue}
 use Rattle.lk_ast.specs.declared.value.Value.{Value}
 use Rattle.lk_ast.specs.declared.value.Value.TheVariants as value
-use Rattle.lk_evaluation.specs.Run.{Run, Out, Goes, Stops, Spent, Waiting, Stuck, NoStore, Trapped, Asked, and_then, step, logs, enter, Callee, Function, Printer, Site, Within, Called, Returned}
+use Rattle.lk_evaluation.specs.Run.{Run, Out, Goes, Stops, Spent, Waiting, Stuck, Trapped, Asked, and_then, step, logs, enter, Callee, Function, Printer, Site, Within, Called, Returned}
 use Rattle.lk_operators.specs.Values.{text, unit, list_in}
 
--- what only one place can do: the client prints; the server reads and writes tables, at that place in the text. As long as
--- there is no store, all that acts on tables is missing one, at that span.
+-- What only one place can do: the client prints; the server reads and writes tables, for what begins at that place in the text,
+-- with what that captured, or with the rows of an insertion.
 pub data Primitive : Type 0 where
   Printing : (bytes : List ℕ) → Primitive
   Reading : (site : ℕ) (args : List Value) → Primitive
   Writing : (site : ℕ) (args : List Value) → Primitive
-  Missing : (at : Span) → Primitive
 
 -- what a point does once its parts have their values
 pub data Act (P : Type 0) : Type 0 where
@@ -73,26 +72,23 @@ call_from place mark callee args body r = body place r
 
 -- a reading has the next answer as its value
 abbrev pub reading : ℕ → List Value → List (List Row) → Run → Out Value
-reading site args [] r = Stops Waiting r
+reading site args [] r = Stops (Waiting site args) r
 reading site args (answer ∷ later) r = Goes (rows_value answer) (logs (Read (record { site = site; args = args; answer = answer })) Within (record r { answers = later }))
 
 abbrev pub used : Primitive → Run → Out Value
 used (Printing bytes) r = Goes unit (logs (Print bytes) Within r)
 used (Reading site args) r = reading site args r.answers r
 used (Writing site args) r = Goes unit (logs (Write (record { site = site; args = args })) Within r)
-used (Missing at) r = Stops (NoStore at) r
 
 abbrev pub callee_of : Primitive → Callee
 callee_of (Printing bytes) = Printer
 callee_of (Reading site args) = Site site
 callee_of (Writing site args) = Site site
-callee_of (Missing at) = Site at.start
 
 abbrev pub args_of : Primitive → List Value
 args_of (Printing bytes) = text bytes ∷ []
 args_of (Reading site args) = args
 args_of (Writing site args) = args
-args_of (Missing at) = []
 
 -- A body's list after those made so far. Another value has no rule, and the bodies that are left aren't evaluated.
 abbrev pub joined : Span → List Value → Option (List Value) → (List Value → Run → Out Value) → Run → Out Value

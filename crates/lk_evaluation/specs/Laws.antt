@@ -2,14 +2,16 @@
 use Rattle.std.specs.Prelude.{◌≡◌, ℕ, ◌+◌, ◌-◌, ◌*◌, ◌≤◌, List, [], ◌∷◌, ◌++◌, map, Option, Some, None}
 use Rattle.lk_ast.specs.Rows.{rows_value}
 use Rattle.lk_ast.specs.declared.declaration.Program.{Program}
+use Rattle.lk_ast.specs.declared.event.Event.{Event}
+use Rattle.lk_ast.specs.declared.event.Event.TheVariants.{Print, Enter, Leave, Read, Write}
 use Rattle.lk_ast.specs.declared.place.Loc.{Loc}
 use Rattle.lk_ast.specs.declared.table.Row.{Row}
 use Rattle.lk_ast.specs.declared.value.Value.{Value}
 use Rattle.lk_ast.specs.declared.value.Value.TheVariants as value
-use Rattle.lk_evaluation.specs.Evaluation.{Act, Give, Tail, Goto, Uses, Each, Fails, Lacks, Language, args_of, node, eval}
-use Rattle.lk_evaluation.specs.Run.{Run, Entry, enter, Out, Goes, Stops, Stop, Trapped, Spent, Waiting, Stuck, NoStore, Asked, Callee, Function, Printer, Site, Crossing, Within, Called, Returned}
+use Rattle.lk_evaluation.specs.Evaluation.{Act, Give, Tail, Goto, Uses, Each, Fails, Lacks, Language, Primitive, Printing, Reading, Writing, node, eval}
+use Rattle.lk_evaluation.specs.Run.{Run, Entry, enter, Out, Goes, Stops, Stop, Trapped, Spent, Waiting, Stuck, Asked, Callee, Function, Printer, Site, Crossing, Within, Called, Returned}
 use Rattle.lk_evaluation.specs.Source.{source}
-use Rattle.lk_operators.specs.Values.{unit, list_in}
+use Rattle.lk_operators.specs.Values.{unit, list_in, text}
 
 -- ---- the run at an end
 
@@ -32,15 +34,13 @@ with_returns more (Some returns) = Some (returns ++ more)
 abbrev pub richer : ℕ → List (List Row) → List Value → Run → Run
 richer fuel answers returns r = record r { fuel = r.fuel + fuel; answers = r.answers ++ answers; returns = with_returns returns r.returns }
 
--- an evaluation that has ended with a value, a trap or for want of a rule or a store ends so again; another one has a longer
--- log
+-- an evaluation that has ended with a value, a trap or for want of a rule ends so again; another one has a longer log
 abbrev pub IsRicher : ℕ → List (List Row) → List Value → (A : Type 0) → Out A → Out A → Type 0
 IsRicher fuel answers returns A (Goes a r) out = out ≡ Goes a (richer fuel answers returns r)
 IsRicher fuel answers returns A (Stops (Trapped trap) r) out = out ≡ Stops (Trapped trap) (richer fuel answers returns r)
 IsRicher fuel answers returns A (Stops (Stuck at) r) out = out ≡ Stops (Stuck at) (richer fuel answers returns r)
-IsRicher fuel answers returns A (Stops (NoStore at) r) out = out ≡ Stops (NoStore at) (richer fuel answers returns r)
 IsRicher fuel answers returns A (Stops Spent r) out = Extends r.log (run_of out).log
-IsRicher fuel answers returns A (Stops Waiting r) out = Extends r.log (run_of out).log
+IsRicher fuel answers returns A (Stops (Waiting site args) r) out = Extends r.log (run_of out).log
 IsRicher fuel answers returns A (Stops (Asked callee args) r) out = Extends r.log (run_of out).log
 
 -- ---- a later start
@@ -78,11 +78,18 @@ MatchingCallees V Printer Printer = Unit {0}
 MatchingCallees V (Site a) (Site b) = a ≡ b
 MatchingCallees V _ _ = ⊥
 
+-- the same is printed; tables are read or written for what begins at the same place, with arguments that match
+abbrev pub MatchingPrimitives : (Value → Value → Type 0) → Primitive → Primitive → Type 0
+MatchingPrimitives V (Printing bytes) (Printing others) = (bytes ≡ others) × V (text bytes) (text others)
+MatchingPrimitives V (Reading site args) (Reading other_site others) = (site ≡ other_site) × Both V args others
+MatchingPrimitives V (Writing site args) (Writing other_site others) = (site ≡ other_site) × Both V args others
+MatchingPrimitives V _ _ = ⊥
+
 abbrev pub MatchingActs : {P Q : Type 0} → (P → Q → Type 0) → (Value → Value → Type 0) → Act P → Act Q → Type 0
 MatchingActs R V (Give v) (Give w) = V v w
 MatchingActs R V (Tail e) (Tail f) = R e f
 MatchingActs R V (Goto mark g args e) (Goto other_mark h others f) = (mark ≡ other_mark) × V (value.Fun g) (value.Fun h) × Both V args others × R e f
-MatchingActs R V (Uses mark one) (Uses other_mark other) = (mark ≡ other_mark) × (one ≡ other) × Both V (args_of one) (args_of one)
+MatchingActs R V (Uses mark one) (Uses other_mark other) = (mark ≡ other_mark) × MatchingPrimitives V one other
 MatchingActs R V (Each at es) (Each other_at fs) = (at ≡ other_at) × Both R es fs
 MatchingActs R V (Fails trap) (Fails other) = trap ≡ other
 MatchingActs R V (Lacks at) (Lacks other_at) = at ≡ other_at
@@ -106,10 +113,19 @@ MatchingCrossings V (Called c args) (Called d others) = MatchingCallees V c d ×
 MatchingCrossings V (Returned v) (Returned w) = V v w
 MatchingCrossings V _ _ = ⊥
 
-abbrev pub MatchingEntries : (Value → Value → Type 0) → Entry → Entry → Type 0
-MatchingEntries V d e = (d.number ≡ e.number) × (d.event ≡ e.event) × MatchingCrossings V d.crossing e.crossing
+-- the same, with arguments of readings and writings that match
+abbrev pub MatchingEvents : (Value → Value → Type 0) → Event → Event → Type 0
+MatchingEvents V (Print bytes) (Print others) = bytes ≡ others
+MatchingEvents V Enter Enter = Unit {0}
+MatchingEvents V Leave Leave = Unit {0}
+MatchingEvents V (Read d) (Read e) = (d.site ≡ e.site) × Both V d.args e.args × (d.answer ≡ e.answer)
+MatchingEvents V (Write d) (Write e) = (d.site ≡ e.site) × Both V d.args e.args
+MatchingEvents V _ _ = ⊥
 
--- the same fuel, steps, events with their numbers, and answers; what crossed matches
+abbrev pub MatchingEntries : (Value → Value → Type 0) → Entry → Entry → Type 0
+MatchingEntries V d e = (d.number ≡ e.number) × MatchingEvents V d.event e.event × MatchingCrossings V d.crossing e.crossing
+
+-- the same fuel, steps and answers; events with the same numbers and what crossed match
 pub record MatchingRuns (V : Value → Value → Type 0) (r s : Run) : Type 0 where
   pub fuel : r.fuel ≡ s.fuel
   pub steps : r.steps ≡ s.steps
@@ -120,9 +136,8 @@ pub record MatchingRuns (V : Value → Value → Type 0) (r s : Run) : Type 0 wh
 abbrev pub MatchingStops : (Value → Value → Type 0) → Stop → Stop → Type 0
 MatchingStops V (Trapped trap) (Trapped other) = trap ≡ other
 MatchingStops V Spent Spent = Unit {0}
-MatchingStops V Waiting Waiting = Unit {0}
+MatchingStops V (Waiting site args) (Waiting other_site others) = (site ≡ other_site) × Both V args others
 MatchingStops V (Stuck at) (Stuck other_at) = at ≡ other_at
-MatchingStops V (NoStore at) (NoStore other_at) = at ≡ other_at
 MatchingStops V (Asked c args) (Asked d others) = MatchingCallees V c d × Both V args others
 MatchingStops V _ _ = ⊥
 
@@ -143,7 +158,7 @@ EnteredLaw l = (point : l.Point) (place : Loc) (r : Run) → eval l point place 
 abbrev pub GrowsLaw : Language → Type 0
 GrowsLaw l = (point : l.Point) (place : Loc) (r : Run) → Extends r.log (run_of (eval l point place r)).log
 
--- With more fuel, answers and returns an evaluation that has ended with a value, a trap or for want of a rule or a store
+-- With more fuel, answers and returns an evaluation that has ended with a value, a trap or for want of a rule
 -- ends so again, with as much more left, and another one has a longer log.
 abbrev pub RicherLaw : Language → Type 0
 RicherLaw l = (point : l.Point) (place : Loc) (r : Run) (fuel : ℕ) (answers : List (List Row)) (returns : List Value)

@@ -1,6 +1,7 @@
 -- What an evaluation has done so far, and what it comes to.
 use Rattle.std.specs.Prelude.{ℕ, zero, suc, ◌+◌, List, [], ◌∷◌, ◌++◌, map, Option, None}
 use Rattle.lk_ast.specs.declared.event.Event.{Event}
+use Rattle.lk_ast.specs.declared.event.Event.TheVariants.{Read}
 use Rattle.lk_ast.specs.declared.event.Trap.{Trap}
 use Rattle.lk_ast.specs.declared.place.Span.{Span}
 use Rattle.lk_ast.specs.declared.table.Row.{Row}
@@ -35,18 +36,17 @@ pub record Run : Type 0 where
   pub answers : List (List Row)
   pub returns : Option (List Value)
 
--- a whole evaluation that begins with that much fuel
-abbrev pub start : ℕ → Run
-start fuel = record { fuel = fuel; steps = 0; log = []; answers = []; returns = None }
+-- a whole evaluation that begins with that much fuel, over these answers
+abbrev pub start : ℕ → List (List Row) → Run
+start fuel answers = record { fuel = fuel; steps = 0; log = []; answers = answers; returns = None }
 
--- why an evaluation ends without a value: a trap; no fuel; no answer for a reading; no rule for what it met; no store for
--- what acts on tables; or, in the server's part, a call of a client function without a return
+-- why an evaluation ends without a value: a trap; no fuel; no answer for a reading; no rule for what it met; or, in the server's
+-- part, a call of a client function without a return
 pub data Stop : Type 0 where
   Trapped : (trap : Trap) → Stop
   Spent : Stop
-  Waiting : Stop
+  Waiting : (site : ℕ) (args : List Value) → Stop
   Stuck : (at : Span) → Stop
-  NoStore : (at : Span) → Stop
   Asked : (callee : Callee) (args : List Value) → Stop
 
 -- what an evaluation comes to: it goes on with what was made, or it stops
@@ -76,3 +76,9 @@ enter r body = enter_with r.fuel r body
 -- the events alone
 abbrev pub events_of : List Entry → List Event
 events_of log = map {A = Entry} (λ entry. entry.event) log
+
+-- the answers of the readings among them
+abbrev pub answers_in : List Event → List (List Row)
+answers_in [] = []
+answers_in (Read e ∷ events) = e.answer ∷ answers_in events
+answers_in (other ∷ events) = answers_in events

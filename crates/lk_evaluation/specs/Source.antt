@@ -16,14 +16,14 @@ use Rattle.lk_ast.specs.declared.place.Word.{Word}
 use Rattle.lk_ast.specs.declared.value.FunValue.{FunValue}
 use Rattle.lk_ast.specs.declared.value.Value.{Value}
 use Rattle.lk_ast.specs.declared.value.Value.TheVariants as value
-use Rattle.lk_index.specs.Free.{captured}
+use Rattle.lk_index.specs.Free.{captured, captured_change, captured_query}
 use Rattle.lk_index.specs.Places.{function_at, lambda_at}
 use Rattle.lk_locals.specs.Names.{Names, no_names, bind, lookup, lookup_all, bind_each, bind_all}
 use Rattle.lk_operators.specs.Operators.{operated}
 use Rattle.lk_operators.specs.Values.{text, truth, text_in, bool_in, list_in, tag_in, fun_in, is_unit}
 use Rattle.lk_operators.specs.declared.outcome.Outcome.{Outcome}
 use Rattle.lk_operators.specs.declared.outcome.Outcome.TheVariants as outcome
-use Rattle.lk_evaluation.specs.Evaluation.{Printing, Missing, Act, Give, Tail, Goto, Uses, Each, Fails, Lacks, Language, eval}
+use Rattle.lk_evaluation.specs.Evaluation.{Printing, Reading, Writing, Act, Give, Tail, Goto, Uses, Each, Fails, Lacks, Language, eval}
 use Rattle.lk_evaluation.specs.Run.{Run, Out}
 use Rattle.lk_evaluation.specs.Syntax.{parts_of, is_plain}
 
@@ -154,18 +154,30 @@ form at (Node-F.ForList x e body) names (v ∷ []) = over at x.text (list_in v) 
 form at (Node-F.ForTable x table body) names (v ∷ []) = over at x.text (list_in v) body names
 form at other names values = choice at other names values
 
--- What a node does with the values of its parts. There is no store yet, so what acts on tables ends at the server.
+-- ---- tables
+
+-- a query that begins here, with the values that it captured
+abbrev pub reads : Span → Option (List Value) → Act Point
+reads at None = Lacks at
+reads at (Some args) = Uses Server (Reading at.start args)
+
+-- an update or a deletion that begins here, with the values that it captured
+abbrev pub writes : Span → Option (List Value) → Act Point
+writes at None = Lacks at
+writes at (Some args) = Uses Server (Writing at.start args)
+
+-- what a node does with the values of its parts
 abbrev pub act : Program → Span → Layer → Names → List Value → Act Point
 act p at (Node-F.Name x) names values = given at (lookup names x)
 act p at (Node-F.Function g) names values = function_value at (function_named p g)
 act p at (Node-F.Lambda lambda) names values = closure at (lookup_all names (captured lambda))
 act p at (Node-F.Call function args) names values = call at values (function_named p function.text)
 act p at (Node-F.Apply f args) names values = apply_first p at values
-act p at (Node-F.Table t) names values = Uses Server (Missing at)
-act p at (Node-F.Query keys e) names values = Uses Server (Missing at)
-act p at (Node-F.Insert t e) names values = Uses Server (Missing at)
-act p at (Node-F.Update change) names values = Uses Server (Missing at)
-act p at (Node-F.Delete change) names values = Uses Server (Missing at)
+act p at (Node-F.Table t) names values = Uses Server (Reading at.start [])
+act p at (Node-F.Query keys e) names values = reads at (lookup_all names (captured_query e))
+act p at (Node-F.Insert t e) names values = Uses Server (Writing at.start values)
+act p at (Node-F.Update change) names values = writes at (lookup_all names (captured_change change))
+act p at (Node-F.Delete change) names values = writes at (lookup_all names (captured_change change))
 act p at other names values = form at other names values
 
 abbrev pub source : Program → Language

@@ -9,8 +9,8 @@ ghost use Rattle.lk_evaluation.specs.Laws.{BoundedLaw, EnteredLaw, GrowsLaw, OfP
 ///
 /// `grows`: the log only grows.
 ///
-/// `richer`: with more fuel, answers or returns an evaluation that has ended with a value, a trap or for want of a rule or
-/// a store ends so again, and another one has a longer log.
+/// `richer`: with more fuel, answers or returns an evaluation that has ended with a value, a trap or for want of a rule
+/// ends so again, and another one has a longer log.
 ///
 /// `shifted`: an evaluation that begins so many steps later and after some entries is the same, so many steps later and
 /// after them.

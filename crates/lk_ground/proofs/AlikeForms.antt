@@ -138,7 +138,7 @@ module _ (p : GroundProgram) (at : Point) (point : source.Point) (is : IsPointOf
     where
       by_text : (o : Option (List ℕ)) → Acts (act_within at.owner (print point.expr.span o)) (print point.expr.span o)
       by_text None = refl
-      by_text (Some bytes) = (refl, refl, (text_itself p bytes, tt))
+      by_text (Some bytes) = (refl, (refl, text_itself p bytes))
 
   pub forms : (l : Layer) → layer point.expr ≡ l → (vs ws : List Value) → AllAlike p vs ws → Acts (act_within at.owner (form point.expr.span l at.point.names vs)) (form point.expr.span l point.names ws)
   forms (Node-F.Var x d rest) here _ _ (more {v} {w} one none) = tail rest _ _ (member _ here rest (inr (inl refl))) (bound_alike p x.text v w at.point.names point.names one is.names)

@@ -1,4 +1,5 @@
--- Names with values that stand for those of the same names: one more, several, and what a lambda captures.
+-- Names with values that stand for those of the same names: one more, several, and what a lambda, a query or a change of a table
+-- captures.
 use Rattle.std.proofs.Common.{◌≡◌, refl, sym, ap, subst, suc, Bool, true, false, cond, ◌==◌, if◌then◌else◌, List, [], ◌∷◌, map, length, bytes_eq, Option, Some, None}
 use Rattle.std.specs.Cmp.Lexicographic.{slice_cmp}
 use Rattle.std.specs.FinMap.{get-empty}

@@ -35,7 +35,7 @@ use Rattle.lk_ground.proofs.AlikeOperations.{lists_made, text_itself}
 use Rattle.lk_ground.proofs.AlikeShapes.{lists_alike}
 use Rattle.lk_ground.proofs.Levels.{outer, own_use, own_label, uses_level, labelled_level}
 use Rattle.lk_ground.proofs.Points.{stands_inside, insides_match}
-use Rattle.lk_index.specs.Free.{captured}
+use Rattle.lk_index.specs.Free.{captured, captured_change, captured_query}
 
 -- ---- parts
 
@@ -100,6 +100,18 @@ module _ (p : GroundProgram) (placed : ArePlaced p.program.now) (are : AreInstan
     looked_up (Some v) None alike = absurd alike
     looked_up (Some v) (Some w) alike = alike
 
+    read : (o q : Option (List Value)) → Maybe (AllAlike p) o q → Acts (act_within at.owner (source.reads point.expr.span o)) (source.reads point.expr.span q)
+    read None None all = refl
+    read None (Some ws) all = absurd all
+    read (Some vs) None all = absurd all
+    read (Some vs) (Some ws) all = (refl, (refl, both_of_all p vs ws all))
+
+    written : (o q : Option (List Value)) → Maybe (AllAlike p) o q → Acts (act_within at.owner (source.writes point.expr.span o)) (source.writes point.expr.span q)
+    written None None all = refl
+    written None (Some ws) all = absurd all
+    written (Some vs) None all = absurd all
+    written (Some vs) (Some ws) all = (refl, (refl, both_of_all p vs ws all))
+
     acts_at : (l : Layer) → layer point.expr ≡ l → (vs ws : List Value) → AllAlike p vs ws → Acts (act p at.owner point.expr.span l at.point.names vs) (source.act p.program.now point.expr.span l point.names ws)
     acts_at (Node-F.Name x) here vs ws all = looked_up (lookup at.point.names x) (lookup point.names x) (is.names x)
     acts_at (Node-F.Function g) here vs ws all = function_acts p placed are at.owner is.owner is.is point.expr.span g (subst (Each (IsCalled p is.owner)) (uses_level point.expr ∙ ap (λ l. own_use l point.expr.span.start ++ flat_map outer_uses (outer l)) here) is.stands.calls).0
@@ -112,11 +124,11 @@ module _ (p : GroundProgram) (placed : ArePlaced p.program.now) (are : AreInstan
         _ _ (all_looked_up p (captured lambda) at.point.names point.names is.names)
     acts_at (Node-F.Apply f args) here _ _ none = refl
     acts_at (Node-F.Apply f args) here _ _ (more {v} {w} {values = vs} {others = ws} one all) = apply_acts p placed are point.expr.span v w vs ws one all
-    acts_at (Node-F.Table t) here vs ws all = (refl, refl, tt)
-    acts_at (Node-F.Query keys e) here vs ws all = (refl, refl, tt)
-    acts_at (Node-F.Insert t e) here vs ws all = (refl, refl, tt)
-    acts_at (Node-F.Update change) here vs ws all = (refl, refl, tt)
-    acts_at (Node-F.Delete change) here vs ws all = (refl, refl, tt)
+    acts_at (Node-F.Table t) here vs ws all = (refl, (refl, tt))
+    acts_at (Node-F.Query keys e) here vs ws all = read _ _ (all_looked_up p (captured_query e) at.point.names point.names is.names)
+    acts_at (Node-F.Insert t e) here vs ws all = (refl, (refl, both_of_all p vs ws all))
+    acts_at (Node-F.Update change) here vs ws all = written _ _ (all_looked_up p (captured_change change) at.point.names point.names is.names)
+    acts_at (Node-F.Delete change) here vs ws all = written _ _ (all_looked_up p (captured_change change) at.point.names point.names is.names)
     acts_at other here vs ws all = forms p at point is other here vs ws all
 
   -- ---- values of tables
@@ -151,8 +163,8 @@ module _ (p : GroundProgram) (placed : ArePlaced p.program.now) (are : AreInstan
   }
 
 pub instances_law : InstancesLaw
-instances_law p placed are main is arg fuel =
-    same (ground p) (source.source p.program.now) (IsPointOf p) (Alike p) (matching p placed are) _ _ Client (start fuel) (start fuel)
+instances_law p placed are main is arg fuel answers =
+    same (ground p) (source.source p.program.now) (IsPointOf p) (Alike p) (matching p placed are) _ _ Client (start fuel answers) (start fuel answers)
     (record {
       owner = main;
       is = is;

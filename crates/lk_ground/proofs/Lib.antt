@@ -10,3 +10,4 @@ pub mod AlikeRecords
 pub mod AlikeOperated
 pub mod AlikeForms
 pub mod Kept
+pub mod AlikePlain

@@ -1,6 +1,7 @@
--- The law of instances: a ground program comes to the same end as its program, up to what function values stand for, with
--- the same fuel, steps and events.
+-- The law of instances: over any answers a ground program comes to the same end as its program, with the same fuel, steps
+-- and events, up to what function values stand for.
 use Rattle.std.specs.Prelude.{◌≡◌, ℕ, List, Some}
+use Rattle.lk_ast.specs.declared.table.Row.{Row}
 use Rattle.lk_ast.specs.declared.value.Value.{Value}
 use Rattle.lk_evaluation.specs.Laws.{Maybe, MatchingOuts}
 use Rattle.lk_evaluation.specs.Run.{start}
@@ -36,4 +37,4 @@ pub record IsPointOf (p : GroundProgram) (at : Point) (point : source.Point) : T
 
 abbrev pub InstancesLaw : Type 0
 InstancesLaw = (p : GroundProgram) → ArePlaced p.program.now → AreInstances p → (main : GroundFun) → instance p 0 ≡ Some main
-    → (arg : List ℕ) (fuel : ℕ) → MatchingOuts (Alike p) Value Value (Alike p) (session p (function_of main) arg (start fuel)) (source.session p.program.now (function_of main) arg (start fuel))
+    → (arg : List ℕ) (fuel : ℕ) (answers : List (List Row)) → MatchingOuts (Alike p) Value Value (Alike p) (session p (function_of main) arg (start fuel answers)) (source.session p.program.now (function_of main) arg (start fuel answers))

@@ -17,7 +17,8 @@ use Rattle.lk_types.specs.declared.ty.Ty.{Ty}
 use Rattle.lk_typing.specs.Groups.{group_walked}
 use Rattle.lk_typing.specs.Law.{WalkLaw}
 use Rattle.lk_typing.specs.Names.{Named}
-use Rattle.lk_typing.specs.Programs.{ArePrincipal, IsWellTyped, entries, tables_of}
+use Rattle.lk_typing.specs.Programs.{ArePrincipal, IsWellTyped, entries}
+use Rattle.lk_ast.specs.Tables.{tables_of}
 use Rattle.lk_typing.specs.declared.step.Step.{Step}
 
 -- ---- from the start

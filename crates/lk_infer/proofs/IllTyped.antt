@@ -15,7 +15,8 @@ use Rattle.lk_types.specs.declared.scheme.Scheme.{Scheme}
 use Rattle.lk_typing.specs.Groups.{IsGroup, group_walked}
 use Rattle.lk_typing.specs.Law.{IsMetBy, WalkLaw}
 use Rattle.lk_typing.specs.Names.{Named}
-use Rattle.lk_typing.specs.Programs.{AreInstances, Hold, HaveSchemes, IsWellTyped, tables_of}
+use Rattle.lk_typing.specs.Programs.{AreInstances, Hold, HaveSchemes, IsWellTyped}
+use Rattle.lk_ast.specs.Tables.{tables_of}
 use Rattle.lk_typing.specs.Steps.{CanBeMet, Holds, Meets}
 use Rattle.lk_typing.specs.declared.step.Step.{Step}
 

@@ -12,7 +12,8 @@ use Rattle.lk_types.specs.declared.ground.Ground.{Ground}
 use Rattle.lk_types.specs.declared.scheme.Scheme.{Scheme}
 use Rattle.lk_types.specs.declared.ty.Ty.{Ty}
 use Rattle.lk_typing.specs.Names.{Named}
-use Rattle.lk_typing.specs.Programs.{AreInstances, tables_of, HaveSchemes, AreInstancesOf, ArePrincipal}
+use Rattle.lk_typing.specs.Programs.{AreInstances, HaveSchemes, AreInstancesOf, ArePrincipal}
+use Rattle.lk_ast.specs.Tables.{tables_of}
 
 -- ---- two lists one after the other
 

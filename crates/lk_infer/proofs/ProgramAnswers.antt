@@ -19,7 +19,8 @@ use Rattle.lk_typing.specs.EffectRows.{IsEvenScheme}
 use Rattle.lk_typing.specs.Groups.{group_walked}
 use Rattle.lk_typing.specs.Law.{WalkLaw}
 use Rattle.lk_typing.specs.Names.{Named}
-use Rattle.lk_typing.specs.Programs.{tables_of, entries, ArePrincipal, IsWellTyped}
+use Rattle.lk_typing.specs.Programs.{entries, ArePrincipal, IsWellTyped}
+use Rattle.lk_ast.specs.Tables.{tables_of}
 
 -- the first n declarations are accepted, and all schemes are even
 pub record IsDone (program : Program) (n : ℕ) (large : Bool) (earlier : Named Scheme) (schemes : List Scheme) (types : List Ty) : Type 0 where

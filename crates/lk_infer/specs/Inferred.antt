@@ -17,7 +17,8 @@ use Rattle.lk_types.specs.declared.ty.Ty.{Ty}
 use Rattle.lk_typing.specs.Groups.{IsGroup, group_walked}
 use Rattle.lk_typing.specs.Law.{Become}
 use Rattle.lk_typing.specs.Names.{Named}
-use Rattle.lk_typing.specs.Programs.{AreAt, Hold, entries, tables_of}
+use Rattle.lk_typing.specs.Programs.{AreAt, Hold, entries}
+use Rattle.lk_ast.specs.Tables.{tables_of}
 use Rattle.lk_infer.specs.Refusals.{AllFine, some_large}
 
 -- the functions of a declaration have these principal schemes, and the nodes in them these principal types

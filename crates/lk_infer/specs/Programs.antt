@@ -9,7 +9,8 @@ use Rattle.lk_types.specs.declared.scheme.Scheme.{Scheme}
 use Rattle.lk_types.specs.declared.ty.Ty.{Ty}
 use Rattle.lk_typing.specs.Groups.{group_walked}
 use Rattle.lk_typing.specs.Names.{Named}
-use Rattle.lk_typing.specs.Programs.{entries, tables_of}
+use Rattle.lk_typing.specs.Programs.{entries}
+use Rattle.lk_ast.specs.Tables.{tables_of}
 use Rattle.lk_typing.specs.declared.step.Step.{Step}
 use Rattle.lk_infer.specs.Inferred.{IsInferred}
 use Rattle.lk_infer.specs.Refusals.{AllFine, IsIllTyped, IsTooLarge, some_large}

@@ -7,7 +7,7 @@ use Rattle.lk_ast.specs.declared.expression.Expr.{Expr}
 use Rattle.lk_mono.proofs.FlatUses.{UsesLoopless, change_flat_uses, flat_uses}
 use Rattle.lk_mono.proofs.Loopless.{IsLoopless}
 use Rattle.lk_mono.specs.Shapes.{is_flat_part}
-use Rattle.lk_outline.specs.Nodes.{Block, Part, TypedNode, Use, parts_of, case_nodes, change_nodes, each_nodes, nodes_of}
+use Rattle.lk_sound.specs.Nodes.{Block, Part, TypedNode, Use, parts_of, case_nodes, change_nodes, each_nodes, nodes_of}
 use Rattle.lk_types.specs.Each.{Each}
 use Rattle.lk_types.specs.Rows.{EffectSet}
 use Rattle.lk_types.specs.declared.ground.Ground.{Ground}

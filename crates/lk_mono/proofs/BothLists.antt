@@ -18,7 +18,7 @@ use Rattle.lk_mono.specs.declared.queue.Queue.{Queue}
 use Rattle.lk_mono.specs.declared.queue.Use.{Use as TheUse}
 use Rattle.lk_ast.specs.declared.declaration.Program.{Program}
 use Rattle.lk_ast.specs.declared.place.Span.{Span}
-use Rattle.lk_outline.specs.Nodes.{Use, TypedNode, nodes_of}
+use Rattle.lk_sound.specs.Nodes.{Use, TypedNode, nodes_of}
 use Rattle.lk_principal.specs.Law.{IsInstanceOf}
 use Rattle.lk_types.specs.Each.{Each, OneOf}
 use Rattle.lk_types.specs.declared.scheme.Scheme.{Scheme}

@@ -9,7 +9,7 @@ use Rattle.lk_mono.specs.Looks.{TheFound, as_uses}
 use Rattle.lk_mono.specs.Queues.{is_made, made}
 use Rattle.lk_mono.specs.declared.body.Body.{Body as TheBody}
 use Rattle.lk_mono.specs.declared.body.Source.{Source}
-use Rattle.lk_outline.specs.Nodes.{Use, TypedNode}
+use Rattle.lk_sound.specs.Nodes.{Use, TypedNode}
 use Rattle.lk_types.specs.Each.{Each, OneOf}
 
 made_type : (u : Use) → is_made u ≡ true → made u ≡ Some u.type

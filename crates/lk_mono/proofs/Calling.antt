@@ -6,7 +6,7 @@ use Rattle.std.specs.Option.{option_map}
 use Rattle.lk_ground_types.proofs.Parts.{same_some}
 use Rattle.lk_mono.specs.Queues.{as_list, as_use}
 use Rattle.lk_mono.specs.declared.queue.Use.{Use as TheUse}
-use Rattle.lk_outline.specs.Nodes.{Use}
+use Rattle.lk_sound.specs.Nodes.{Use}
 use Rattle.lk_types.specs.Each.{OneOf}
 use Rattle.lk_types.specs.Rows.{Label}
 use Rattle.lk_types.specs.declared.ground.Ground.{Ground}

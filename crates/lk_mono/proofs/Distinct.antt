@@ -5,7 +5,7 @@ use Rattle.std.proofs.lemmas.Option.{none-some}
 use Rattle.lk_mono.specs.Instances.{AreDistinct, IsListed, IsWith}
 use Rattle.lk_mono.specs.Instances as instances
 use Rattle.lk_mono.specs.Queues.{is_made}
-use Rattle.lk_outline.specs.Nodes.{Use}
+use Rattle.lk_sound.specs.Nodes.{Use}
 use Rattle.lk_types.specs.Each.{Each, OneOf}
 use Rattle.lk_typing.proofs.Lists.{each_both}
 

@@ -20,8 +20,8 @@ use Rattle.lk_mono.specs.declared.body.Body.{Body as TheBody}
 use Rattle.lk_mono.specs.declared.body.Source.{Source}
 use Rattle.lk_mono.specs.declared.error.ShapeKind.{ShapeKind}
 use Rattle.lk_mono.specs.declared.error.ShapeKind.TheVariants.{EqualityAtFunction, OrderAtNonBase}
-use Rattle.lk_outline.specs.Nodes.{Block, Comparison, Part, TypedNode, Use}
-use Rattle.lk_outline.specs.Nodes as node
+use Rattle.lk_sound.specs.Nodes.{Block, Comparison, Part, TypedNode, Use}
+use Rattle.lk_sound.specs.Nodes as node
 use Rattle.lk_outline.specs.Outline.{Kind, Site, Function, Call, Equality, Order, Name, Query, Change, Other}
 use Rattle.lk_outline.specs.Shown.{shown}
 use Rattle.lk_outline.specs.Typed.{block_at, captured_at, captured_in, compared, effects_in, node_at, part_at, type_at, used}

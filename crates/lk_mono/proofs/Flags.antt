@@ -11,7 +11,7 @@ use Rattle.lk_mono.specs.Grounded.{AreCalled}
 use Rattle.lk_mono.specs.Grounded as called
 use Rattle.lk_mono.specs.Instances.{Body, uses_of}
 use Rattle.lk_mono.specs.Shapes.{IsNotFlat, IsOdd, IsUsedBy, itself, reached}
-use Rattle.lk_outline.specs.Nodes.{Block, Part, Use}
+use Rattle.lk_sound.specs.Nodes.{Block, Part, Use}
 use Rattle.lk_outline.specs.Outline.{Kind, Site, Function, Call, Equality, Order, Name, Query, Change, Other}
 use Rattle.lk_outline.specs.Typed.{node_at, part_at, used}
 use Rattle.lk_types.specs.Each.{Each, OneOf}

@@ -8,7 +8,7 @@ use Rattle.lk_ast.specs.declared.expression.Expr.{Expr}
 use Rattle.lk_ground_types.specs.Shapes.{is_query_type}
 use Rattle.lk_mono.proofs.Loopless.{IsLoopless, flat_type, function_not_flat, function_recurs, query_loopless}
 use Rattle.lk_mono.specs.Shapes.{is_flat_part}
-use Rattle.lk_outline.specs.Nodes.{TypedNode, Use, case_nodes, change_nodes, each_nodes, nodes_of, used_by}
+use Rattle.lk_sound.specs.Nodes.{TypedNode, Use, case_nodes, change_nodes, each_nodes, nodes_of, used_by}
 use Rattle.lk_types.specs.Each.{Each}
 use Rattle.lk_types.specs.Rows.{EffectSet}
 use Rattle.lk_types.specs.declared.ground.Ground.{Ground}

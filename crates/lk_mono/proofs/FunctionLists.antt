@@ -11,7 +11,7 @@ use Rattle.lk_mono.specs.Queues.{as_list, as_use}
 use Rattle.lk_mono.specs.declared.body.Body.{Body as TheBody}
 use Rattle.lk_mono.specs.declared.body.Source.{Source}
 use Rattle.lk_mono.specs.declared.queue.Use.{Use as TheUse}
-use Rattle.lk_outline.specs.Nodes.{Use}
+use Rattle.lk_sound.specs.Nodes.{Use}
 
 module _ (source : Source) (mains helpers : List Use) (in_helper : Bool) where
   -- With these functions for the first instances, others are for those that are left, and so for all.

@@ -11,7 +11,7 @@ use Rattle.lk_mono.specs.Queues.{IsAdded, IsQueueOf, as_list}
 use Rattle.lk_mono.specs.Queues as queues
 use Rattle.lk_mono.specs.declared.body.Source.{Source}
 use Rattle.lk_mono.specs.declared.queue.Queue.{Queue}
-use Rattle.lk_outline.specs.Nodes.{TypedNode, Use}
+use Rattle.lk_sound.specs.Nodes.{TypedNode, Use}
 use Rattle.lk_principal.specs.Law.{IsInstanceOf, UseLaw}
 use Rattle.lk_types.specs.Each.{Each, OneOf}
 use Rattle.lk_typing.specs.Names.{MayBe}

@@ -16,7 +16,7 @@ use Rattle.lk_mono.specs.Shapes as shapes
 use Rattle.lk_mono.specs.declared.error.ShapeKind.TheVariants.{QueryNotFlat}
 use Rattle.lk_names.specs.Programs.{IsBound}
 use Rattle.lk_outline.specs.Law.{OutlineLaw}
-use Rattle.lk_outline.specs.Nodes.{Block, Part, TypedNode, Use, nodes_of, parts_of}
+use Rattle.lk_sound.specs.Nodes.{Block, Part, TypedNode, Use, nodes_of, parts_of}
 use Rattle.lk_sound.proofs.Members.{each_in}
 use Rattle.lk_types.specs.Each.{Each, OneOf}
 use Rattle.lk_types.specs.declared.scheme.Scheme.{Scheme}
@@ -88,7 +88,7 @@ module _ (helpers : List Body) where
   abbrev pub IsGood : Use → Type 0
   IsGood u = IsLoopless u.type × IsClear u
 
-  good_block : (block : Block) → (IsNotFlat helpers block → ⊥) → IsGoodBlock IsClear block
+  pub good_block : (block : Block) → (IsNotFlat helpers block → ⊥) → IsGoodBlock IsClear block
   good_block block flat = record {
     flat = none_odd block.parts (λ odd. flat (shapes.IsNotFlat.itself odd));
     such = each_used IsClear block.parts (λ u uses v nodes reaches helper. none_odd (parts_of nodes) (λ odd. flat (shapes.IsNotFlat.reached nodes uses reaches helper odd)));

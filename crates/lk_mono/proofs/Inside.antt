@@ -5,7 +5,7 @@ use Rattle.lk_ast.specs.declared.expression.Case.{Case}
 use Rattle.lk_ast.specs.declared.expression.ChangeExpr.{ChangeExpr}
 use Rattle.lk_ast.specs.declared.expression.Expr.{Expr}
 use Rattle.lk_mono.proofs.Ones.{each_append, each_as, each_map}
-use Rattle.lk_outline.specs.Nodes.{Block, Part, TypedNode, parts_of, nodes_of, each_nodes, case_nodes, change_nodes}
+use Rattle.lk_sound.specs.Nodes.{Block, Part, TypedNode, parts_of, nodes_of, each_nodes, case_nodes, change_nodes}
 use Rattle.lk_types.specs.Each.{Each}
 use Rattle.lk_types.specs.Rows.{EffectSet}
 use Rattle.lk_types.specs.declared.ground.Ground.{Ground}

@@ -18,7 +18,7 @@ use Rattle.lk_mono.specs.Grounded.{Are, IsInstance, IsGrounded}
 use Rattle.lk_mono.specs.Grounded as grounded
 use Rattle.lk_mono.specs.Instances.{Body, HasBody, IsBody, uses_of}
 use Rattle.lk_mono.specs.Keeps.{Keeps}
-use Rattle.lk_outline.specs.Nodes.{Use, TypedNode}
+use Rattle.lk_sound.specs.Nodes.{Use, TypedNode}
 use Rattle.lk_sound.proofs.Members.{each_of_in, found_in}
 use Rattle.lk_sound.specs.Within.{IsFunctionOf}
 use Rattle.lk_types.specs.Each.{Each, OneOf}

@@ -1,8 +1,10 @@
 pub mod Behind
+pub mod BlockParts
 pub mod BlockUses
 pub mod BothLists
 pub mod CallLists
 pub mod Calling
+pub mod Closed
 pub mod Distinct
 pub mod Faults
 pub mod FindingMembers
@@ -22,6 +24,7 @@ pub mod Loopless
 pub mod MadeTypes
 pub mod MadeUses
 pub mod MainAnswers
+pub mod MainFirst
 pub mod MainTypes
 pub mod MainUses
 pub mod Marks
@@ -35,7 +38,6 @@ pub mod PlacedLevels
 pub mod PlacedUses
 pub mod PlacesCalled
 pub mod PlainSessions
-pub mod PlainValues
 pub mod Queued
 pub mod Queueing
 pub mod Ranks

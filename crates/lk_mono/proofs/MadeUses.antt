@@ -11,7 +11,7 @@ use Rattle.lk_mono.proofs.NodeTypes.{types_of}
 use Rattle.lk_mono.proofs.Siting.{all_fit_at}
 use Rattle.lk_mono.specs.Instances.{Wanted, can_be_made, can_be_made_level, first_large, fits, uses_among, with_use}
 use Rattle.lk_mono.specs.Queues.{is_made}
-use Rattle.lk_outline.specs.Nodes.{TypedNode, Use, case_nodes, change_nodes, each_nodes, nodes_of, used_by}
+use Rattle.lk_sound.specs.Nodes.{TypedNode, Use, case_nodes, change_nodes, each_nodes, nodes_of, used_by}
 use Rattle.lk_types.specs.Each.{Each}
 use Rattle.lk_types.specs.Rows.{EffectSet, effects_of}
 use Rattle.lk_types.specs.declared.ground.Ground.{Ground}

@@ -15,7 +15,7 @@ use Rattle.lk_mono.specs.Instances.{EndsLarge, IsBody, IsMain, IsTooLarge, IsWit
 use Rattle.lk_mono.specs.Instances as instances
 use Rattle.lk_mono.specs.Mains.{made_of_text, of_text}
 use Rattle.lk_mono.specs.Members.{TheMember}
-use Rattle.lk_outline.specs.Nodes.{Use, TypedNode, nodes_of}
+use Rattle.lk_sound.specs.Nodes.{Use, TypedNode, nodes_of}
 use Rattle.lk_principal.specs.Law.{IsInstanceOf}
 use Rattle.lk_types.specs.Schemes.{IsInstance}
 use Rattle.lk_types.specs.Sizes.{most_nodes}

@@ -20,7 +20,7 @@ use Rattle.lk_mono.specs.Instances.{IsMain, can_be_made, fits}
 use Rattle.lk_mono.specs.Mains.{IsOfText, made_of_text, of_text}
 use Rattle.lk_mono.specs.Members.{TheMember, members_of, named_member}
 use Rattle.lk_names.specs.Programs.{IsBound}
-use Rattle.lk_outline.specs.Nodes.{Use}
+use Rattle.lk_sound.specs.Nodes.{Use}
 use Rattle.lk_principal.proofs.Beside.{found_named}
 use Rattle.lk_principal.specs.Bodies.{IsTyped, IsTypedLeast, shares}
 use Rattle.lk_principal.specs.Law.{BodyLaw, IsInstanceOf, LeastLaw, SchemesLaw}

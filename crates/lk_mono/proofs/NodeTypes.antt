@@ -5,7 +5,7 @@ use Rattle.lk_ast.specs.declared.expression.Case.{Case}
 use Rattle.lk_ast.specs.declared.expression.ChangeExpr.{ChangeExpr}
 use Rattle.lk_ast.specs.declared.expression.Expr.{Expr}
 use Rattle.lk_mono.specs.Held.{types_in}
-use Rattle.lk_outline.specs.Nodes.{TypedNode, case_nodes, change_nodes, each_nodes, nodes_of}
+use Rattle.lk_sound.specs.Nodes.{TypedNode, case_nodes, change_nodes, each_nodes, nodes_of}
 use Rattle.lk_types.specs.Rows.{EffectSet}
 use Rattle.lk_types.specs.declared.ground.Ground.{Ground}
 use Rattle.lk_typing.proofs.Levels.{map_joined}

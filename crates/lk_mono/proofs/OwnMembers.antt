@@ -9,7 +9,7 @@ use Rattle.lk_mono.specs.Held.{IsSource}
 use Rattle.lk_mono.specs.Members.{as_member, member_of, members_of, named_member}
 use Rattle.lk_mono.specs.declared.body.Source.{Source}
 use Rattle.lk_mono.specs.declared.member.Member.{Member}
-use Rattle.lk_outline.specs.Nodes.{Use}
+use Rattle.lk_sound.specs.Nodes.{Use}
 use Rattle.lk_principal.proofs.Beside.{names}
 use Rattle.lk_principal.specs.Bodies.{body_size, shares}
 use Rattle.lk_principal.specs.Law.{IsInstanceOf}

@@ -8,7 +8,7 @@ use Rattle.lk_index.specs.Places.{IsNone, AreApart}
 use Rattle.lk_mono.proofs.PlacedUses.{placed, use_placed}
 use Rattle.lk_mono.specs.Grounded.{AreCalled}
 use Rattle.lk_mono.specs.Grounded as grounded
-use Rattle.lk_outline.specs.Nodes.{Use, TypedNode}
+use Rattle.lk_sound.specs.Nodes.{Use, TypedNode}
 use Rattle.lk_sound.proofs.Members.{each_weaker}
 use Rattle.lk_types.specs.Each.{Each}
 

@@ -1,97 +1,83 @@
--- What the sessions of a ground program show has no function in it.
-use Rattle.std.proofs.Common.{◌≡◌, ℕ, Bool, true, false, List, [], ◌∷◌, ◌++◌, Option, Some, None, refl, sym, ap, subst, ◌∙◌, append_assoc, append-nil}
-use Rattle.lk_ast.specs.Functions.{functions_of, is_main, main_of}
+-- What the sessions of a ground program show has no function in it, and the sessions of the ground program and of its program have
+-- the same events.
+use Rattle.std.proofs.Common.{◌≡◌, ℕ, false, ◌||◌, List, [], ◌∷◌, ◌++◌, Some, refl, sym, ap, subst, ◌∙◌}
+use Rattle.std.specs.List.{list_any}
+use Rattle.lk_ast.proofs.PlainRows.{rows_plain}
+use Rattle.lk_ast.specs.Functions.{main_of}
+use Rattle.lk_ast.specs.Plain.{holds_function}
+use Rattle.lk_ast.specs.Rows.{rows_value}
 use Rattle.lk_ast.specs.declared.declaration.FunDef.{FunDef}
 use Rattle.lk_ast.specs.declared.declaration.Program.{Program}
 use Rattle.lk_ast.specs.declared.event.Event.{Event}
 use Rattle.lk_ast.specs.declared.event.Event.TheVariants as event
+use Rattle.lk_ast.specs.declared.table.Row.{Row}
 use Rattle.lk_ast.specs.declared.value.Value.{Value}
+use Rattle.lk_evaluation.specs.Laws.{run_of}
 use Rattle.lk_evaluation.specs.Run.{Run, Entry, Out, Goes, Stops, events_of, start}
 use Rattle.lk_evaluation.specs.Source.{session}
+use Rattle.lk_ground.proofs.AlikePlain.{plain_events}
+use Rattle.lk_ground.specs.Alike.{Alike}
+use Rattle.lk_ground.specs.Language.{function_of, instance}
+use Rattle.lk_ground.specs.declared.program.GroundFun.{GroundFun}
 use Rattle.lk_ground.specs.declared.program.GroundProgram.{GroundProgram}
 use Rattle.lk_ground_types.proofs.Parts.{same_some}
-use Rattle.lk_ground_types.specs.Least.{least}
 use Rattle.lk_ground_types.specs.Shapes.{has_function}
-use Rattle.lk_index.specs.Places.{ArePlaced}
-use Rattle.lk_infer.proofs.Principal.{inferred_principal}
-use Rattle.lk_infer.specs.Inferred.{HasTypes}
-use Rattle.lk_mono.proofs.Growing.{appended}
-use Rattle.lk_mono.proofs.MainUses.{is_of_text}
-use Rattle.lk_mono.proofs.PlainValues.{plain}
-use Rattle.lk_mono.specs.Grounded.{IsGrounded}
-use Rattle.lk_mono.specs.Instances.{Body, IsDone, IsMain, IsWalked, Turn, Wanted, uses_of}
+use Rattle.lk_mono.specs.Keeps.{Keeps, SameEvents}
 use Rattle.lk_mono.specs.Plain.{IsPlainEvent, IsPlainOut, ShowsPlain}
-use Rattle.lk_mono.specs.Shapes.{AreShaped, answer_level, answers_function}
-use Rattle.lk_names.specs.Programs.{IsBound}
-use Rattle.lk_outline.specs.Nodes.{Use}
-use Rattle.lk_sound.proofs.Members.{found_in}
-use Rattle.lk_sound.specs.Law.{InstanceLaw, SessionLaw}
-use Rattle.lk_sound.specs.Functions.{HasFunctionType}
+use Rattle.lk_sound.specs.Instances.{Instances, IsShaped}
+use Rattle.lk_sound.specs.Law.{AreAnswered, PlainLaw, SessionLaw}
 use Rattle.lk_sound.specs.Outcomes.{Allows, Happens, IsOutcome}
+use Rattle.lk_sound.specs.Tables.{ArePlain, IsWriting}
 use Rattle.lk_sound.specs.Values.{Fits}
 use Rattle.lk_types.specs.Each.{Each}
-use Rattle.lk_types.specs.Rows.{EffectSet, effects_of}
-use Rattle.lk_types.specs.declared.ground.Ground.{Ground, out-Ground}
-use Rattle.lk_types.specs.declared.ground.Ground.TheVariants as known
-use Rattle.lk_types.specs.declared.scheme.Scheme.{Scheme}
-use Rattle.lk_types.specs.declared.ty.Ty.{Ty}
-use Rattle.lk_typing.specs.Types.{function_of}
+use Rattle.lk_types.specs.Rows.{EffectSet}
+use Rattle.lk_types.specs.declared.ground.Ground.{Ground}
 
 -- ---- events
 
-module _ (effects : EffectSet) where
-  event_plain : (e : Event) → Allows effects e → IsPlainEvent e
+rows_alone : (rows : List Row) → ArePlain (rows_value rows ∷ [])
+rows_alone rows = λ i. rows_plain rows i || false
+
+written_plain : (p : Program) (site : ℕ) (args : List Value) → IsWriting p site args → ArePlain args
+written_plain p site args (IsWriting.insert block t e def rows found inserts at are fit) = subst ArePlain (sym are) (rows_alone rows)
+written_plain p site args (IsWriting.update block change def found updates at plain fit) = plain
+written_plain p site args (IsWriting.delete block change def found deletes at plain) = plain
+
+module _ (p : Program) (effects : EffectSet) where
+  event_plain : (e : Event) → Allows p effects e → IsPlainEvent e
   event_plain (event.Print bytes) allowed = tt
   event_plain event.Enter allowed = tt
   event_plain event.Leave allowed = tt
-  event_plain (event.Read read) allowed = absurd allowed
-  event_plain (event.Write write) allowed = absurd allowed
+  event_plain (event.Read read) allowed = allowed.1.plain
+  event_plain (event.Write write) allowed = written_plain p write.site write.args allowed.1
 
-  events_plain : (entries : List Entry) → Each (λ (entry : Entry). Allows effects entry.event) entries → Each IsPlainEvent (events_of entries)
+  events_plain : (entries : List Entry) → Each (λ (entry : Entry). Allows p effects entry.event) entries → Each IsPlainEvent (events_of entries)
   events_plain [] all = tt
   events_plain (entry ∷ entries) all = (event_plain entry.event all.0, events_plain entries all.1)
 
-  log_plain : (before last : Run) → before.log ≡ [] → Happens effects before last → Each IsPlainEvent (events_of last.log)
+  log_plain : (before last : Run) → before.log ≡ [] → Happens p effects before last → Each IsPlainEvent (events_of last.log)
   log_plain before last empty happens = subst (λ log. Each IsPlainEvent (events_of log)) (sym (happens.log ∙ ap (λ log. log ++ happens.more) empty)) (events_plain happens.more happens.allowed)
 
-  module _ (p : Program) (answer : Ground) (none : has_function answer ≡ false) where
-    out_plain : (before : Run) → before.log ≡ [] → (out : Out Value) → IsOutcome effects (λ v. Fits p v answer) before out → IsPlainOut out
-    out_plain before empty (Goes v last) outcome = (plain p v answer outcome.0 none, log_plain before last empty outcome.1)
+  module _ (plain_law : PlainLaw) (set : Instances) (answer : Ground) (none : has_function answer ≡ false) where
+    out_plain : (before : Run) → before.log ≡ [] → (out : Out Value) → IsOutcome p effects (λ v. Fits p set v answer) before out → IsPlainOut out
+    out_plain before empty (Goes v last) outcome = (plain_law p set answer v outcome.0 none, log_plain before last empty outcome.1)
     out_plain before empty (Stops stop last) outcome = log_plain before last empty outcome.1
 
--- ---- the first instance
+-- ---- sessions
 
-module _ {p : Program} {schemes : List Scheme} {types : List Ty} {turn : Turn} {wanted : Wanted} {others : ℕ} where
-  walked_from : (first : List Use) (n : ℕ) (list : List Use) → IsWalked p schemes types turn wanted others first n list → (more : List Use) × (list ≡ first ++ more)
-  walked_from first _ _ IsWalked.start = ([], sym (append-nil first))
-  walked_from first _ _ (IsWalked.next {list = list} {longer = longer} walked turned body none with_uses) =
-      let (more, is) = walked_from first _ list walked in
-      let (rest, longer_is) = appended list _ longer with_uses in
-      (more ++ rest, longer_is ∙ ap (λ l. l ++ rest) is ∙ append_assoc first more rest)
+module _ (session_law : SessionLaw) (plain_law : PlainLaw) (p : Program) (shaped : IsShaped p) where
+  pub shows_plain : ShowsPlain p
+  shows_plain apart main is arg fuel answers answered =
+      let same : shaped.main ≡ main = same_some (sym shaped.is ∙ is) in
+      subst (λ f. AreAnswered p (session p f arg (start fuel answers)) → IsPlainOut (session p f arg (start fuel answers))) same
+      (λ of_it. out_plain p shaped.effects plain_law shaped.instances shaped.answer shaped.plain (start fuel answers) refl (session p shaped.main arg (start fuel answers)) (session_law p apart shaped arg (start fuel answers) refl of_it))
+      answered
 
-first_same : {A : Type 0} (x y : A) (xs ys : List A) → ◌≡◌ {A = List A} (x ∷ xs) (y ∷ ys) → x ≡ y
-first_same x y xs ys is = cc
+-- the events of what shows no function
+of_out : (out : Out Value) → IsPlainOut out → Each IsPlainEvent (events_of (run_of out).log)
+of_out (Goes v last) plain = plain.1
+of_out (Stops stop last) plain = plain
 
--- what is answered by a function of a text
-answers : (params : List Ground) (effects : EffectSet) (answer t : Ground) → t ≡ function_of params effects answer → answers_function t ≡ false → has_function answer ≡ false
-answers params effects answer t is none = sym (ap answers_function is ∙ ap answer_level (known.outs-Fun params (effects_of effects) answer)) ∙ none
-
-module _ (instance_law : InstanceLaw) (session_law : SessionLaw) (p : Program) (schemes : List Scheme) (types : List Ty) (bound : IsBound p) (has : HasTypes p schemes types) where
-  main_plain : (u : Use) → IsMain p schemes u → answers_function u.type ≡ false → ShowsPlain p
-  main_plain u first none placed main is arg fuel =
-      let same : first.function ≡ main = same_some (sym first.main ∙ is) in
-      let (among, passes) = found_in is_main (functions_of p) main is in
-      let typed : HasFunctionType p main u.type = subst (λ f. HasFunctionType p f u.type) same (instance_law p schemes (inferred_principal p schemes types has).typed first.number first.function first.scheme least u.type first.is first.has first.instance) in
-      let (effects, answer, of) = is_of_text p schemes types passes typed.typed in
-      out_plain effects p answer (answers (known.Text ∷ []) effects answer u.type of none) (start fuel) refl (session p main arg (start fuel))
-      (session_law p bound placed main effects answer (is, subst (HasFunctionType p main) of typed) arg (start fuel) refl)
-
-  pub shows_plain : (g : GroundProgram) → IsGrounded p schemes types g → ShowsPlain p
-  shows_plain g grounded = elim grounded.shaped [ AreShaped.shaped {main = body} {others = others} same none each ↦ at_first body others same none ]
-    where
-      at_first : (body : Body) (others : List Body) → grounded.mains ≡ body ∷ others → answers_function body.use_of.type ≡ false → ShowsPlain p
-      at_first body others same none =
-          let (u, first, done) = grounded.instances.first in
-          let (more, are) = walked_from (u ∷ []) done.number (uses_of grounded.mains) done.walked in
-          let is : u ≡ body.use_of = first_same _ _ _ _ (sym are ∙ ap uses_of same) in
-          main_plain u first (ap (λ (w : Use). answers_function w.type) is ∙ none)
+pub same_events : (p : Program) (g : GroundProgram) → Keeps p g → ShowsPlain p → ((main : GroundFun) → instance g 0 ≡ Some main → main_of p ≡ Some (function_of main)) → SameEvents p g
+same_events p g keeps shows first apart uses main is arg fuel answers answered =
+    plain_events g Value Value (Alike g) _ _ (keeps apart.placed uses main is arg fuel answers) (of_out _ (shows apart (function_of main) (first main is) arg fuel answers answered))

@@ -10,7 +10,7 @@ use Rattle.lk_mono.specs.Queues.{IsQueueOf, as_list, as_use, is_made}
 use Rattle.lk_mono.specs.declared.body.Source.{Source}
 use Rattle.lk_mono.specs.declared.queue.Queue.{Queue}
 use Rattle.lk_mono.specs.declared.queue.Use.{Use as TheUse}
-use Rattle.lk_outline.specs.Nodes.{Use}
+use Rattle.lk_sound.specs.Nodes.{Use}
 use Rattle.lk_principal.specs.Law.{IsInstanceOf}
 use Rattle.lk_types.specs.Each.{Each}
 

@@ -12,7 +12,7 @@ use Rattle.lk_mono.specs.Queues.{AreFoundOf, IsAdded, IsQueueOf, as_list, as_use
 use Rattle.lk_mono.specs.Queues as queues
 use Rattle.lk_mono.specs.declared.queue.Queue.{Queue}
 use Rattle.lk_mono.specs.declared.queue.Use.{Use as TheUse}
-use Rattle.lk_outline.specs.Nodes.{Use}
+use Rattle.lk_sound.specs.Nodes.{Use}
 use Rattle.lk_types.specs.Each.{OneOf}
 use Rattle.lk_types.specs.Rows.{Label}
 use Rattle.lk_types.specs.declared.ground.Ground.{Ground}

@@ -20,7 +20,7 @@ use Rattle.lk_mono.specs.Order as order
 use Rattle.lk_mono.specs.Shapes.{IsUsedBy}
 use Rattle.lk_names.specs.Programs.{IsBound}
 use Rattle.lk_outline.proofs.Outlined.{outline_law}
-use Rattle.lk_outline.specs.Nodes.{TypedNode, Use, nodes_of, parts_of}
+use Rattle.lk_sound.specs.Nodes.{TypedNode, Use, nodes_of, parts_of}
 use Rattle.lk_principal.proofs.Beside.{one_place}
 use Rattle.lk_principal.specs.Law.{IsInstanceOf, UseLaw}
 use Rattle.lk_sound.proofs.Apart.{functions_apart}
@@ -82,7 +82,7 @@ module _ (use_law : UseLaw) (p : Program) (schemes : List Scheme) (types : List 
         (both.0, both.1 body.number body.is not_recursive named_there)
 
     -- what such an instance uses has a lower number
-    lower : {others : List TypedNode} (other : IsBody p schemes types w others) → other.number < body.number
+    pub lower : {others : List TypedNode} (other : IsBody p schemes types w others) → other.number < body.number
     lower other =
         let function : found.0.function ≡ other.function = same_some (sym found.0.named ∙ other.named) in
         let same : found.0.number ≡ other.number = one_place (functions_of p) (functions_apart p bound) found.0.number other.number other.function (found.0.is ∙ ap (λ f. Some f) function) other.is in

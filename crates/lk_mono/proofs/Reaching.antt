@@ -16,7 +16,7 @@ use Rattle.lk_mono.specs.Instances.{AreDistinct, Body, uses_of}
 use Rattle.lk_mono.specs.Shapes.{IsHelper, IsOdd, IsUsedBy, Reaches, is_flat_part, further, itself}
 use Rattle.lk_mono.specs.declared.body.Body.{Body as TheBody}
 use Rattle.lk_mono.specs.declared.body.Source.{Source}
-use Rattle.lk_outline.specs.Nodes.{TypedNode, Use, parts_of}
+use Rattle.lk_sound.specs.Nodes.{TypedNode, Use, parts_of}
 use Rattle.lk_outline.specs.Outline.{Kind, Site, Function, Call, Equality, Order, Name, Query, Change, Other}
 use Rattle.lk_outline.specs.Shown.{shown, shown_site}
 use Rattle.lk_outline.specs.Typed.{compared, effects_in, node_at, part_at, type_at}

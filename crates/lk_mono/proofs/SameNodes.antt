@@ -10,7 +10,7 @@ use Rattle.lk_mono.proofs.SameGroundings.{same_groundings}
 use Rattle.lk_mono.specs.Instances.{IsBody}
 use Rattle.lk_names.specs.Programs.{IsBound}
 use Rattle.lk_outline.specs.Law.{OutlineLaw}
-use Rattle.lk_outline.specs.Nodes.{TypedNode, Use}
+use Rattle.lk_sound.specs.Nodes.{TypedNode, Use}
 use Rattle.lk_outline.specs.Outline.{body_outline}
 use Rattle.lk_outline.specs.Typed.{effects_in, typed_nodes}
 use Rattle.lk_principal.proofs.Beside.{one_place}
@@ -25,7 +25,7 @@ use Rattle.lk_types.specs.declared.scheme.Scheme.{Scheme}
 use Rattle.lk_types.specs.declared.ty.Ty.{Ty}
 use Rattle.lk_typing.specs.Law.{Become}
 use Rattle.lk_typing.specs.Names.{types_of}
-use Rattle.lk_typing.specs.Programs.{tables_of}
+use Rattle.lk_ast.specs.Tables.{tables_of}
 
 all_some_same : (ts us : List Ground) → map (λ t. Some t) ts ≡ map (λ t. Some t) us → ts ≡ us
 all_some_same [] [] is = refl

@@ -6,7 +6,7 @@ use Rattle.lk_mono.specs.Instances.{Wanted, uses_among, with_use}
 use Rattle.lk_mono.specs.Looks.{TheFound}
 use Rattle.lk_mono.specs.Queues.{AreFoundOf, made}
 use Rattle.lk_mono.specs.Queues as queues
-use Rattle.lk_outline.specs.Nodes.{TypedNode, Use}
+use Rattle.lk_sound.specs.Nodes.{TypedNode, Use}
 
 no_use : (b : Bool) (o : Option Use) (rest : List Use) → o ≡ None → with_use b o rest ≡ rest
 no_use true o rest is = ap (λ use_of. with_use true use_of rest) is

@@ -12,7 +12,7 @@ use Rattle.lk_mono.specs.Instances.{before_large, can_be_made_level, first_large
 use Rattle.lk_mono.specs.Looks.{IsLooked, TheFound, all_within, as_uses, called, first_beyond, found_in, found_of}
 use Rattle.lk_mono.specs.Queues.{made}
 use Rattle.lk_mono.specs.declared.look.Looked.{Looked}
-use Rattle.lk_outline.specs.Nodes.{TypedNode}
+use Rattle.lk_sound.specs.Nodes.{TypedNode}
 use Rattle.lk_outline.specs.Outline.{Kind, Site}
 use Rattle.lk_outline.specs.Outline as outline
 use Rattle.lk_outline.specs.Typed.{effects_around, node_at, type_at, typed_nodes, used}

@@ -29,7 +29,7 @@ use Rattle.lk_mono.specs.declared.member.Member.{Member}
 use Rattle.lk_mono.specs.declared.queue.Queue.{Queue}
 use Rattle.lk_mono.specs.declared.queue.Use.{Use as TheUse}
 use Rattle.lk_outline.specs.Law.{OutlineLaw}
-use Rattle.lk_outline.specs.Nodes.{TypedNode, Use, nodes_of}
+use Rattle.lk_sound.specs.Nodes.{TypedNode, Use, nodes_of}
 use Rattle.lk_outline.specs.Outline.{body_outline}
 use Rattle.lk_outline.specs.Shown.{shown}
 use Rattle.lk_outline.specs.Typed.{effects_in, typed_nodes}
@@ -47,7 +47,7 @@ use Rattle.lk_types.specs.declared.scheme.Scheme.{Scheme}
 use Rattle.lk_typing.proofs.Values.{just}
 use Rattle.lk_typing.specs.Law.{Become}
 use Rattle.lk_typing.specs.Names.{types_of as types_of_names}
-use Rattle.lk_typing.specs.Programs.{tables_of}
+use Rattle.lk_ast.specs.Tables.{tables_of}
 
 -- the effects of a function, by two names
 same_effects : (l : Ground-F Ground GroundField) → effects_level l ≡ effects_in l

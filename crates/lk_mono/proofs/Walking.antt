@@ -14,7 +14,7 @@ use Rattle.lk_mono.specs.Steps.{AllWalked, IsFullAt, IsLargeAt, IsStep, StopsFul
 use Rattle.lk_mono.specs.declared.body.Body.{Body as TheBody}
 use Rattle.lk_mono.specs.declared.body.Source.{Source}
 use Rattle.lk_mono.specs.declared.queue.Queue.{Queue}
-use Rattle.lk_outline.specs.Nodes.{Use}
+use Rattle.lk_sound.specs.Nodes.{Use}
 use Rattle.lk_types.specs.Each.{Each}
 use Rattle.lk_typing.proofs.Levels.{map_joined}
 use Rattle.lk_typing.proofs.Lists.{each_both}

@@ -8,7 +8,7 @@ use Rattle.lk_ground.specs.declared.program.GroundProgram.{GroundProgram}
 use Rattle.lk_mono.specs.Held.{types_in}
 use Rattle.lk_mono.specs.Instances.{Body, AreInstances, uses_of}
 use Rattle.lk_mono.specs.Shapes.{AreShaped}
-use Rattle.lk_outline.specs.Nodes.{Use, TypedNode}
+use Rattle.lk_sound.specs.Nodes.{Use, TypedNode}
 use Rattle.lk_types.specs.declared.ground.Ground.{Ground}
 use Rattle.lk_types.specs.declared.scheme.Scheme.{Scheme}
 use Rattle.lk_types.specs.declared.ty.Ty.{Ty}

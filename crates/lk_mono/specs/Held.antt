@@ -11,7 +11,7 @@ use Rattle.lk_mono.specs.declared.body.Body.{Body as TheBody}
 use Rattle.lk_mono.specs.declared.body.Source.{Source}
 use Rattle.lk_mono.specs.declared.queue.Queue.{Queue}
 use Rattle.lk_names.specs.Programs.{IsBound}
-use Rattle.lk_outline.specs.Nodes.{Use, TypedNode}
+use Rattle.lk_sound.specs.Nodes.{Use, TypedNode}
 use Rattle.lk_outline.specs.Shown.{shown}
 use Rattle.lk_outline.specs.Typed.{effects_in, typed_nodes}
 use Rattle.lk_principal.specs.Law.{IsInstanceOf}

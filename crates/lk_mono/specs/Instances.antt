@@ -11,7 +11,7 @@ use Rattle.lk_ast.specs.declared.declaration.Program.{Program}
 use Rattle.lk_ast.specs.declared.place.Span.{Span}
 use Rattle.lk_ground_types.specs.Least.{least}
 use Rattle.lk_ground_types.specs.Sizes.{ground_nodes}
-use Rattle.lk_outline.specs.Nodes.{Use, Part, TypedNode, nodes_of}
+use Rattle.lk_sound.specs.Nodes.{Use, Part, TypedNode, nodes_of}
 use Rattle.lk_principal.specs.Bodies.{IsTypedLeast, shares}
 use Rattle.lk_types.specs.Each.{Each, OneOf}
 use Rattle.lk_types.specs.Schemes.{IsInstance}

@@ -1,9 +1,10 @@
 -- A ground program keeps every evaluation of its program.
 use Rattle.std.specs.Prelude.{◌≡◌, ℕ, List, Some}
 use Rattle.lk_ast.specs.declared.declaration.Program.{Program}
+use Rattle.lk_ast.specs.declared.table.Row.{Row}
 use Rattle.lk_ast.specs.declared.value.Value.{Value}
-use Rattle.lk_evaluation.specs.Laws.{MatchingOuts}
-use Rattle.lk_evaluation.specs.Run.{start}
+use Rattle.lk_evaluation.specs.Laws.{MatchingOuts, run_of}
+use Rattle.lk_evaluation.specs.Run.{events_of, start}
 use Rattle.lk_evaluation.specs.Source as source
 use Rattle.lk_ground.specs.Alike.{Alike}
 use Rattle.lk_ground.specs.Language.{function_of, instance, session}
@@ -11,9 +12,18 @@ use Rattle.lk_ground.specs.UsesApart.{AreUsesApart}
 use Rattle.lk_ground.specs.declared.program.GroundFun.{GroundFun}
 use Rattle.lk_ground.specs.declared.program.GroundProgram.{GroundProgram}
 use Rattle.lk_index.specs.Places.{ArePlaced}
+use Rattle.lk_sound.specs.Law.{AreAnswered, AreBoundAndApart}
 
 -- Where functions and lambdas of a program begin at places of their own, and so do the uses of functions in each body, as in
--- the program of a text: a session of the ground program ends as that of the program, with the same fuel, steps and events.
+-- the program of a text: over any answers a session of the ground program ends as that of the program, with the same fuel and
+-- steps, and with events that are the same but for what function values in them hold.
 abbrev pub Keeps : Program → GroundProgram → Type 0
 Keeps p g = ArePlaced p → AreUsesApart p → (main : GroundFun) → instance g 0 ≡ Some main
-    → (arg : List ℕ) (fuel : ℕ) → MatchingOuts (Alike g) Value Value (Alike g) (session g (function_of main) arg (start fuel)) (source.session p (function_of main) arg (start fuel))
+    → (arg : List ℕ) (fuel : ℕ) (answers : List (List Row)) → MatchingOuts (Alike g) Value Value (Alike g) (session g (function_of main) arg (start fuel answers)) (source.session p (function_of main) arg (start fuel answers))
+
+-- Under the same conditions, where each reading is answered by rows that its query gives over tables that fit, a session of the
+-- ground program has the very events of that of the program.
+abbrev pub SameEvents : Program → GroundProgram → Type 0
+SameEvents p g = AreBoundAndApart p → AreUsesApart p → (main : GroundFun) → instance g 0 ≡ Some main
+    → (arg : List ℕ) (fuel : ℕ) (answers : List (List Row)) → AreAnswered p (source.session p (function_of main) arg (start fuel answers))
+    → events_of (run_of (session g (function_of main) arg (start fuel answers))).log ≡ events_of (run_of (source.session p (function_of main) arg (start fuel answers))).log

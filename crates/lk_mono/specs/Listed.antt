@@ -5,7 +5,7 @@ use Rattle.lk_mono.specs.Instances.{AreDistinct, AreInstances, Body, most_instan
 use Rattle.lk_mono.specs.Queues.{as_list, is_made}
 use Rattle.lk_mono.specs.declared.body.Source.{Source}
 use Rattle.lk_mono.specs.declared.listing.Instances.{Instances}
-use Rattle.lk_outline.specs.Nodes.{Use, TypedNode}
+use Rattle.lk_sound.specs.Nodes.{Use, TypedNode}
 use Rattle.lk_types.specs.Each.{Each, OneOf}
 
 -- what the node uses, if anything, is made and listed where it belongs

@@ -9,7 +9,7 @@ use Rattle.lk_mono.specs.declared.queue.Use.{Use as TheUse}
 use Rattle.lk_mono.specs.declared.queue.Wanted.{Wanted as TheWanted}
 use Rattle.lk_mono.specs.declared.queue.Wanted.TheVariants as wanted
 use Rattle.lk_mono.specs.Instances as instances
-use Rattle.lk_outline.specs.Nodes.{Use}
+use Rattle.lk_sound.specs.Nodes.{Use}
 use Rattle.lk_types.specs.declared.ground.Ground.{Ground}
 
 abbrev pub as_use : TheUse → Use

@@ -7,7 +7,7 @@ use Rattle.lk_ground_types.specs.Shapes.{has_function, is_base, is_flat, is_list
 use Rattle.lk_mono.specs.Instances.{Body}
 use Rattle.lk_mono.specs.declared.error.ShapeKind.{ShapeKind}
 use Rattle.lk_mono.specs.declared.error.ShapeKind.TheVariants.{MainType, EqualityAtFunction, OrderAtNonBase, QueryNotFlat, QueryCapture}
-use Rattle.lk_outline.specs.Nodes.{Use, Comparison, Equality, Order, Part, Block, TypedNode, parts_of}
+use Rattle.lk_sound.specs.Nodes.{Use, Comparison, Equality, Order, Part, Block, TypedNode, parts_of}
 use Rattle.lk_types.specs.Each.{Each, OneOf}
 use Rattle.lk_types.specs.declared.ground.Ground.{Ground, out-Ground}
 use Rattle.lk_types.specs.declared.ground.Ground.TheOpen.{Ground-F}

@@ -7,7 +7,7 @@ use Rattle.lk_mono.specs.Queues.{as_list}
 use Rattle.lk_mono.specs.declared.body.Body.{Body as TheBody}
 use Rattle.lk_mono.specs.declared.body.Source.{Source}
 use Rattle.lk_mono.specs.declared.queue.Queue.{Queue}
-use Rattle.lk_outline.specs.Nodes.{Use, TypedNode}
+use Rattle.lk_sound.specs.Nodes.{Use, TypedNode}
 use Rattle.lk_types.specs.Each.{Each, OneOf}
 
 module _ (source : Source) (wanted : Wanted) (others : ℕ) (old : Queue) where

@@ -7,7 +7,7 @@ ghost use Rattle.lk_mono.specs.Listed.{AreListedIn, IsListedAt};
 ghost use Rattle.lk_mono.specs.Looks.{as_found, as_uses};
 ghost use Rattle.lk_mono.specs.Queues.{as_list};
 ghost use Rattle.lk_mono.specs.declared.body.Source.{Source as TheSource};
-ghost use Rattle.lk_outline.specs.Nodes.{TypedNode, Use as TheUse};
+ghost use Rattle.lk_sound.specs.Nodes.{TypedNode, Use as TheUse};
 ghost use Rattle.lk_types.specs.Each.{Each, OneOf};
 ghost use Rattle.std.specs.Prelude.{◌≡◌, ◌≤◌, ◌||◌, ◌⊎◌, IfOk, List as TheList, Some, if◌then◌else◌, length, slice_get};
 

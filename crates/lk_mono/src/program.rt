@@ -5,7 +5,7 @@ ghost use Rattle.lk_infer.specs.Inferred.{HasTypes};
 ghost use Rattle.lk_mono.specs.Grounded.{Are, AreAllCalled, IsGrounded};
 ghost use Rattle.lk_mono.specs.Held.{AreHeld, IsSource};
 ghost use Rattle.lk_mono.specs.Instances.{AreTooMany, Body as TheBody, IsTooLarge, uses_of};
-ghost use Rattle.lk_mono.specs.Keeps.{Keeps};
+ghost use Rattle.lk_mono.specs.Keeps.{Keeps, SameEvents};
 ghost use Rattle.lk_mono.specs.Listed.{AreFound};
 ghost use Rattle.lk_mono.specs.Order.{AreRanked, NoHelperCallsItself};
 ghost use Rattle.lk_mono.specs.Plain.{ShowsPlain};
@@ -15,7 +15,8 @@ ghost use Rattle.lk_mono.specs.Judged.{Judged};
 ghost use Rattle.lk_mono.specs.declared.body.Source.{Source as TheSource};
 ghost use Rattle.lk_mono.specs.declared.error.MonoError.TheVariants as errors;
 ghost use Rattle.lk_mono.specs.declared.error.ShapeKind.{ShapeKind as TheKind};
-ghost use Rattle.lk_outline.specs.Nodes.{Use as TheUse};
+ghost use Rattle.lk_sound.specs.Instances.{IsShaped};
+ghost use Rattle.lk_sound.specs.Nodes.{Use as TheUse};
 ghost use Rattle.std.specs.Prelude.{◌≡◌, ◌<◌, Bool, Err, IfOk, List as TheList, false, length, true};
 
 use crate::body::{Body, Source};
@@ -135,7 +136,8 @@ fn ground_source<'p>(alloc: Global, source: Source<'_, 'p>) -> Result<GroundProg
 /// instances in both lists together as `TooManyInstances`; and then what can't be shown, compared or run by a database as
 /// `Shape`, at the first place. `NoMemory` where memory runs out.
 ///
-/// No function stands in what the sessions of a program that has one show, and no helper calls itself, directly or through
+/// Its instances are a closed set whose queries are flat. So no function stands in what the sessions of a program that has one
+/// show, these have the same events as the sessions of the ground program, and no helper calls itself, directly or through
 /// others.
 pub fn ground<'p>(
     alloc: Global,
@@ -145,7 +147,9 @@ pub fn ground<'p>(
     requires typed { HasTypes program.now typed.now.schemes typed.now.types }
     ensures grounded { IfOk result (IsGrounded program.now typed.now.schemes typed.now.types) }
     ensures keeps { IfOk result (Keeps program.now) }
+    ensures closed { IfOk result (λ done. IsShaped program.now) }
     ensures plain { IfOk result (λ done. ShowsPlain program.now) }
+    ensures events { IfOk result (SameEvents program.now) }
     ensures ranked { IfOk result AreRanked }
     ensures no_cycle { IfOk result NoHelperCallsItself }
     ensures too_many { result ≡ Err errors.TooManyInstances → AreTooMany program.now typed.now.schemes typed.now.types }

@@ -2,7 +2,7 @@
 
 ghost use Rattle.lk_mono.specs.Looks.{as_found, as_uses};
 ghost use Rattle.lk_mono.specs.Queues.{AreFoundOf, IsAdded, IsQueueOf, as_list, as_use, as_wanted, made};
-ghost use Rattle.lk_outline.specs.Nodes.{Use as TheUse};
+ghost use Rattle.lk_sound.specs.Nodes.{Use as TheUse};
 ghost use Rattle.lk_types.specs.Each.{OneOf};
 ghost use Rattle.std.specs.Prelude.{◌≡◌, ℕ, [], ◌∷◌, IfOk, List as TheList, false, true};
 

@@ -19,7 +19,7 @@ use Rattle.lk_typing.specs.Names.{Named, named, Entry}
 use Rattle.lk_typing.specs.Rules.{Rule}
 use Rattle.lk_typing.specs.Types.{record_of, variant_of}
 use Rattle.lk_typing.specs.Typing.{HasType, HaveTypes, HaveCases, IsChange, plain, lambda, var, switch, switch_open, for_list, for_table, query, update, delete, none, more, no_cases, case_of, changed, exprs_of, parts_of}
-use Rattle.lk_outline.specs.Nodes.{type_before, known_in}
+use Rattle.lk_sound.specs.Nodes.{type_before, known_in}
 use Rattle.lk_outline.specs.Outline.{Around, Context, In, Site, before, binder_of, with_names, with_some, where_bound, outline, outline_case, outline_change}
 use Rattle.lk_outline.specs.Typed.{type_at, or_unit, captured_at, captured_in}
 use Rattle.lk_outline.proofs.Binders.{Divides, divides_inside, name_at, names_at, held_at}

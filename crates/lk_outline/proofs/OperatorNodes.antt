@@ -13,7 +13,7 @@ use Rattle.lk_typing.specs.Heads.{Head}
 use Rattle.lk_typing.specs.Names.{Named, Entry}
 use Rattle.lk_typing.specs.Rules.{Rule}
 use Rattle.lk_typing.specs.Typing.{HaveTypes, none, more, parts_of}
-use Rattle.lk_outline.specs.Nodes.{Comparison, comparison, used_by, compared_by}
+use Rattle.lk_sound.specs.Nodes.{Comparison, comparison, used_by, compared_by}
 use Rattle.lk_outline.specs.Outline.{Context, Site, starts, outline}
 use Rattle.lk_outline.specs.Typed.{type_at, effects_around, used, compared, block_at}
 use Rattle.lk_outline.proofs.Captured.{type_is}

@@ -7,7 +7,7 @@ use Rattle.lk_types.specs.Rows.{EffectSet, effects_of}
 use Rattle.lk_types.specs.declared.ground.Ground.{Ground}
 use Rattle.lk_typing.specs.Names.{Named, Entry, names_of, texts}
 use Rattle.lk_typing.specs.Typing.{HasType}
-use Rattle.lk_outline.specs.Nodes.{nodes_of}
+use Rattle.lk_sound.specs.Nodes.{nodes_of}
 use Rattle.lk_outline.specs.Outline.{body_outline}
 use Rattle.lk_outline.specs.Typed.{typed_nodes}
 

@@ -1,5 +1,4 @@
 pub mod Law
-pub mod Nodes
 pub mod Outline
 pub mod Shown
 pub mod Typed

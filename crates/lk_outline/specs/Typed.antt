@@ -8,8 +8,8 @@ use Rattle.lk_types.specs.declared.ground.Ground.TheVariants as known
 use Rattle.lk_types.specs.declared.ground.GroundField.{GroundField}
 use Rattle.lk_types.specs.declared.ty.Effect.{Effect}
 use Rattle.lk_types.specs.declared.ty.Effect.TheVariants as effect
-use Rattle.lk_outline.specs.Nodes.{Use, Comparison, Part, Block, TypedNode}
-use Rattle.lk_outline.specs.Nodes as node
+use Rattle.lk_sound.specs.Nodes.{Use, Comparison, Part, Block, TypedNode}
+use Rattle.lk_sound.specs.Nodes as node
 use Rattle.lk_outline.specs.Outline.{Around, Kind, Site, Function, Lambda, Call, Equality, Order, Name, Query, Change}
 
 abbrev pub or_unit : Option Ground → Ground

@@ -1,5 +1,5 @@
 -- Each lambda that is gathered in an expression of the grammar, whose names are resolved, begins with a token of its own, and so
--- does each use of a function in it: production by production.
+-- does each use of a function in it, and what acts on tables: production by production.
 use Rattle.std.proofs.Common.{◌≡◌, ℕ, Bool, true, false, List, [], ◌∷◌, ◌++◌, Option, Some, None, map, refl, sym, subst, append_assoc}
 use Rattle.std.specs.Option.{is_none}
 use Rattle.lk_ast.specs.Layers.{statement_node}
@@ -24,9 +24,9 @@ use Rattle.lk_parts.specs.declared.part.Statement.{Statement}
 use Rattle.lk_read.specs.Kinds.{word_of}
 use Rattle.lk_scope.specs.Names.{Names, is_local, bind, bind_all}
 use Rattle.lk_scope.specs.Scoped.{In, all_in, function_in, call_by, scoped, scoped_case, scoped_lambda, scoped_part}
-use Rattle.lk_places.proofs.Finds.{Finds, finds_none, finds_skip, finds_before, finds_behind, finds_both, finds_lambda, finds_use, finds_so}
+use Rattle.lk_places.proofs.Finds.{Finds, finds_none, finds_skip, finds_before, finds_behind, finds_both, finds_lambda, finds_use, finds_block, finds_so}
 use Rattle.lk_places.proofs.Levels.{of_node, within, all_more, all_scoped, found_case, found_last, found_part}
-use Rattle.lk_places.proofs.Nodes.{cases_within, word_walk, operator_pair, where_pair, seq_pair, neg_one, prefix_one, project_one, tag_one, insert_one, query_one, literal_leaf, name_same, var_same, for_list_same, for_table_same, lambda_same, if_same, record_same, extend_same, list_same, apply_same, value_same, function_same, switch_same, update_same, delete_same}
+use Rattle.lk_places.proofs.Nodes.{cases_within, word_walk, operator_pair, where_pair, seq_pair, neg_one, prefix_one, project_one, tag_one, insert_same, query_same, literal_leaf, name_same, var_same, for_list_same, for_table_same, lambda_same, if_same, record_same, extend_same, list_same, apply_same, value_same, function_same, switch_same, update_same, delete_same}
 use Rattle.lk_places.proofs.Opens.{Opens, postfix_opens, finds_call}
 use Rattle.lk_places.proofs.Walks.{Walk, walk_all, same_then, same_behind, same_alone, walk_of, walk_node, walk_part, walk_case}
 
@@ -167,13 +167,13 @@ mutual
   form_holds : {w : List Token} {e : Part} → IsForm w e → Holds e.expr w
   form_holds (IsForm.conditional k o c l {a = a} {d = d} {e = e} m h x i y j z) names = finds_so (if_same (between k.span.start e.to) a.expr d.expr e.expr names) (finds_before (k ∷ o ∷ []) (finds_both (expr_holds x names) (finds_skip c (finds_both (expr_holds y names) (finds_skip l (expr_holds z names))))))
   form_holds (IsForm.for_list k o x s c {e = e} {d = d} m h i j y l z) names = finds_so (for_list_same (between k.span.start d.to) (word_of x) e.expr d.expr names) (finds_before (k ∷ o ∷ x ∷ s ∷ []) (finds_both (expr_holds y names) (finds_skip c (expr_holds z (bind (word_of x) names)))))
-  form_holds (IsForm.for_table k o x s t c {d = d} m h i j l n z) names = finds_so (for_table_same (between k.span.start d.to) (between k.span.start d.to) (word_of x) (word_of t) d.expr names) (finds_before (k ∷ o ∷ x ∷ s ∷ t ∷ c ∷ []) (expr_holds z (bind (word_of x) names)))
+  form_holds (IsForm.for_table k o x s t c {d = d} m h i j l n z) names = finds_so (for_table_same (between k.span.start d.to) (between k.span.start d.to) (word_of x) (word_of t) d.expr names) (finds_block k k.span.start refl (finds_before (o ∷ x ∷ s ∷ t ∷ c ∷ []) (expr_holds z (bind (word_of x) names))))
   form_holds (IsForm.where_holds k o c {a = a} {e = e} m h x i z) names = finds_so (where_pair (between k.span.start e.to) a.expr e.expr names) (finds_before (k ∷ o ∷ []) (finds_both (expr_holds x names) (finds_skip c (expr_holds z names))))
-  form_holds (IsForm.insert k t s {e = e} m h i z) names = finds_so (insert_one (word_of t) (between k.span.start e.to) e.expr names) (finds_before (k ∷ t ∷ s ∷ []) (expr_holds z names))
-  form_holds (IsForm.update k h o c {change = change} {sets = sets} m x i j y l) names = finds_so (update_same (between k.span.start c.span.end) change.name change.table change.cond sets names) (finds_skip k (finds_both (change_holds x (bind change.name names)) (finds_before (h ∷ o ∷ []) (finds_behind (c ∷ []) (parts_hold y (bind change.name names))))))
-  form_holds (IsForm.delete k {change = change} m x) names = finds_so (delete_same (between k.span.start change.to) change.name change.table change.cond names) (finds_skip k (change_holds x (bind change.name names)))
+  form_holds (IsForm.insert k t s {e = e} m h i z) names = finds_so (insert_same (between k.span.start e.to) (word_of t) e.expr names) (finds_block k k.span.start refl (finds_before (t ∷ s ∷ []) (expr_holds z names)))
+  form_holds (IsForm.update k h o c {change = change} {sets = sets} m x i j y l) names = finds_so (update_same (between k.span.start c.span.end) change.name change.table change.cond sets names) (finds_block k k.span.start refl (finds_both (change_holds x (bind change.name names)) (finds_before (h ∷ o ∷ []) (finds_behind (c ∷ []) (parts_hold y (bind change.name names))))))
+  form_holds (IsForm.delete k {change = change} m x) names = finds_so (delete_same (between k.span.start change.to) change.name change.table change.cond names) (finds_block k k.span.start refl (change_holds x (bind change.name names)))
   form_holds (IsForm.switch k o c b d {e = e} {cases = cases} m h x i j y some l) names = finds_so (switch_same (between k.span.start d.span.end) e.expr cases.list cases.last names) (finds_before (k ∷ o ∷ []) (finds_both (expr_holds x names) (finds_before (c ∷ b ∷ []) (finds_behind (d ∷ []) (cases_hold y names)))))
-  form_holds (IsForm.query k {u = u} {keys = keys} {b = b} m x y) names = finds_so (query_one keys (between k.span.start b.to) b.expr names) (finds_skip k (finds_before u (block_holds y names)))
+  form_holds (IsForm.query k {u = u} {keys = keys} {b = b} m x y) names = finds_so (query_same (between k.span.start b.to) keys b.expr names) (finds_block k k.span.start refl (finds_before u (block_holds y names)))
   form_holds (IsForm.lambda k o c {u = u} {v = v} {params = params} {place = place} {b = b} m h x i y z) names =
       let lambda : LambdaExpr = record { params = params; place = place; body = b.expr } in
       finds_so (lambda_same (between k.span.start b.to) lambda names) (finds_lambda k (record { site = k.span.start; lambda = scoped_lambda lambda names }) refl (finds_skip o (finds_before u (finds_skip c (finds_before v (block_holds z (bind_all params names)))))))

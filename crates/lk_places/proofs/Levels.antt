@@ -68,7 +68,7 @@ change_with x t cond sets = roll-ChangeExpr (record { name = x; table = t; cond 
 walk_change_with : (x t : Word) (cond : Expr) (sets : List PartExpr) → Same (walk_change (change_with x t cond sets)) (both (walk_of cond) (walk_all walk_part sets))
 walk_change_with x t cond sets =
     same_then (change_walk (change_with x t cond sets))
-    (same_by (ap (λ change. both (walk_of change.cond) (walk_all walk_part change.sets)) (out-roll-ChangeExpr (record { name = x; table = t; cond = cond; sets = sets }))) (record { gathers = λ found. refl; used = refl }))
+    (same_by (ap (λ change. both (walk_of change.cond) (walk_all walk_part change.sets)) (out-roll-ChangeExpr (record { name = x; table = t; cond = cond; sets = sets }))) (record { gathers = λ found. refl; used = refl; listed = refl }))
 
 -- ---- lists
 
@@ -93,6 +93,11 @@ all_used : {X : Type 0} (of : X → Walk) (resolved : X → In X) (xs : List X) 
 all_used of resolved [] x names = append-nil (of (resolved x names)).uses
 all_used of resolved (y ∷ xs) x names = ap (λ us. (of (resolved y names)).uses ++ us) (all_used of resolved xs x names) ∙ sym (append_assoc (of (resolved y names)).uses (all_scoped of resolved xs names).uses (of (resolved x names)).uses)
 
+all_listed : {X : Type 0} (of : X → Walk) (resolved : X → In X) (xs : List X) (x : X) (names : Names)
+    → (all_scoped of resolved (xs ++ x ∷ []) names).blocks ≡ (all_scoped of resolved xs names).blocks ++ (of (resolved x names)).blocks
+all_listed of resolved [] x names = append-nil (of (resolved x names)).blocks
+all_listed of resolved (y ∷ xs) x names = ap (λ bs. (of (resolved y names)).blocks ++ bs) (all_listed of resolved xs x names) ∙ sym (append_assoc (of (resolved y names)).blocks (all_scoped of resolved xs names).blocks (of (resolved x names)).blocks)
+
 pub all_more : {X : Type 0} (of : X → Walk) (resolved : X → In X) (xs : List X) (x : X) (names : Names)
     → Same (all_scoped of resolved (xs ++ x ∷ []) names) (both (all_scoped of resolved xs names) (of (resolved x names)))
-all_more of resolved xs x names = record { gathers = all_gathered of resolved xs x names; used = all_used of resolved xs x names }
+all_more of resolved xs x names = record { gathers = all_gathered of resolved xs x names; used = all_used of resolved xs x names; listed = all_listed of resolved xs x names }

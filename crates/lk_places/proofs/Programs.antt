@@ -1,5 +1,5 @@
--- The names of functions and the lambdas of a program begin each with a token of its own, and so do the uses of functions,
--- production by production; so in the program of a text they begin at places of their own.
+-- The names of functions and the lambdas of a program begin each with a token of its own, and so do the uses of functions, and
+-- what acts on tables, production by production; so in the program of a text they begin at places of their own.
 use Rattle.std.proofs.Common.{◌≡◌, ◌⊎◌, ℕ, List, [], ◌∷◌, ◌++◌, length, map, Option, inl, inr, refl, sym, ap, ap₂, subst, ◌∙◌}
 use Rattle.std.proofs.lemmas.Grind.{flat_map-append}
 use Rattle.std.proofs.lemmas.List.{append-nil, map-append}
@@ -12,6 +12,7 @@ use Rattle.lk_ast.specs.declared.declaration.Program.{Program}
 use Rattle.lk_ast.specs.declared.signature.Sig.{Sig}
 use Rattle.lk_ast.specs.declared.token.Token.{Token}
 use Rattle.lk_grammar.specs.Programs.{IsDefinition, IsFun, IsFuns, IsDecl, IsDecls, IsProgram}
+use Rattle.lk_bag.specs.Blocks.{AreBlocksApart, blocks_in}
 use Rattle.lk_ground.specs.Sites.{PlacedUse, all, uses_in}
 use Rattle.lk_ground.specs.UsesApart.{AreUsesApart}
 use Rattle.lk_index.specs.Places.{Lambdas, AreApart, ArePlaced, gather, lambdas_of}
@@ -20,8 +21,8 @@ use Rattle.lk_parse.specs.Tokens.{LieBetween}
 use Rattle.lk_places.proofs.Expressions.{block_holds}
 use Rattle.lk_places.proofs.Finds.{Finds, sites_of, uses_at, finds_none, finds_skip, finds_before, finds_behind, finds_both, finds_name, finds_so, finds_named}
 use Rattle.lk_places.proofs.Splits.{split_apart, apart_front, apart_back}
-use Rattle.lk_places.proofs.Walks.{Walk, Same, both, walk_all, same_by, same_alone, walk_of}
-use Rattle.lk_places.specs.Law.{PlacesLaw, UsesLaw}
+use Rattle.lk_places.proofs.Walks.{Walk, Same, both, walk_all, same_by, same_alone, starts, starts_in, starts_flat, walk_of}
+use Rattle.lk_places.specs.Law.{PlacesLaw, UsesLaw, BlocksLaw}
 use Rattle.lk_read.specs.Kinds.{word_of}
 use Rattle.lk_scope.specs.Names.{no_names, bind_all}
 use Rattle.lk_scope.specs.Scoped.{scoped_decl, scoped_function}
@@ -44,7 +45,7 @@ all_gathered [] gs found = refl
 all_gathered (f ∷ fs) gs found = all_gathered fs gs (gather f.body found)
 
 appended : (fs gs : List FunDef) → Same (walk_all body_of (fs ++ gs)) (both (walk_all body_of fs) (walk_all body_of gs))
-appended fs gs = record { gathers = all_gathered fs gs; used = ap all (map-append (λ (f : FunDef). uses_in f.body) fs gs) ∙ flat_map-append (λ us. us) (map (λ (f : FunDef). uses_in f.body) fs) _ }
+appended fs gs = record { gathers = all_gathered fs gs; used = ap all (map-append (λ (f : FunDef). uses_in f.body) fs gs) ∙ flat_map-append (λ us. us) (map (λ (f : FunDef). uses_in f.body) fs) _; listed = flat_map-append (λ (f : FunDef). starts_in f.body) fs gs }
 
 both_hold : (fs gs : List FunDef) {u v : List Token} → HoldFunctions fs u → HoldFunctions gs v → HoldFunctions (fs ++ gs) (u ++ v)
 both_hold fs gs h k =
@@ -116,6 +117,11 @@ each_apart (g ∷ fs) apart f one =
 uses_by : (fs : List FunDef) (w : List Token) (end : ℕ) → HoldFunctions fs w → LieBetween 0 w end → AreApart (uses_at (walk_all body_of (map scoped_function fs)).uses)
 uses_by fs w end h lie = subst AreApart (append-nil _) (split_apart 0 end h.used lie)
 
+-- ---- what acts on tables in all functions
+
+blocks_by : (fs : List FunDef) (w : List Token) (end : ℕ) → HoldFunctions fs w → LieBetween 0 w end → AreApart (starts (flat_map (λ (f : FunDef). blocks_in f.body) (map scoped_function fs)))
+blocks_by fs w end h lie = subst AreApart (append-nil _ ∙ sym (starts_flat (λ (f : FunDef). blocks_in f.body) (map scoped_function fs))) (split_apart 0 end h.listed lie)
+
 -- ---- the laws
 
 pub places_law : PlacesLaw
@@ -129,3 +135,9 @@ uses_law text program is =
     subst AreUsesApart (sym is.names)
     (λ f one. each_apart (map scoped_function (functions_of is.tree)) (uses_by (functions_of is.tree) is.tokens (length text) (program_holds is.is) (tokens_lie text is.tokens is.has.read)) f
     (subst (OneOf (λ other. other ≡ f)) (of_scoped is.tree.decls) one))
+
+pub blocks_law : BlocksLaw
+blocks_law text program is =
+    subst AreBlocksApart (sym is.names)
+    (subst (λ fs. AreApart (starts (flat_map (λ (f : FunDef). blocks_in f.body) fs))) (sym (of_scoped is.tree.decls))
+    (blocks_by (functions_of is.tree) is.tokens (length text) (program_holds is.is) (tokens_lie text is.tokens is.has.read)))

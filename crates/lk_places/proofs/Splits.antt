@@ -5,7 +5,7 @@ use Rattle.lk_index.specs.Places.{IsNone, AreApart}
 use Rattle.lk_parse.specs.Tokens.{LieBetween}
 
 -- Two lists of starts of some of these tokens, each in the order of the tokens: those of names, and those of lambdas. No token
--- is in both. In place of names there may be uses of functions.
+-- is in both. In place of names there may be uses of functions, or what acts on tables.
 pub data Split : List ℕ → List ℕ → List Token → Type 0 where
   none : Split [] [] []
   skip : (t : Token) {names sites : List ℕ} {w : List Token} → Split names sites w → Split names sites (t ∷ w)

@@ -1,14 +1,18 @@
-//! That a place in a program's text says which function, which lambda or which use of a function is meant.
+//! That a place in a program's text says which function, which lambda, which use of a function, or which query, reading of a
+//! table or change is meant.
 #![tactic(auto)]
 
-ghost use Rattle.lk_places.specs.Law.{PlacesLaw, UsesLaw};
+ghost use Rattle.lk_places.specs.Law.{BlocksLaw, PlacesLaw, UsesLaw};
 
-/// Two facts for those who need a place to say what is meant. A call does nothing.
+/// Three facts for those who need a place to say what is meant. A call does nothing.
 ///
 /// `apart`: in a program that a text stands for, the names of functions and the lambdas begin each at a place of its own.
 ///
 /// `uses`: in such a program, the uses of functions in the body of a function begin each at a place of its own.
+///
+/// `blocks`: in such a program, the queries, readings of tables and changes in all bodies begin each at a place of its own.
 pub fn places_law()
     ensures apart { PlacesLaw }
     ensures uses { UsesLaw }
+    ensures blocks { BlocksLaw }
 {}

@@ -20,7 +20,8 @@ use Rattle.lk_types.specs.declared.ty.Variable.{Variable}
 use Rattle.lk_types.specs.declared.ty.Variable.TheVariants as variable
 use Rattle.lk_typing.proofs.Values.{just}
 use Rattle.lk_typing.specs.Law.{Become}
-use Rattle.lk_typing.specs.Programs.{AreAt, AreInstances, tables_of}
+use Rattle.lk_typing.specs.Programs.{AreAt, AreInstances}
+use Rattle.lk_ast.specs.Tables.{tables_of}
 
 -- ---- whether a row variable is among others
 

@@ -24,7 +24,8 @@ use Rattle.lk_typing.proofs.Values.{just}
 use Rattle.lk_typing.specs.Groups.{IsGroup, is_mutual, own_entries, scheme_entries}
 use Rattle.lk_typing.specs.Law.{Become}
 use Rattle.lk_typing.specs.Names.{Named, Entry}
-use Rattle.lk_typing.specs.Programs.{AreAt, tables_of}
+use Rattle.lk_typing.specs.Programs.{AreAt}
+use Rattle.lk_ast.specs.Tables.{tables_of}
 
 pub schemes_law : SchemesLaw
 schemes_law p schemes types has = all_schemes (tables_of p) false [] p.decls schemes types has

@@ -28,7 +28,8 @@ use Rattle.lk_types.specs.declared.scheme.Scheme.{Scheme}
 use Rattle.lk_typing.proofs.Values.{just}
 use Rattle.lk_typing.specs.Groups.{is_mutual, is_recursive, own_entries, scheme_entries}
 use Rattle.lk_typing.specs.Names.{Named, named, Entry, One, Many, IsUse, MayBe}
-use Rattle.lk_typing.specs.Programs.{AreAt, tables_of}
+use Rattle.lk_typing.specs.Programs.{AreAt}
+use Rattle.lk_ast.specs.Tables.{tables_of}
 use Rattle.lk_typing.specs.Uses.{functions_used}
 
 -- ---- functions that don't call themselves

@@ -17,7 +17,8 @@ use Rattle.lk_types.specs.declared.ty.Ty.{Ty}
 use Rattle.lk_typing.specs.Groups.{IsFunction, IsGroup, is_mutual, own_entries, scheme_entries}
 use Rattle.lk_typing.specs.Law.{Become}
 use Rattle.lk_typing.specs.Names.{Named, Entry}
-use Rattle.lk_typing.specs.Programs.{entries, tables_of}
+use Rattle.lk_typing.specs.Programs.{entries}
+use Rattle.lk_ast.specs.Tables.{tables_of}
 
 -- how many nodes the body of a function has
 abbrev pub body_size : FunDef → ℕ

@@ -1,5 +1,5 @@
 -- Each method of the evaluator leads from one machine to another with the same still to do.
-use Rattle.std.proofs.Common.{◌≡◌, ◌≢◌, ℕ, suc, ◌+◌, ◌-◌, List, [], ◌∷◌, ◌++◌, length, refl, sym, ◌∙◌, ap, arith}
+use Rattle.std.proofs.Common.{◌≡◌, ◌≢◌, ℕ, suc, ◌+◌, ◌-◌, ◌≤◌, List, [], ◌∷◌, ◌++◌, length, refl, sym, ◌∙◌, ap, arith, append_assoc, append-nil}
 use Rattle.std.specs.Prelude.{Bool, true, false, Option, Some, None, map, reverse, slice_get}
 use Rattle.std.specs.Borrow.{Bor}
 use Rattle.std.specs.Option.{option_map}
@@ -8,7 +8,7 @@ use Rattle.std.proofs.lemmas.Option.{slice_get-map}
 use Rattle.lk_ast.specs.Layers.{layer}
 use Rattle.lk_ast.specs.declared.declaration.Program.{Program}
 use Rattle.lk_ast.specs.declared.event.Event.{Event}
-use Rattle.lk_ast.specs.declared.event.Event.TheVariants.{Print, Enter, Leave}
+use Rattle.lk_ast.specs.declared.event.Event.TheVariants.{Print, Enter, Leave, Read, Write}
 use Rattle.lk_ast.specs.declared.expression.Expr.{Expr}
 use Rattle.lk_ast.specs.declared.place.Loc.{Loc}
 use Rattle.lk_ast.specs.declared.place.Loc.TheVariants.{Client, Server, Any}
@@ -20,12 +20,13 @@ use Rattle.lk_evaluation.specs.Evaluation as spec
 use Rattle.lk_evaluation.specs.Evaluation.{eval, handed, perform, joined, each, client_call, used}
 use Rattle.lk_sem.specs.Frames as frames
 use Rattle.lk_sem.specs.Frames.{resumed, returned, handed_by}
-use Rattle.lk_sem.specs.Finishes.{finish_of, finished}
-use Rattle.lk_sem.specs.Machine.{bodies, frame_of, frame_rest, wound, outcome, Shows, Leads, LeadsWhole, Ends}
-use Rattle.lk_evaluation.specs.Run.{Run, Out, Goes, Stops, Trapped, Spent, Stuck, NoStore, Crossing, Within, Called, Returned, Function, Printer, Site, step, logs, and_then}
+use Rattle.lk_sem.specs.Ends.{stop_of}
+use Rattle.lk_sem.specs.Machine.{bodies, frame_of, frame_rest, wound, outcome, IsQuiet, GoesQuietly, Shows, Leads}
+use Rattle.lk_evaluation.specs.Run.{Run, Out, Goes, Stops, Trapped, Spent, Stuck, Crossing, Within, Called, Returned, Function, Printer, Site, step, logs, and_then}
 use Rattle.lk_evaluation.specs.Source.{Point, under, source, act}
 use Rattle.lk_evaluation.specs.Syntax.{parts_of, is_plain}
 use Rattle.lk_operators.specs.Values.{text, unit, list_in}
+use Rattle.lk_types.specs.Each.{Each}
 use Rattle.lk_sem.specs.declared.machine.Frame.{Frame}
 use Rattle.lk_sem.specs.declared.machine.Frame.TheVariants.{Part, Turn, Back}
 use Rattle.lk_sem.specs.declared.machine.Machine.{Machine}
@@ -35,14 +36,13 @@ use Rattle.lk_sem.specs.declared.machine.Turns.{Turns}
 use Rattle.lk_sem.specs.declared.machine.Waiting.{Waiting}
 use Rattle.lk_sem.specs.declared.run.Halt.{Halt}
 use Rattle.lk_sem.specs.declared.run.Halt.TheVariants as halt
-use Rattle.lk_sem.specs.declared.run.Finish.{Finish}
 use Rattle.lk_evaluation.proofs.Fixpoint.{spends}
 use Rattle.lk_sem.proofs.Winding as winding
 
 -- ---- frames and parts of the source
 
 -- the last frame gets the outcome first
-wound-push : (p : Program) (fs : List Frame) (f : Frame) (o : Out Value) → wound p (fs ++ f ∷ []) o ≡ wound p fs (and_then o (frame_rest p f))
+pub wound-push : (p : Program) (fs : List Frame) (f : Frame) (o : Out Value) → wound p (fs ++ f ∷ []) o ≡ wound p fs (and_then o (frame_rest p f))
 wound-push p fs f o =
     ap (λ (gs : List (frames.Frame Point)). frames.wound (source p) gs o) (map-append frame_of fs (f ∷ [])) ∙ winding.wound-push (source p) (map frame_of fs) (frame_of f) o
 
@@ -70,21 +70,47 @@ shows_handed_by : (p : Program) (m : Machine) (o : Option Point) (r : Run) → S
 shows_handed_by p m None r h = h
 shows_handed_by p m (Some e) r h = shows_handed m ((source p).plain e) r h
 
+-- a value that is handed on leaves the answers
+same_handed : (plain : Bool) (r : Run) → (handed plain r).answers ≡ r.answers
+same_handed true r = refl
+same_handed false r = refl
+
+same_handed_by : (p : Program) (o : Option Point) (r : Run) → (handed_by (source p) o r).answers ≡ r.answers
+same_handed_by p None r = refl
+same_handed_by p (Some e) r = same_handed ((source p).plain e) r
+
+-- ---- logs without events of tables
+
+pub quiet_itself : (log : List Event) → GoesQuietly log log
+quiet_itself log = record { more = []; log = sym (append-nil log); quiet = tt }
+
+quiet_event : (log after : List Event) (e : Event) → IsQuiet e → after ≡ log ++ e ∷ [] → GoesQuietly log after
+quiet_event log after e calm is = record { more = e ∷ []; log = is; quiet = (calm, tt) }
+
+each_both : (xs ys : List Event) → Each IsQuiet xs → Each IsQuiet ys → Each IsQuiet (xs ++ ys)
+each_both [] ys a b = b
+each_both (x ∷ xs) ys a b = (a.0, each_both xs ys a.1 b)
+
+quiet_then : (one two three : List Event) → GoesQuietly one two → GoesQuietly two three → GoesQuietly one three
+quiet_then one two three a b = record { more = a.more ++ b.more; log = b.log ∙ ap (λ l. l ++ b.more) a.log ∙ append_assoc one a.more b.more; quiet = each_both a.more b.more a.quiet b.quiet }
+
 -- ---- one method each
 
 -- another way to say what is to do
 pub leads_as : (p : Program) (old new : Machine) (next : Next) (o j : Run → Out Value) → ((r : Run) → Shows old r → j r ≡ o r) → Leads p old o new next → Leads p old j new next
-leads_as p old new next o j same l = record { runs = λ r h. let a = l.runs r h in (a.0, a.1, ap (wound p old.stack) (same r h) ∙ a.2) }
+leads_as p old new next o j same l = record { runs = λ r h. let a = l.runs r h in (a.0, a.1, a.2, ap (wound p old.stack) (same r h) ∙ a.3); quiet = l.quiet; fuel = l.fuel }
 
 -- what comes before changes neither fuel nor log
-leads_after : (p : Program) (old new : Machine) (next : Next) (o j : Run → Out Value) (f : Run → Run) → ((r : Run) → Shows old r → Shows old (f r)) → ((r : Run) → j r ≡ o (f r)) → Leads p old o new next → Leads p old j new next
-leads_after p old new next o j f keeps is l = record {
-  runs = λ r h. let a = l.runs (f r) (keeps r h) in (a.0, a.1, ap (wound p old.stack) (is r) ∙ a.2);
+leads_after : (p : Program) (old new : Machine) (next : Next) (o j : Run → Out Value) (f : Run → Run) → ((r : Run) → Shows old r → Shows old (f r)) → ((r : Run) → (f r).answers ≡ r.answers) → ((r : Run) → j r ≡ o (f r)) → Leads p old o new next → Leads p old j new next
+leads_after p old new next o j f keeps same is l = record {
+  runs = λ r h. let a = l.runs (f r) (keeps r h) in (a.0, a.1, a.2 ∙ same r, ap (wound p old.stack) (is r) ∙ a.3);
+  quiet = l.quiet;
+  fuel = l.fuel;
 }
 
 -- there is no fuel
 pub leads_spent : (p : Program) (m : Machine) (e : Point) (place : Loc) → m.fuel ≡ 0 → Leads p m (eval (source p) e place) m (now.Stop halt.Spent)
-leads_spent p m e place none = record { runs = λ r h. (r, h, ap (wound p m.stack) (spends (source p) e place r (h.fuel ∙ none))) }
+leads_spent p m e place none = record { runs = λ r h. (r, h, refl, ap (wound p m.stack) (spends (source p) e place r (h.fuel ∙ none))); quiet = quiet_itself m.log; fuel = omega arith }
 
 -- a node is entered
 pub leads_enter : (p : Program) (old new : Machine) (next : Next) (e : Point) (place : Loc) (done : List Value) → old.fuel ≢ 0 → done ≡ []
@@ -94,7 +120,9 @@ leads_enter p old new next e place done some none l = record {
       let is : r.fuel ≡ suc (old.fuel - 1) = omega (arith, h.fuel, some) in
       let s : Run = record r { fuel = old.fuel - 1; steps = r.steps + 1 } in
       let a = l.runs s (record { fuel = refl; log = h.log; whole = h.whole }) in
-      (a.0, a.1, ap (wound p old.stack) (winding.enters (source p) e place r (old.fuel - 1) is ∙ ap (λ d. resumed (source p) e d place s) (sym none)) ∙ a.2);
+      (a.0, a.1, a.2, ap (wound p old.stack) (winding.enters (source p) e place r (old.fuel - 1) is ∙ ap (λ d. resumed (source p) e d place s) (sym none)) ∙ a.3);
+  quiet = l.quiet;
+  fuel = let below = l.fuel in omega (arith, below);
 }
 
 -- all parts have their values
@@ -108,9 +136,12 @@ pub leads_wait : (p : Program) (old : Machine) (stack : List Frame) (w : Waiting
     → o ≡ slice_get (parts_of (layer w.expr.now)) n → n ≡ length w.done → o ≡ Some e.now → stack ≡ old.stack ++ Part w ∷ [] → scope ≡ w.scope
     → Leads p old (resumed (source p) (under w.scope w.expr.now) w.done w.place) (record { stack = stack; log = old.log; fuel = old.fuel }) (now.Enter e scope w.place)
 leads_wait p old stack w e scope o n part len some pushed same = record {
+  quiet = quiet_itself old.log;
+  fuel = omega arith;
   runs = λ r h. (
     r,
     record { fuel = h.fuel; log = h.log; whole = h.whole },
+    refl,
     ap (wound p old.stack) (winding.waits (source p) (under names w.expr.now) (under names e.now) w.done w.place r (part_of p names w.expr.now e.now (length w.done) at))
         ∙ sym (wound-push p old.stack (Part w) (eval (source p) (under names e.now) w.place r))
         ∙ ap (λ fs. wound p fs (eval (source p) (under names e.now) w.place r)) (sym pushed)
@@ -129,6 +160,8 @@ pub leads_across : (p : Program) (old : Machine) (stack : List Frame) (log : Lis
     → place ≡ Client → mark ≡ Server → log ≡ old.log ++ Enter ∷ [] → stack ≡ old.stack ++ Back place ∷ []
     → Leads p old (perform (source p) (eval (source p)) place (spec.Goto mark f args (under scope body.now))) (record { stack = stack; log = log; fuel = old.fuel }) (now.Enter body scope mark)
 leads_across p old stack log place mark f args body scope here there logged pushed = record {
+  quiet = quiet_event old.log log Enter tt logged;
+  fuel = omega arith;
   runs = λ r h.
       let s : Run = logs Enter (Called (Function f) args) (step r) in
       let shown = shows_logs old (step r) Enter (Called (Function f) args) log (shows_step old r h) logged in
@@ -136,6 +169,7 @@ leads_across p old stack log place mark f args body scope here there logged push
       let o : Out Value = eval (source p) e Server s in (
         s,
         record { fuel = shown.fuel; log = shown.log; whole = shown.whole },
+        refl,
         ap (λ l. wound p old.stack (perform (source p) (eval (source p)) l (spec.Goto mark f args e) r)) here
             ∙ ap (λ l. wound p old.stack (perform (source p) (eval (source p)) Client (spec.Goto l f args e) r)) there
             ∙ sym (wound-push p old.stack (Back Client) o)
@@ -150,6 +184,8 @@ pub leads_home : (p : Program) (old : Machine) (stack : List Frame) (log : List 
     → place ≡ Server → mark ≡ Client → log ≡ old.log ++ Leave ∷ [] → stack ≡ old.stack ++ Back place ∷ []
     → Leads p old (perform (source p) (eval (source p)) place (spec.Goto mark f args (under scope body.now))) (record { stack = stack; log = log; fuel = old.fuel }) (now.Enter body scope mark)
 leads_home p old stack log place mark f args body scope here there logged pushed = record {
+  quiet = quiet_event old.log log Leave tt logged;
+  fuel = omega arith;
   runs = λ r h.
       let s : Run = logs Leave (Called (Function f) args) (step r) in
       let shown = shows_logs old (step r) Leave (Called (Function f) args) log (shows_step old r h) logged in
@@ -157,6 +193,7 @@ leads_home p old stack log place mark f args body scope here there logged pushed
       let o : Out Value = eval (source p) e Client s in (
         s,
         record { fuel = shown.fuel; log = shown.log; whole = shown.whole },
+        refl,
         ap (λ l. wound p old.stack (perform (source p) (eval (source p)) l (spec.Goto mark f args e) r)) here
             ∙ ap (λ l. wound p old.stack (perform (source p) (eval (source p)) Server (spec.Goto l f args e) r)) there
             ∙ ap (λ q. wound p old.stack (client_call q (Function f) args (λ t. eval (source p) e Client t) s)) h.whole
@@ -168,10 +205,12 @@ leads_home p old stack log place mark f args body scope here there logged pushed
 }
 
 -- one event with the return of a value
-pub leads_back : (p : Program) (old : Machine) (log : List Event) (place : Loc) (e : Event) (v : Value) → ((r : Run) → returned place v r ≡ Goes v (logs e (Returned v) (step r))) → log ≡ old.log ++ e ∷ []
+pub leads_back : (p : Program) (old : Machine) (log : List Event) (place : Loc) (e : Event) (v : Value) → IsQuiet e → ((r : Run) → returned place v r ≡ Goes v (logs e (Returned v) (step r))) → log ≡ old.log ++ e ∷ []
     → Leads p old (returned place v) (record { stack = old.stack; log = log; fuel = old.fuel }) (now.Give v)
-leads_back p old log place e v is logged = record {
-  runs = λ r h. (logs e (Returned v) (step r), shows_logs old (step r) e (Returned v) log (shows_step old r h) logged, ap (wound p old.stack) (is r));
+leads_back p old log place e v calm is logged = record {
+  runs = λ r h. (logs e (Returned v) (step r), shows_logs old (step r) e (Returned v) log (shows_step old r h) logged, refl, ap (wound p old.stack) (is r));
+  quiet = quiet_event old.log log e calm logged;
+  fuel = omega arith;
 }
 
 -- a node that waited goes on
@@ -180,7 +219,7 @@ pub leads_given : (p : Program) (old new : Machine) (next : Next) (w : Waiting) 
 leads_given p old new next w done v is l =
     let e : Point = under w.scope w.expr.now in
     let q : Option Point = slice_get ((source p).parts e) (length w.done) in
-    leads_after p old new next (resumed (source p) e done w.place) _ (handed_by (source p) q) (λ r h. shows_handed_by p old q r h)
+    leads_after p old new next (resumed (source p) e done w.place) _ (handed_by (source p) q) (λ r h. shows_handed_by p old q r h) (λ r. same_handed_by p q r)
     (λ r. ap (λ d. resumed (source p) e d w.place (handed_by (source p) q r)) (sym is)) l
 
 -- the body of a `for` is entered for its next element
@@ -188,9 +227,12 @@ pub leads_turn : (p : Program) (old : Machine) (stack : List Frame) (t : Turns) 
     → left ≡ t.left ++ v ∷ [] → scope ≡ bind t.name.now v t.scope → stack ≡ old.stack ++ Turn t ∷ []
     → Leads p old (each (source p) (eval (source p)) t.at (bodies (record t { left = left })) t.place t.made) (record { stack = stack; log = old.log; fuel = old.fuel }) (now.Enter t.body scope t.place)
 leads_turn p old stack t v left scope last bound pushed = record {
+  quiet = quiet_itself old.log;
+  fuel = omega arith;
   runs = λ r h. (
     r,
     record { fuel = h.fuel; log = h.log; whole = h.whole },
+    refl,
     ap (wound p old.stack) (ap (λ es. each (source p) (eval (source p)) t.at es t.place t.made r) first ∙ turns r)
         ∙ sym (wound-push p old.stack (Turn t) (eval (source p) (body v) t.place r))
         ∙ ap (λ fs. wound p fs (eval (source p) (body v) t.place r)) (sym pushed)
@@ -213,7 +255,7 @@ pub leads_taken : (p : Program) (old new : Machine) (next : Next) (t : Turns) (v
 leads_taken p old new next t v values made is all l =
     let listed : list_in v ≡ Some values = sym is in
     let plain : Bool = is_plain (layer t.body.now) in
-    leads_after p old new next (each (source p) (eval (source p)) t.at (bodies t) t.place made) _ (handed plain) (λ r h. shows_handed old plain r h)
+    leads_after p old new next (each (source p) (eval (source p)) t.at (bodies t) t.place made) _ (handed plain) (λ r h. shows_handed old plain r h) (λ r. same_handed plain r)
     (λ r. ap (λ o. joined t.at t.made o (each (source p) (eval (source p)) t.at (bodies t) t.place) (handed plain r)) listed
     ∙ ap (λ a. each (source p) (eval (source p)) t.at (bodies t) t.place a (handed plain r)) (sym all))
     l
@@ -223,9 +265,12 @@ pub leads_no_list : (p : Program) (m : Machine) (t : Turns) (v : Value) → None
 leads_no_list p m t v none =
     let plain : Bool = is_plain (layer t.body.now) in
     record {
+      quiet = quiet_itself m.log;
+      fuel = omega arith;
       runs = λ r h. (
         handed plain r,
         shows_handed m plain r h,
+        same_handed plain r,
         ap (λ o. wound p m.stack (joined t.at t.made o (each (source p) (eval (source p)) t.at (bodies t) t.place) (handed plain r))) (sym none),
       );
     }
@@ -234,7 +279,9 @@ leads_no_list p m t v none =
 pub leads_print : (p : Program) (old : Machine) (log : List Event) (place : Loc) (bytes : List ℕ) (v : Value) → place ≢ Server → log ≡ old.log ++ Print bytes ∷ [] → v ≡ unit
     → Leads p old (perform (source p) (eval (source p)) place (spec.Uses Client (spec.Printing bytes))) (record { stack = old.stack; log = log; fuel = old.fuel }) (now.Give v)
 leads_print p old log place bytes v here logged is = record {
-  runs = λ r h. (logs (Print bytes) Within r, shows_logs old r (Print bytes) Within log h logged, ap (wound p old.stack) (go place here r ∙ ap (λ u. Goes u (logs (Print bytes) Within r)) (sym is)));
+  quiet = quiet_event old.log log (Print bytes) tt logged;
+  fuel = omega arith;
+  runs = λ r h. (logs (Print bytes) Within r, shows_logs old r (Print bytes) Within log h logged, refl, ap (wound p old.stack) (go place here r ∙ ap (λ u. Goes u (logs (Print bytes) Within r)) (sym is)));
 }
   where
     go : (place : Loc) → place ≢ Server → (r : Run) → perform (source p) (eval (source p)) place (spec.Uses Client (spec.Printing bytes)) r ≡ Goes unit (logs (Print bytes) Within r)
@@ -246,6 +293,8 @@ leads_print p old log place bytes v here logged is = record {
 pub leads_print_across : (p : Program) (old : Machine) (one two three : List Event) (place : Loc) (bytes : List ℕ) (v : Value) → place ≡ Server → one ≡ old.log ++ Leave ∷ [] → two ≡ one ++ Print bytes ∷ [] → three ≡ two ++ Enter ∷ [] → v ≡ unit
     → Leads p old (perform (source p) (eval (source p)) place (spec.Uses Client (spec.Printing bytes))) (record { stack = old.stack; log = three; fuel = old.fuel }) (now.Give v)
 leads_print_across p old one two three place bytes v there a b c is = record {
+  quiet = quiet_then old.log two three (quiet_then old.log one two (quiet_event old.log one Leave tt a) (quiet_event one two (Print bytes) tt b)) (quiet_event two three Enter tt c);
+  fuel = omega arith;
   runs = λ r h.
       let called : Crossing = Called Printer (text bytes ∷ []) in
       let r1 : Run = logs Leave called (step r) in
@@ -258,64 +307,65 @@ leads_print_across p old one two three place bytes v there a b c is = record {
       let h3 = shows_logs m2 (step r2) Enter (Returned unit) three (shows_step m2 r2 h2) c in (
         r3,
         record { fuel = h3.fuel; log = h3.log; whole = h3.whole },
+        refl,
         ap (λ l. wound p old.stack (perform (source p) (eval (source p)) l (spec.Uses Client (spec.Printing bytes)) r)) there
             ∙ ap (λ q. wound p old.stack (client_call q Printer (text bytes ∷ []) (λ u. used (spec.Printing bytes) u) r1)) h.whole
             ∙ ap (λ u. wound p old.stack (Goes u r3)) (sym is),
       );
 }
 
--- what acts on tables, at the server
-pub leads_missing : (p : Program) (m : Machine) (place : Loc) (at : Span) → place ≢ Client
-    → Leads p m (perform (source p) (eval (source p)) place (spec.Uses Server (spec.Missing at))) m (now.Stop (halt.NoStore at))
-leads_missing p m place at there = record { runs = λ r h. (r, h, ap (wound p m.stack) (go place there r)) }
+-- ---- tables
+
+goes_on : {A : Type 0} (o : Out A) → o ≡ and_then o (λ a s. Goes a s)
+goes_on (Goes a s) = refl
+goes_on (Stops t s) = refl
+
+-- tables are read at the server
+pub leads_read : (p : Program) (m : Machine) (place : Loc) (site : ℕ) (args : List Value) → place ≢ Client
+    → Leads p m (perform (source p) (eval (source p)) place (spec.Uses Server (spec.Reading site args))) m (now.Read Any site args)
+leads_read p m place site args there = record { runs = λ r h. (r, h, refl, ap (wound p m.stack) (go place there r)); quiet = quiet_itself m.log; fuel = omega arith }
   where
-    go : (place : Loc) → place ≢ Client → (r : Run) → perform (source p) (eval (source p)) place (spec.Uses Server (spec.Missing at)) r ≡ Stops (NoStore at) r
+    go : (place : Loc) → place ≢ Client → (r : Run) → perform (source p) (eval (source p)) place (spec.Uses Server (spec.Reading site args)) r ≡ outcome p (now.Read Any site args) r
+    go Server ne r = goes_on (used (spec.Reading site args) r)
+    go Any ne r = goes_on (used (spec.Reading site args) r)
+    go Client ne r = absurd (ne refl)
+
+-- a table is written at the server
+pub leads_write : (p : Program) (m : Machine) (place : Loc) (site : ℕ) (args : List Value) → place ≢ Client
+    → Leads p m (perform (source p) (eval (source p)) place (spec.Uses Server (spec.Writing site args))) m (now.Write Any site args)
+leads_write p m place site args there = record { runs = λ r h. (r, h, refl, ap (wound p m.stack) (go place there r)); quiet = quiet_itself m.log; fuel = omega arith }
+  where
+    go : (place : Loc) → place ≢ Client → (r : Run) → perform (source p) (eval (source p)) place (spec.Uses Server (spec.Writing site args)) r ≡ outcome p (now.Write Any site args) r
     go Server ne r = refl
     go Any ne r = refl
     go Client ne r = absurd (ne refl)
 
--- what acts on tables, at the client, from where control goes to the server
-pub leads_missing_across : (p : Program) (old : Machine) (log : List Event) (place : Loc) (at : Span) → place ≡ Client → log ≡ old.log ++ Enter ∷ []
-    → Leads p old (perform (source p) (eval (source p)) place (spec.Uses Server (spec.Missing at))) (record { stack = old.stack; log = log; fuel = old.fuel }) (now.Stop (halt.NoStore at))
-leads_missing_across p old log place at here logged = record {
+-- tables are read from the client, from where control goes to the server
+pub leads_read_across : (p : Program) (old : Machine) (log : List Event) (place : Loc) (site : ℕ) (args : List Value) → place ≡ Client → log ≡ old.log ++ Enter ∷ []
+    → Leads p old (perform (source p) (eval (source p)) place (spec.Uses Server (spec.Reading site args))) (record { stack = old.stack; log = log; fuel = old.fuel }) (now.Read Client site args)
+leads_read_across p old log place site args here logged = record {
+  quiet = quiet_event old.log log Enter tt logged;
+  fuel = omega arith;
   runs = λ r h.
-      let called : Crossing = Called (Site at.start) [] in (
+      let called : Crossing = Called (Site site) args in (
         logs Enter called (step r),
         shows_logs old (step r) Enter called log (shows_step old r h) logged,
-        ap (λ l. wound p old.stack (perform (source p) (eval (source p)) l (spec.Uses Server (spec.Missing at)) r)) here,
+        refl,
+        ap (λ l. wound p old.stack (perform (source p) (eval (source p)) l (spec.Uses Server (spec.Reading site args)) r)) here,
       );
 }
 
--- ---- the loop
-
--- the last frame took the value
-pub goes_give : (p : Program) (first old new : Machine) (next last : Next) (o : Run → Out Value) (f : Frame) (v : Value) (stack : List Frame) → last ≡ now.Give v → old.stack ≡ stack ++ f ∷ [] → LeadsWhole p first o old last
-    → Leads p (record { stack = stack; log = old.log; fuel = old.fuel }) (frame_rest p f v) new next → LeadsWhole p first o new next
-goes_give p first old new next last o f v stack is popped g l = record {
+-- a table is written from the client, from where control goes to the server
+pub leads_write_across : (p : Program) (old : Machine) (log : List Event) (place : Loc) (site : ℕ) (args : List Value) → place ≡ Client → log ≡ old.log ++ Enter ∷ []
+    → Leads p old (perform (source p) (eval (source p)) place (spec.Uses Server (spec.Writing site args))) (record { stack = old.stack; log = log; fuel = old.fuel }) (now.Write Client site args)
+leads_write_across p old log place site args here logged = record {
+  quiet = quiet_event old.log log Enter tt logged;
+  fuel = omega arith;
   runs = λ r h.
-      let a = g.runs r h in
-      let b = l.runs a.0 (record { fuel = a.1.fuel; log = a.1.log; whole = a.1.whole }) in (
-        b.0,
-        b.1,
-        a.2
-            ∙ ap (λ n. wound p old.stack (outcome p n a.0)) is
-            ∙ ap (λ fs. wound p fs (Goes v a.0)) popped
-            ∙ wound-push p stack f (Goes v a.0)
-            ∙ b.2,
+      let called : Crossing = Called (Site site) args in (
+        logs Enter called (step r),
+        shows_logs old (step r) Enter called log (shows_step old r h) logged,
+        refl,
+        ap (λ l. wound p old.stack (perform (source p) (eval (source p)) l (spec.Uses Server (spec.Writing site args)) r)) here,
       );
-}
-
--- an end without a value passes all frames
-wound-ended : (p : Program) (fs : List Frame) (h : Halt) (r : Run) → wound p fs (finished (finish_of h) r) ≡ finished (finish_of h) r
-wound-ended p fs (halt.Trap t) r = winding.wound-stops (source p) (map frame_of fs) (Trapped t) r
-wound-ended p fs halt.Spent r = winding.wound-stops (source p) (map frame_of fs) Spent r
-wound-ended p fs (halt.Stuck at) r = winding.wound-stops (source p) (map frame_of fs) (Stuck at) r
-wound-ended p fs (halt.NoStore at) r = winding.wound-stops (source p) (map frame_of fs) (NoStore at) r
-
--- the evaluation ends without a value
-pub ends_halt : (p : Program) (first m : Machine) (next : Next) (o : Run → Out Value) (h : Halt) (finish : Finish) → next ≡ now.Stop h → finish ≡ finish_of h → LeadsWhole p first o m next → Ends first o m finish
-ends_halt p first m next o h finish is same g = record {
-  ends = λ r sh.
-      let a = g.runs r sh in
-      (a.0, a.1, a.2 ∙ ap (λ n. wound p m.stack (outcome p n a.0)) is ∙ wound-ended p m.stack h a.0 ∙ ap (λ x. finished x a.0) (sym same));
 }

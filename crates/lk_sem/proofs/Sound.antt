@@ -1,21 +1,184 @@
--- The session of a well typed program never ends for want of a rule.
-use Rattle.std.proofs.Common.{◌≡◌, ℕ, List, refl, sym, subst}
-use Rattle.std.specs.Prelude.{Some}
+-- What the soundness of a session says at each state of the machine that evaluates it.
+use Rattle.std.proofs.Common.{◌≡◌, ℕ, ◌+◌, ◌≤◌, true, false, List, [], ◌∷◌, ◌++◌, map, refl, sym, ◌∙◌, ap, subst, append_assoc, append-nil}
+use Rattle.std.specs.Prelude.{Some, None}
 use Rattle.lk_ast.specs.Functions.{main_of}
+use Rattle.lk_ast.specs.Plain.{holds_function}
 use Rattle.lk_ast.specs.declared.declaration.FunDef.{FunDef}
 use Rattle.lk_ast.specs.declared.declaration.Program.{Program}
-use Rattle.lk_evaluation.specs.Run.{start}
-use Rattle.lk_evaluation.specs.Source.{session}
-use Rattle.lk_index.specs.Places.{ArePlaced}
-use Rattle.lk_names.specs.Programs.{IsBound}
-use Rattle.lk_sem.specs.SourceRuns.{NeverLacks}
-use Rattle.lk_sound.specs.Law.{MainLaw, SessionLaw}
-use Rattle.lk_sound.specs.Outcomes.{IsOutcome}
+use Rattle.lk_ast.specs.declared.event.Event.{Event}
+use Rattle.lk_ast.specs.declared.event.Event.TheVariants.{Print, Enter, Leave, Read, Write}
+use Rattle.lk_ast.specs.declared.place.Loc.{Loc}
+use Rattle.lk_ast.specs.declared.place.Span.{Span}
+use Rattle.lk_ast.specs.declared.table.Row.{Row}
+use Rattle.lk_ast.specs.declared.value.Value.{Value}
+use Rattle.lk_evaluation.specs.Evaluation.{reading}
+use Rattle.lk_evaluation.specs.Laws.{run_of}
+use Rattle.lk_evaluation.specs.Run.{Run, Entry, Out, Goes, Stops, Waiting, Stuck, Within, and_then, answers_in, events_of, logs, start}
+use Rattle.lk_evaluation.specs.Source.{session, source}
+use Rattle.lk_operators.specs.Values.{unit}
+use Rattle.lk_sound.specs.Instances.{Instances, IsShaped}
+use Rattle.lk_sound.specs.Law.{AreAnswered, AreBoundAndApart, PlainLaw, SessionLaw}
 use Rattle.lk_sound.specs.Values.{Fits}
-use Rattle.lk_typing.specs.Programs.{IsWellTyped}
+use Rattle.lk_sound.specs.Outcomes.{Allows, IsOutcome}
+use Rattle.lk_sound.specs.Tables.{ArePlain, IsAnswered, IsReading, IsWriting}
+use Rattle.lk_sound.specs.Tables as sound
+use Rattle.lk_types.specs.Each.{Each}
+use Rattle.lk_types.specs.Rows.{EffectSet}
+use Rattle.lk_types.specs.declared.ground.Ground.{Ground}
+use Rattle.lk_sem.specs.Frames.{returned}
+use Rattle.lk_sem.specs.Histories.{write_event}
+use Rattle.lk_sem.specs.Machine.{LeadsWhole, Shows, frame_of, outcome, wound}
+use Rattle.lk_sem.specs.SourceRuns.{IsPlainEvent}
+use Rattle.lk_sem.specs.Standing.{IsSound}
+use Rattle.lk_sem.specs.declared.machine.Machine.{Machine}
+use Rattle.lk_sem.specs.declared.machine.Next.{Next}
+use Rattle.lk_sem.specs.declared.machine.Next.TheVariants as now
+use Rattle.lk_sem.specs.declared.run.Halt.TheVariants as halt
+use Rattle.lk_sem.proofs.RowsBack.{plain_rows}
+use Rattle.lk_sem.proofs.Unread.{IsUnread, Kept, back_keeps, kept_itself, state_keeps}
+use Rattle.lk_sem.proofs.Winding as winding
 
-pub never_lacks : (p : Program) → MainLaw → SessionLaw → IsBound p → ArePlaced p → IsWellTyped p → (main : FunDef) → Some main ≡ main_of p → (arg : List ℕ) (fuel : ℕ) → NeverLacks (session p main arg) fuel
-never_lacks p of_main of_session bound placed typed main is arg fuel at last stuck =
-    let m = of_main p typed main (sym is) in
-    let outcome : IsOutcome m.0 (λ v. Fits p v m.1) (start fuel) (session p main arg (start fuel)) = of_session p bound placed main m.0 m.1 m.2 arg (start fuel) refl in
-    (subst (IsOutcome m.0 (λ v. Fits p v m.1) (start fuel)) stuck outcome).0
+some_same : {A : Type 0} {x y : A} → Some x ≡ Some y → x ≡ y
+some_same e = cc
+
+-- ---- entries and events
+
+module _ (P : Event → Type 0) where
+  abbrev Of : Entry → Type 0
+  Of entry = P entry.event
+
+  entries_of : (log : List Entry) → Each P (events_of log) → Each Of log
+  entries_of [] all = tt
+  entries_of (entry ∷ log) all = (all.0, entries_of log all.1)
+
+  events_are : (log : List Entry) → Each Of log → Each P (events_of log)
+  events_are [] all = tt
+  events_are (entry ∷ log) all = (all.0, events_are log all.1)
+
+each_both : {A : Type 0} (P : A → Type 0) (xs ys : List A) → Each P xs → Each P ys → Each P (xs ++ ys)
+each_both P [] ys a b = b
+each_both P (x ∷ xs) ys a b = (a.0, each_both P xs ys a.1 b)
+
+each_front : {A : Type 0} (P : A → Type 0) (xs ys : List A) → Each P (xs ++ ys) → Each P xs
+each_front P [] ys all = tt
+each_front P (x ∷ xs) ys all = (all.0, each_front P xs ys all.1)
+
+each_last : {A : Type 0} (P : A → Type 0) (xs : List A) (x : A) → Each P (xs ++ x ∷ []) → P x
+each_last P [] x all = all.0
+each_last P (y ∷ xs) x all = each_last P xs x all.1
+
+unread_answered : (p : Program) (log : List Entry) → Each (λ (entry : Entry). IsUnread entry.event) log → Each (λ (entry : Entry). IsAnswered p entry.event) log
+unread_answered p [] all = tt
+unread_answered p (entry ∷ log) all = (go entry.event all.0, unread_answered p log all.1)
+  where
+    go : (e : Event) → IsUnread e → IsAnswered p e
+    go (Print bytes) h = tt
+    go Enter h = tt
+    go Leave h = tt
+    go (Read e) h = absurd h
+    go (Write e) h = tt
+
+-- ---- what is shown
+
+plain_args : (p : Program) (site : ℕ) (args : List Value) → IsWriting p site args → ArePlain args
+plain_args p site args (sound.IsWriting.insert b t e def rows found is declared are fit) = subst ArePlain (sym are) (plain_rows rows)
+plain_args p site args (sound.IsWriting.update b change def found is declared plain fit) = plain
+plain_args p site args (sound.IsWriting.delete b change def found is declared plain) = plain
+
+plain_event : (p : Program) (effects : EffectSet) (e : Event) → Allows p effects e → IsPlainEvent e
+plain_event p effects (Print bytes) h = tt
+plain_event p effects Enter h = tt
+plain_event p effects Leave h = tt
+plain_event p effects (Read e) h = h.1.plain
+plain_event p effects (Write e) h = plain_args p e.site e.args h.1
+
+plain_events : (p : Program) (effects : EffectSet) (events : List Event) → Each (Allows p effects) events → Each IsPlainEvent events
+plain_events p effects [] all = tt
+plain_events p effects (e ∷ events) all = (plain_event p effects e all.0, plain_events p effects events all.1)
+
+-- a run without events
+pub shows_start : (m : Machine) (fuel : ℕ) (answers : List (List Row)) → m.log ≡ [] → m.fuel ≡ fuel → Shows m (start fuel answers)
+shows_start m fuel answers none is = record { fuel = sym is; log = sym none; whole = refl }
+
+all_allowed : (p : Program) (effects : EffectSet) (fuel : ℕ) (answers : List (List Row)) (out : Out Value) → IsOutcome p effects (λ v. holds_function v ≡ false) (start fuel answers) out → Each (λ (entry : Entry). Allows p effects entry.event) (run_of out).log
+all_allowed p effects fuel answers (Goes v s) h = subst (Each (λ (entry : Entry). Allows p effects entry.event)) (sym h.1.log) h.1.allowed
+all_allowed p effects fuel answers (Stops stop s) h = subst (Each (λ (entry : Entry). Allows p effects entry.event)) (sym h.1.log) h.1.allowed
+
+-- ---- states
+
+module _ (p : Program) (first m : Machine) (o : Run → Out Value) (fuel : ℕ) (none : first.log ≡ []) (is : first.fuel ≡ fuel) (sound : IsSound p o fuel) (next : Next) (g : LeadsWhole p first o m next)
+    (answered : Each (IsAnswered p) m.log) where
+  -- the evaluation over the answers so far
+  abbrev whole : Out Value
+  whole = o (start fuel (answers_in m.log))
+
+  pub here : (s : Run) × Shows m s × (s.answers ≡ []) × (whole ≡ wound p m.stack (outcome p next s))
+  here = g.runs (start fuel (answers_in m.log)) [] (shows_start first fuel (answers_in m.log) none is) (sym (append-nil (answers_in m.log)))
+
+  -- its readings are answered, where it keeps to a log that is
+  answered_with : (log : List Entry) → Each (IsAnswered p) (events_of log) → Kept log (run_of whole) → AreAnswered p whole
+  answered_with log all k = subst (Each (λ (entry : Entry). IsAnswered p entry.event)) (sym k.is) (each_both (λ (entry : Entry). IsAnswered p entry.event) log k.more (entries_of (IsAnswered p) log all) (unread_answered p k.more k.unread))
+
+  keeps : Kept here.0.log (run_of whole)
+  keeps = subst (λ (x : Out Value). Kept here.0.log (run_of x)) (sym here.3) (state_keeps here.0.log p m.stack next here.0 (kept_itself here.0.log here.0 here.1.whole here.2 refl)).kept
+
+  outcome_here : IsOutcome p sound.effects (λ v. holds_function v ≡ false) (start fuel (answers_in m.log)) whole
+  outcome_here = sound.outcome (answers_in m.log) (answered_with here.0.log (subst (Each (IsAnswered p)) (sym here.1.log) answered) keeps)
+
+  allowed : Each (λ (entry : Entry). Allows p sound.effects entry.event) (run_of whole).log
+  allowed = all_allowed p sound.effects fuel (answers_in m.log) whole outcome_here
+
+  -- no function is shown in the events so far
+  pub plain_here : Each IsPlainEvent m.log
+  plain_here =
+      let front = each_front (λ (entry : Entry). Allows p sound.effects entry.event) here.0.log keeps.more (subst (Each (λ (entry : Entry). Allows p sound.effects entry.event)) keeps.is allowed) in
+      plain_events p sound.effects m.log (subst (Each (Allows p sound.effects)) here.1.log (events_are (Allows p sound.effects) here.0.log front))
+
+  -- what it comes to where the next thing is this
+  ends_as : (out : Out Value) → whole ≡ out → IsOutcome p sound.effects (λ v. holds_function v ≡ false) (start fuel (answers_in m.log)) out
+  ends_as out e = subst (IsOutcome p sound.effects (λ v. holds_function v ≡ false) (start fuel (answers_in m.log))) e outcome_here
+
+  -- it has a rule
+  pub never_stuck : (at : Span) → next ≡ now.Stop (halt.Stuck at) → ⊥
+  never_stuck at e = (ends_as (Stops (Stuck at) here.0) (here.3 ∙ ap (λ n. wound p m.stack (outcome p n here.0)) e ∙ winding.wound-stops (source p) (map frame_of m.stack) (Stuck at) here.0)).0
+
+  -- no function is shown in its value
+  pub plain_value : (v : Value) → next ≡ now.Give v → m.stack ≡ [] → holds_function v ≡ false
+  plain_value v e empty = (ends_as (Goes v here.0) (here.3 ∙ ap (λ n. wound p m.stack (outcome p n here.0)) e ∙ ap (λ fs. wound p fs (Goes v here.0)) empty)).0
+
+  -- what it is about to read is a reading of the program
+  pub reading_here : (back : Loc) (site : ℕ) (args : List Value) → next ≡ now.Read back site args → IsReading p site args
+  reading_here back site args e =
+      (ends_as (Stops (Waiting site args) here.0)
+      (here.3
+      ∙ ap (λ n. wound p m.stack (outcome p n here.0)) e
+      ∙ ap (λ answers. wound p m.stack (and_then (reading site args answers here.0) (returned back))) here.2
+      ∙ winding.wound-stops (source p) (map frame_of m.stack) (Waiting site args) here.0)).0.1
+
+  -- what it is about to write is a writing of the program
+  pub writing_here : (back : Loc) (site : ℕ) (args : List Value) → next ≡ now.Write back site args → IsWriting p site args
+  writing_here back site args e =
+      let s : Run = here.0 in
+      let entry : Entry = record { number = s.steps; event = write_event site args; crossing = Within } in
+      let t : Run = logs (write_event site args) Within s in
+      let k : Kept t.log (run_of whole) = subst (λ (x : Out Value). Kept t.log (run_of x)) (sym (here.3 ∙ ap (λ n. wound p m.stack (outcome p n s)) e)) (back_keeps t.log p m.stack back unit t (kept_itself t.log t here.1.whole here.2 refl)).kept in
+      let front = each_front (λ (x : Entry). Allows p sound.effects x.event) t.log k.more (subst (Each (λ (x : Entry). Allows p sound.effects x.event)) k.is allowed) in
+      (each_last (λ (x : Entry). Allows p sound.effects x.event) s.log entry front).1
+
+-- ---- sessions
+
+plain_outcome : (p : Program) (i : Instances) (t : Ground) (effects : EffectSet) (r : Run) (out : Out Value) → ((v : Value) → Fits p i v t → holds_function v ≡ false) → IsOutcome p effects (λ v. Fits p i v t) r out → IsOutcome p effects (λ v. holds_function v ≡ false) r out
+plain_outcome p i t effects r (Goes v s) plain h = (plain v h.0, h.1)
+plain_outcome p i t effects r (Stops stop s) plain h = h
+
+-- the session of a program of that shape
+pub sound_session : (p : Program) → PlainLaw → SessionLaw → AreBoundAndApart p → IsShaped p → (main : FunDef) → Some main ≡ main_of p → (arg : List ℕ) (fuel : ℕ) → IsSound p (session p main arg) fuel
+sound_session p of_plain of_session apart shaped main is arg fuel =
+    let same : shaped.main ≡ main = some_same (sym shaped.is ∙ sym is) in
+    subst (λ f. IsSound p (session p f arg) fuel) same (record {
+      effects = shaped.effects;
+      outcome = λ answers answered.
+          plain_outcome p shaped.instances shaped.answer shaped.effects (start fuel answers) (session p shaped.main arg (start fuel answers))
+          (λ v fits. of_plain p shaped.instances shaped.answer v fits shaped.plain)
+          (of_session p apart shaped arg (start fuel answers) refl answered);
+    })

@@ -8,7 +8,7 @@ use Rattle.lk_locals.specs.Names.{bind}
 use Rattle.lk_evaluation.specs.Evaluation as spec
 use Rattle.lk_evaluation.specs.Source.{Point, under}
 use Rattle.lk_sem.specs.declared.act.Act.{Act}
-use Rattle.lk_sem.specs.declared.act.Act.TheVariants.{Give, Tail, Goto, Print, Each, Fails, NoStore, Lacks}
+use Rattle.lk_sem.specs.declared.act.Act.TheVariants.{Give, Tail, Goto, Print, Each, Read, Write, Fails, Lacks}
 
 -- the act of a node with this span; the evaluator keeps no note of which function it enters, nor of its arguments
 abbrev pub IsAct : Span → Act → spec.Act Point → Type 0
@@ -17,8 +17,9 @@ IsAct at (Tail e scope) a = a ≡ spec.Tail (under scope e.now)
 IsAct at (Goto mark body scope) a = (f : FunValue) × (args : List Value) × (a ≡ spec.Goto mark f args (under scope body.now))
 IsAct at (Print bytes) a = a ≡ spec.Uses Client (spec.Printing bytes)
 IsAct at (Each x values body scope) a = a ≡ spec.Each at (map (λ v. under (bind x.now v scope) body.now) values)
+IsAct at (Read args) a = a ≡ spec.Uses Server (spec.Reading at.start args)
+IsAct at (Write args) a = a ≡ spec.Uses Server (spec.Writing at.start args)
 IsAct at (Fails trap) a = a ≡ spec.Fails trap
-IsAct at NoStore a = a ≡ spec.Uses Server (spec.Missing at)
 IsAct at Lacks a = a ≡ spec.Lacks at
 
 -- the one value of a list

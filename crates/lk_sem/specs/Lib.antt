@@ -1,5 +1,10 @@
 pub mod Acts
-pub mod Finishes
+pub mod Ends
 pub mod Frames
+pub mod Histories
 pub mod Machine
+pub mod RowValues
+pub mod Scans
 pub mod SourceRuns
+pub mod Standing
+pub mod Writings

@@ -1,20 +1,23 @@
 -- What the evaluator's frames still do, and what its steps keep.
-use Rattle.std.specs.Prelude.{◌≡◌, ℕ, ◌+◌, ◌*◌, ◌≤◌, List, None, length, reverse, map}
+use Rattle.std.specs.Prelude.{◌≡◌, ℕ, ◌+◌, ◌*◌, ◌≤◌, List, [], ◌∷◌, ◌++◌, None, length, reverse, map}
 use Rattle.lk_ast.specs.declared.declaration.Program.{Program}
+use Rattle.lk_ast.specs.declared.event.Event.{Event}
+use Rattle.lk_ast.specs.declared.event.Event.TheVariants as event
+use Rattle.lk_ast.specs.declared.table.Row.{Row}
 use Rattle.lk_ast.specs.declared.value.Value.{Value}
 use Rattle.lk_locals.specs.Names.{bind}
-use Rattle.lk_evaluation.specs.Evaluation.{eval}
-use Rattle.lk_sem.specs.Frames as spec
-use Rattle.lk_sem.specs.Finishes.{finish_of, finished}
-use Rattle.lk_evaluation.specs.Run.{Run, Out, Goes, events_of}
+use Rattle.lk_evaluation.specs.Evaluation.{Reading, Writing, eval, used}
+use Rattle.lk_evaluation.specs.Run.{Run, Out, Goes, Stops, and_then, answers_in, events_of}
 use Rattle.lk_evaluation.specs.Source.{Point, under, source}
+use Rattle.lk_types.specs.Each.{Each}
+use Rattle.lk_sem.specs.Ends.{stop_of}
+use Rattle.lk_sem.specs.Frames as spec
 use Rattle.lk_sem.specs.declared.machine.Frame.{Frame}
 use Rattle.lk_sem.specs.declared.machine.Frame.TheVariants.{Part, Turn, Back}
 use Rattle.lk_sem.specs.declared.machine.Machine.{Machine}
 use Rattle.lk_sem.specs.declared.machine.Next.{Next}
-use Rattle.lk_sem.specs.declared.machine.Next.TheVariants.{Enter, Give, Stop}
+use Rattle.lk_sem.specs.declared.machine.Next.TheVariants.{Enter, Give, Read, Write, Stop}
 use Rattle.lk_sem.specs.declared.machine.Turns.{Turns}
-use Rattle.lk_sem.specs.declared.run.Finish.{Finish}
 
 -- the bodies for the elements that are left
 abbrev pub bodies : Turns → List Point
@@ -37,7 +40,35 @@ wound p frames out = spec.wound (source p) (map frame_of frames) out
 abbrev pub outcome : Program → Next → Run → Out Value
 outcome p (Enter e scope place) r = eval (source p) (under scope e.now) place r
 outcome p (Give v) r = Goes v r
-outcome p (Stop halt) r = finished (finish_of halt) r
+outcome p (Read back site args) r = and_then (used (Reading site args) r) (spec.returned back)
+outcome p (Write back site args) r = and_then (used (Writing site args) r) (spec.returned back)
+outcome p (Stop halt) r = Stops (stop_of halt) r
+
+-- ---- logs
+
+-- an event that isn't of tables
+abbrev pub IsQuiet : Event → Type 0
+IsQuiet (event.Print bytes) = Unit {0}
+IsQuiet event.Enter = Unit {0}
+IsQuiet event.Leave = Unit {0}
+IsQuiet (event.Read e) = ⊥
+IsQuiet (event.Write e) = ⊥
+
+-- behind the first log are only such events
+pub record GoesQuietly (before after : List Event) : Type 0 where
+  pub more : List Event
+  pub log : after ≡ before ++ more
+  pub quiet : Each IsQuiet more
+
+-- one more event, the answer of a reading
+abbrev pub after_read : ℕ → List Value → List Row → Machine → Machine
+after_read site args answer m = record m { log = m.log ++ event.Read (record { site = site; args = args; answer = answer }) ∷ [] }
+
+-- one more event, a writing
+abbrev pub after_write : ℕ → List Value → Machine → Machine
+after_write site args m = record m { log = m.log ++ event.Write (record { site = site; args = args }) ∷ [] }
+
+-- ---- steps
 
 -- the machine's fuel and events are those of this run of a whole evaluation
 pub record Shows (m : Machine) (r : Run) : Type 0 where
@@ -45,24 +76,28 @@ pub record Shows (m : Machine) (r : Run) : Type 0 where
   pub log : events_of r.log ≡ m.log
   pub whole : r.returns ≡ None
 
--- what `todo` and then the frames of the old machine do is what comes next and then the frames of the new one do
+-- What `todo` and then the frames of the old machine do is what comes next and then the frames of the new one do. The answers that
+-- are left stay, and nothing is logged of tables.
 pub record Leads (p : Program) (old : Machine) (todo : Run → Out Value) (new : Machine) (next : Next) : Type 0 where
-  pub runs : (r : Run) → Shows old r → (s : Run) × Shows new s × (wound p old.stack (todo r) ≡ wound p new.stack (outcome p next s))
+  pub runs : (r : Run) → Shows old r → (s : Run) × Shows new s × (s.answers ≡ r.answers) × (wound p old.stack (todo r) ≡ wound p new.stack (outcome p next s))
+  pub quiet : GoesQuietly old.log new.log
+  pub fuel : new.fuel ≤ old.fuel
 
--- the same, where no frame of the old machine waits
+-- The same from the beginning, where no frame of the old machine waits, over the answers of the readings in the new log and any
+-- others behind them, which are left.
 pub record LeadsWhole (p : Program) (old : Machine) (todo : Run → Out Value) (new : Machine) (next : Next) : Type 0 where
-  pub runs : (r : Run) → Shows old r → (s : Run) × Shows new s × (todo r ≡ wound p new.stack (outcome p next s))
+  pub runs : (r : Run) (later : List (List Row)) → Shows old r → r.answers ≡ answers_in new.log ++ later
+      → (s : Run) × Shows new s × (s.answers ≡ later) × (todo r ≡ wound p new.stack (outcome p next s))
+  pub fuel : new.fuel ≤ old.fuel
 
 -- how long the machine may still go on
 abbrev pub weight : Machine → Next → ℕ
 weight m (Enter e scope place) = 4 * m.fuel + 2 * length m.stack + 1
 weight m (Give v) = 4 * m.fuel + 2 * length m.stack + 2
+weight m (Read back site args) = 4 * m.fuel + 2 * length m.stack + 3
+weight m (Write back site args) = 4 * m.fuel + 2 * length m.stack + 3
 weight m (Stop halt) = 0
 
 -- after a move there is at most this much to go on
 abbrev pub Falls : Machine → Machine → Next → Type 0
 Falls old new next = weight new next ≤ 4 * old.fuel + 2 * length old.stack + 3
-
--- `todo` finishes so, and the machine shows the run at the end
-pub record Ends (old : Machine) (todo : Run → Out Value) (new : Machine) (finish : Finish) : Type 0 where
-  pub ends : (r : Run) → Shows old r → (s : Run) × Shows new s × (todo r ≡ finished finish s)

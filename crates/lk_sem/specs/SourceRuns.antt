@@ -1,26 +1,104 @@
--- The runs of programs.
-use Rattle.std.specs.Prelude.{◌≡◌, ℕ, ◌+◌}
-use Rattle.lk_ast.specs.declared.place.Span.{Span}
+-- The runs of programs over tables.
+use Rattle.std.specs.Prelude.{◌≡◌, ℕ, ◌+◌, ◌<◌, false, List, [], ◌∷◌, Option, Some, None, length, IfSome, IsSomeAnd}
+use Rattle.std.specs.List.{list_any}
+use Rattle.lk_ast.specs.Functions.{main_of}
+use Rattle.lk_ast.specs.Layers.{layer}
+use Rattle.lk_ast.specs.Plain.{holds_function}
+use Rattle.lk_ast.specs.Rows.{rows_value}
+use Rattle.lk_ast.specs.Tables.{Tables}
+use Rattle.lk_ast.specs.declared.declaration.Program.{Program}
+use Rattle.lk_ast.specs.declared.event.Event.{Event}
+use Rattle.lk_ast.specs.declared.event.Event.TheVariants.{Print, Enter, Leave, Read, Write}
+use Rattle.lk_ast.specs.declared.expression.Expr.{Expr}
+use Rattle.lk_ast.specs.declared.expression.Node.TheOpen.{Node-F}
+use Rattle.lk_ast.specs.declared.place.Word.{Word}
+use Rattle.lk_ast.specs.declared.table.Row.{Row}
 use Rattle.lk_ast.specs.declared.value.Value.{Value}
-use Rattle.lk_evaluation.specs.Run.{Run, Out, Goes, Stops, Trapped, Spent, Stuck, NoStore, events_of, start}
+use Rattle.lk_bag.specs.Blocks.{block_at}
+use Rattle.lk_bag.specs.Change.{after_insert}
+use Rattle.lk_bag.specs.Legal.{IsLegal, most_rows}
+use Rattle.lk_evaluation.specs.Evaluation.{Primitive, Printing, Reading, Writing, used}
+use Rattle.lk_evaluation.specs.Run.{Run, Out, Goes, Stops, Trapped, Spent, events_of, answers_in, start}
+use Rattle.lk_evaluation.specs.Source.{Point, source, session}
+use Rattle.lk_sem.specs.Frames.{Frame, wound}
 use Rattle.lk_sem.specs.declared.run.SourceEnd.{SourceEnd}
 use Rattle.lk_sem.specs.declared.run.SourceEnd.TheVariants as end
 use Rattle.lk_sem.specs.declared.run.SourceRun.{SourceRun}
+use Rattle.lk_types.specs.Each.{Each}
 
--- the outcome that an end stands for
-abbrev pub ended : SourceEnd → Run → Out Value
-ended (end.Value v) r = Goes v r
-ended (end.Trap trap) r = Stops (Trapped trap) r
-ended end.Spent r = Stops Spent r
-ended (end.NoStore at) r = Stops (NoStore at) r
+-- ---- what a run is
 
--- the end, the events and the fuel used are those of an evaluation, which begins with that much fuel
-pub record IsRunOf (evaluation : Run → Out Value) (fuel : ℕ) (run : SourceRun) : Type 0 where
+-- The evaluation over the answers of the readings in the run's log comes to this outcome, with all of them used; the events
+-- and the fuel used are those of the evaluation.
+pub record IsRunOf (evaluation : Run → Out Value) (fuel : ℕ) (run : SourceRun) (outcome : Run → Out Value) : Type 0 where
   pub last : Run
-  pub end : evaluation (start fuel) ≡ ended run.end last
+  pub end : evaluation (start fuel (answers_in run.log)) ≡ outcome last
   pub log : run.log ≡ events_of last.log
   pub used : run.used + last.fuel ≡ fuel
+  pub answers : last.answers ≡ []
 
--- an evaluation that begins with that much fuel doesn't end for want of a rule
-abbrev pub NeverLacks : (Run → Out Value) → ℕ → Type 0
-NeverLacks evaluation fuel = (at : Span) (last : Run) → evaluation (start fuel) ≡ Stops (Stuck at) last → ⊥
+-- The evaluation over those answers is about to read or write for what begins at a place, and the frames wait for what comes of
+-- it; the events and the fuel used are those up to there.
+pub record IsRefusedAt (p : Program) (evaluation : Run → Out Value) (fuel : ℕ) (run : SourceRun) (primitive : Primitive) : Type 0 where
+  pub frames : List (Frame Point)
+  pub before : Run
+  pub at : evaluation (start fuel (answers_in run.log)) ≡ wound (source p) frames (used primitive before)
+  pub log : run.log ≡ events_of before.log
+  pub used : run.used + before.fuel ≡ fuel
+
+-- an insertion that begins there would leave that many rows in its table, too many
+pub record IsOverfull (p : Program) (site : ℕ) (args : List Value) (told : Option Tables) (size : ℕ) : Type 0 where
+  pub block : Expr
+  pub table : Word
+  pub expr : Expr
+  pub rows : List Row
+  pub found : block_at p site ≡ Some block
+  pub inserts : layer block ≡ Node-F.Insert table expr
+  pub are : args ≡ rows_value rows ∷ []
+  pub many : most_rows < size
+  pub leaves : IfSome told (λ tables. length (after_insert table.text rows tables table.text) ≡ size)
+
+-- it reads or writes tables
+abbrev pub IsOfTables : Primitive → Type 0
+IsOfTables (Printing bytes) = ⊥
+IsOfTables (Reading site args) = Unit {0}
+IsOfTables (Writing site args) = Unit {0}
+
+-- A run of a session, over a store that tells of its tables, if anything, what it had at the end. It ends as the evaluation over the answers
+-- read, or where the store refused a reading or a writing, or where a table would be too full.
+abbrev pub IsRunBy : Program → (Run → Out Value) → ℕ → Option Tables → SourceRun → SourceEnd → Type 0
+IsRunBy p evaluation fuel told run (end.Value v) = IsRunOf evaluation fuel run (Goes v)
+IsRunBy p evaluation fuel told run (end.Trap trap) = IsRunOf evaluation fuel run (Stops (Trapped trap))
+IsRunBy p evaluation fuel told run end.Spent = IsRunOf evaluation fuel run (Stops Spent)
+IsRunBy p evaluation fuel told run end.StoreFault = (primitive : Primitive) × IsOfTables primitive × IsRefusedAt p evaluation fuel run primitive
+IsRunBy p evaluation fuel told run (end.TableFull size) = (site : ℕ) × (args : List Value) × IsRefusedAt p evaluation fuel run (Writing site args) × IsOverfull p site args told size
+
+abbrev pub IsRun : Program → List ℕ → ℕ → Option Tables → SourceRun → Type 0
+IsRun p arg fuel told run = IfSome (main_of p) (λ main. IsRunBy p (session p main arg) fuel told run run.end)
+
+-- ---- tables
+
+-- where the tables were told they still are, and these events lead from those to these
+abbrev pub HasHistory : Program → Option Tables → Option Tables → List Event → Type 0
+HasHistory p old new events = IfSome old (λ before. IsSomeAnd new (λ after. IsLegal p before events after))
+
+-- the same of some events
+abbrev pub HasSomeHistory : Program → Option Tables → Option Tables → Type 0
+HasSomeHistory p old new = (events : List Event) × HasHistory p old new events
+
+-- ---- what is shown
+
+abbrev pub IsPlainEvent : Event → Type 0
+IsPlainEvent (Print bytes) = Unit {0}
+IsPlainEvent Enter = Unit {0}
+IsPlainEvent Leave = Unit {0}
+IsPlainEvent (Read e) = list_any holds_function e.args ≡ false
+IsPlainEvent (Write e) = list_any holds_function e.args ≡ false
+
+abbrev pub IsPlainEnd : SourceEnd → Type 0
+IsPlainEnd (end.Value v) = holds_function v ≡ false
+IsPlainEnd other = Unit {0}
+
+-- no function stands in the value of a run or in its events
+abbrev pub IsPlainRun : SourceRun → Type 0
+IsPlainRun run = IsPlainEnd run.end × Each IsPlainEvent run.log

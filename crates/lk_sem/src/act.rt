@@ -7,6 +7,7 @@ ghost use Rattle.lk_sem.specs.Acts.{IsAct};
 ghost use Rattle.lk_evaluation.specs.Source.{act, choice, form};
 
 use crate::calls::{apply_first, call, closure, function_value};
+use crate::captures::{change, query};
 use crate::cases::switch;
 use crate::values::{after_unit, done, only, truth};
 use lk_ast::{Base, Expr, List, Loc, NoMemory, Node, Span, Text, Trap, Value, copy_value};
@@ -16,7 +17,8 @@ use lk_operators::operate;
 use std::alloc::Global;
 
 /// What a node does: it has a value, goes on with another expression or with the body of a function of that mark, prints,
-/// goes on with a body for each value, traps, acts on tables where there is no store, or has no rule.
+/// goes on with a body for each value, reads or writes tables, with what it captured or with the rows of an insertion, traps,
+/// or has no rule.
 #[derive(Drop)]
 pub enum Act<'p> {
     Give(Value),
@@ -24,8 +26,9 @@ pub enum Act<'p> {
     Goto(Loc, &'p Expr, Locals<'p>),
     Print(Text),
     Each(&'p str, List<Value>, &'p Expr, Locals<'p>),
+    Read(List<Value>),
+    Write(List<Value>),
     Fails(Trap),
-    NoStore,
     Lacks,
 }
 
@@ -48,11 +51,10 @@ pub fn act_of<'p>(
         Node::Lambda(lambda) => Ok(closure(alloc, e.span, lambda, scope)?),
         Node::Call(name, _) => Ok(call(alloc, index, e.span, &name.text, values)?),
         Node::Apply(_, _) => Ok(apply_first(alloc, index, e.span, values)?),
-        Node::Table(_)
-        | Node::Query(_, _)
-        | Node::Insert(_, _)
-        | Node::Update(_)
-        | Node::Delete(_) => Ok(Act::NoStore),
+        Node::Table(_) => Ok(Act::Read(List::new(alloc))),
+        Node::Query(_, body) => Ok(query(alloc, body, scope)?),
+        Node::Insert(_, _) => Ok(Act::Write(values)),
+        Node::Update(rows) | Node::Delete(rows) => Ok(change(alloc, rows, scope)?),
         node => Ok(form(alloc, e.span, node, scope, values)?),
     }
 }

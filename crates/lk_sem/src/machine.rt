@@ -1,14 +1,17 @@
 //! The evaluation of a program by a machine. What waits stands in a list of its own and not on the machine's own stack,
 //! since fuel for a million nodes allows a depth of half a million, and of a million with calls back and forth.
 
-ghost use Rattle.std.specs.Prelude.{◌≡◌, ◌++◌, ◌<◌, ◌+◌, ◌*◌, length, IfOk};
+ghost use Rattle.std.specs.Prelude.{◌≡◌, ◌++◌, ◌<◌, ◌≤◌, ◌+◌, ◌*◌, length, IfOk};
 ghost use Rattle.lk_evaluation.specs.Evaluation as spec;
+ghost use Rattle.lk_ast.specs.Rows.{rows_value as value_of_rows};
 ghost use Rattle.lk_operators.specs.Values.{list_in, unit as unit_value};
 
 use crate::act::{Act, act_of};
 use crate::run::Halt;
 use crate::syntax::part;
-use lk_ast::{Event, Expr, List, Loc, NoMemory, Span, Text, Value};
+use lk_ast::{
+    Event, Expr, List, Loc, NoMemory, ReadEvent, Row, Span, Text, Value, WriteEvent, rows_value,
+};
 use lk_index::Index;
 use lk_locals::Locals;
 use std::alloc::Global;
@@ -42,11 +45,14 @@ pub enum Frame<'p> {
     Back(Loc),
 }
 
-/// What comes next: a node is entered, a value goes to the last frame, or the evaluation ends without one.
+/// What comes next: a node is entered, a value goes to the last frame, tables are read or written for what begins at that
+/// place in the text and the value goes back to that place, or the evaluation ends without a value.
 #[derive(Drop)]
 pub enum Next<'p> {
     Enter(&'p Expr, Locals<'p>, Loc),
     Give(Value),
+    Read(Loc, u32, List<Value>),
+    Write(Loc, u32, List<Value>),
     Stop(Halt),
 }
 
@@ -62,7 +68,7 @@ impl<'p> Machine<'p> {
     ghost use Rattle.lk_sem.specs.Acts.{IsAct};
     ghost use Rattle.lk_evaluation.specs.Evaluation.{eval, perform, each};
     ghost use Rattle.lk_sem.specs.Frames.{resumed, returned};
-    ghost use Rattle.lk_sem.specs.Machine.{Falls, Leads, bodies, frame_rest, weight};
+    ghost use Rattle.lk_sem.specs.Machine.{Falls, Leads, after_read, after_write, bodies, frame_rest, weight};
     ghost use Rattle.lk_evaluation.specs.Source.{Point, source, under};
 
     /// Enters a node.
@@ -153,8 +159,9 @@ impl<'p> Machine<'p> {
                 };
                 Ok(self.turn(alloc, index, turns)?)
             }
+            Act::Read(args) => Ok(self.read(index, place, at.start, args)?),
+            Act::Write(args) => Ok(self.write(index, place, at.start, args)?),
             Act::Fails(trap) => Ok(Next::Stop(Halt::Trap(trap))),
-            Act::NoStore => Ok(self.no_store(index, place, at)?),
             Act::Lacks => Ok(Next::Stop(Halt::Stuck(at))),
         }
     }
@@ -214,19 +221,47 @@ impl<'p> Machine<'p> {
         }
     }
 
-    /// Ends at what acts on tables, for which there is no store, once control is at the server.
-    fn no_store(&mut self, index: &Index<'p>, place: Loc, at: Span) -> Result<Next<'p>, NoMemory>
+    /// Reads tables at the server, where control goes from the client.
+    fn read(
+        &mut self,
+        index: &Index<'p>,
+        place: Loc,
+        site: u32,
+        args: List<Value>,
+    ) -> Result<Next<'p>, NoMemory>
         ensures leads { IfOk result (λ next. Leads index.now self.old
-            (perform (source index.now) (eval (source index.now)) place (spec.Uses Loc.Server (spec.Missing at)))
+            (perform (source index.now) (eval (source index.now)) place (spec.Uses Loc.Server (spec.Reading site args)))
             self.new next) }
         ensures falls { IfOk result (Falls self.old self.new) }
     {
         match place {
             Loc::Client => {
                 self.log.push(Event::Enter)?;
-                Ok(Next::Stop(Halt::NoStore(at)))
+                Ok(Next::Read(Loc::Client, site, args))
             }
-            _ => Ok(Next::Stop(Halt::NoStore(at))),
+            _ => Ok(Next::Read(Loc::Any, site, args)),
+        }
+    }
+
+    /// Writes a table at the server, where control goes from the client.
+    fn write(
+        &mut self,
+        index: &Index<'p>,
+        place: Loc,
+        site: u32,
+        args: List<Value>,
+    ) -> Result<Next<'p>, NoMemory>
+        ensures leads { IfOk result (λ next. Leads index.now self.old
+            (perform (source index.now) (eval (source index.now)) place (spec.Uses Loc.Server (spec.Writing site args)))
+            self.new next) }
+        ensures falls { IfOk result (Falls self.old self.new) }
+    {
+        match place {
+            Loc::Client => {
+                self.log.push(Event::Enter)?;
+                Ok(Next::Write(Loc::Client, site, args))
+            }
+            _ => Ok(Next::Write(Loc::Any, site, args)),
         }
     }
 
@@ -286,7 +321,7 @@ impl<'p> Machine<'p> {
         ensures leads { IfOk result (λ next. Leads index.now self.old
             (returned place value)
             self.new next) }
-        ensures falls { IfOk result (Falls self.old self.new) }
+        ensures falls { IfOk result (λ next. weight self.new next ≤ 4 * self.old.fuel + 2 * length self.old.stack + 2) }
     {
         match place {
             Loc::Client => {
@@ -299,6 +334,45 @@ impl<'p> Machine<'p> {
             }
             Loc::Any => Ok(Next::Give(value)),
         }
+    }
+
+    /// Goes back to that place with the answer of a reading.
+    pub fn answered(
+        &mut self,
+        alloc: Global,
+        index: &Index<'p>,
+        back: Loc,
+        site: u32,
+        args: List<Value>,
+        answer: List<Row>,
+    ) -> Result<Next<'p>, NoMemory>
+        ensures leads { IfOk result (λ next. Leads index.now (after_read site args answer self.old)
+            (returned back (value_of_rows answer))
+            self.new next) }
+        ensures falls { IfOk result (λ next. weight self.new next ≤ 4 * self.old.fuel + 2 * length self.old.stack + 2) }
+    {
+        let value = rows_value(alloc, answer.as_slice())?;
+        self.log
+            .push(Event::Read(ReadEvent { site, args, answer }))?;
+        Ok(self.come_back(index, back, value)?)
+    }
+
+    /// Goes back to that place from a writing.
+    pub fn written(
+        &mut self,
+        alloc: Global,
+        index: &Index<'p>,
+        back: Loc,
+        site: u32,
+        args: List<Value>,
+    ) -> Result<Next<'p>, NoMemory>
+        ensures leads { IfOk result (λ next. Leads index.now (after_write site args self.old)
+            (returned back unit_value)
+            self.new next) }
+        ensures falls { IfOk result (λ next. weight self.new next ≤ 4 * self.old.fuel + 2 * length self.old.stack + 2) }
+    {
+        self.log.push(Event::Write(WriteEvent { site, args }))?;
+        Ok(self.come_back(index, back, unit(alloc))?)
     }
 
     /// Gives a frame the value that it waits for.

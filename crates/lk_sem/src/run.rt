@@ -2,14 +2,17 @@
 
 use lk_ast::{Event, List, Span, Trap, Value};
 
-/// How the evaluation of a well typed program ends: with a value or a trap, without fuel, or at an expression that acts on
-/// tables, for which there is no store yet.
+/// How the evaluation of a well typed program ends: with a value or a trap, without fuel, where the store refused a reading
+/// or writing, or at an insertion that would have left that many rows in its table, too many.
 #[derive(Debug, Drop)]
 pub enum SourceEnd {
     Value(Value),
     Trap(Trap),
     Spent,
-    NoStore(Span),
+    /// The store refused a reading or writing, which isn't in the log.
+    StoreFault,
+    /// An insertion would have left so many rows in its table, over 65,536, and nothing was changed.
+    TableFull(u64),
 }
 
 /// An evaluation: its end, its events in order, and the fuel that it used, one unit for each node entered.
@@ -20,34 +23,26 @@ pub struct SourceRun {
     pub used: u64,
 }
 
-/// How any evaluation ends: as that of a well typed program may, or at an expression that has no rule for what it met.
-#[derive(Drop)]
-pub enum Finish {
-    End(SourceEnd),
-    Stuck(Span),
-}
-
-/// An end without a value.
+/// An end without a value, at a trap, without fuel or for want of a rule.
 #[derive(Clone, Copy)]
 pub enum Halt {
     Trap(Trap),
     Spent,
     Stuck(Span),
-    NoStore(Span),
 }
 
 impl Halt {
-    ghost use Rattle.lk_sem.specs.Finishes.{finish_of};
+    ghost use Rattle.lk_sem.specs.Ends.{end_of};
     ghost use Rattle.std.specs.Prelude.{◌≡◌};
 
-    pub fn finish(self) -> Finish
-        ensures { result ≡ finish_of self }
+    /// That end, if a well typed program may come to it.
+    pub fn end(self) -> Option<SourceEnd>
+        ensures { result ≡ end_of self }
     {
         match self {
-            Halt::Trap(trap) => Finish::End(SourceEnd::Trap(trap)),
-            Halt::Spent => Finish::End(SourceEnd::Spent),
-            Halt::Stuck(at) => Finish::Stuck(at),
-            Halt::NoStore(at) => Finish::End(SourceEnd::NoStore(at)),
+            Halt::Trap(trap) => Some(SourceEnd::Trap(trap)),
+            Halt::Spent => Some(SourceEnd::Spent),
+            Halt::Stuck(_) => None,
         }
     }
 }

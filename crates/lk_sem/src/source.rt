@@ -1,55 +1,89 @@
-//! The direct evaluation of a program.
+//! The direct evaluation of a program over a store.
 
-ghost use Rattle.std.specs.Prelude.{◌≡◌, [], length, IfOk, IfSome, IsSome};
-ghost use Rattle.lk_sem.specs.Machine.{Ends, outcome};
+ghost use Rattle.std.specs.Prelude.{◌≡◌, ◌≤◌, [], false, length, IfErr, IfOk, IfSome};
 ghost use Rattle.lk_ast.specs.Functions.{main_of as main_in};
-ghost use Rattle.lk_sem.specs.SourceRuns.{IsRunOf, NeverLacks};
 ghost use Rattle.lk_evaluation.specs.Source.{session};
-ghost use Rattle.lk_index.specs.Places.{ArePlaced};
-ghost use Rattle.lk_names.specs.Programs.{IsBound};
-ghost use Rattle.lk_typing.specs.Programs.{IsWellTyped};
+ghost use Rattle.lk_outside.specs.Causes.{Rose};
+ghost use Rattle.lk_outside.specs.declared.fault.OutFault.TheVariants.{Failed};
+ghost use Rattle.lk_sem.specs.Histories.{AreFit, KeepsOthers};
+ghost use Rattle.lk_sem.specs.Machine.{outcome};
+ghost use Rattle.lk_sem.specs.SourceRuns.{HasHistory, HasSomeHistory, IsPlainRun, IsRun, IsRunBy};
+ghost use Rattle.lk_sem.specs.Standing.{Ends, IsSound};
+ghost use Rattle.lk_sem.specs.declared.run.SourceEnd.TheVariants.{StoreFault};
+ghost use Rattle.lk_sound.specs.Instances.{IsShaped};
+ghost use Rattle.lk_sound.specs.Law.{AreBoundAndApart};
+ghost use Rattle.lk_sound.specs.Tables.{AreTables};
 
+use crate::catalog::Catalog;
 use crate::machine::{Machine, Next};
-use crate::run::{Finish, SourceEnd, SourceRun};
+use crate::reads::read_at;
+use crate::run::{SourceEnd, SourceRun};
+use crate::writes::{Written, write_at};
 use lk_ast::{Base, FunDef, List, Loc, NoMemory, Program, Text, Value, main_of};
-use lk_index::Index;
 use lk_locals::Locals;
+use lk_outside::{OutFault, Store};
 use lk_sound::soundness_laws;
 use std::alloc::Global;
 
-/// Evaluates the `main` of a well typed program, which has one, with this argument and at most this fuel. Its names are
-/// bound, and its functions and lambdas begin at places of their own. So no expression lacks a rule for what it meets.
+/// Evaluates the `main` of a program with this argument and at most this fuel, over a store where no transaction is under way and,
+/// where its tables are told, their rows fit the program's. Each reading and each writing is a transaction of its own, and is in
+/// the log once it is committed: so where memory runs out the tables are those of the last commit. The program's names are bound,
+/// what is found by its place stands at a place of its own, and its sessions use a closed set of instances. So no expression
+/// lacks a rule for what it meets, and no function is shown.
 pub fn source_run(
     alloc: Global,
     program: &Program,
     arg: &Text,
+    store: &mut dyn Store,
     fuel: u64,
 ) -> Result<SourceRun, NoMemory>
-    requires begins { IsSome (main_in program.now) }
-    requires bound { IsBound program.now }
-    requires placed { ArePlaced program.now }
-    requires typed { IsWellTyped program.now }
-    ensures { IfOk result (λ run. IfSome (main_in program.now) (λ main. IsRunOf (session program.now main arg.now) fuel run)) }
+    requires apart { AreBoundAndApart program.now }
+    requires shaped { IsShaped program.now }
+    requires idle { is_open store.old ≡ false }
+    requires fit { IfSome (tables store.old) (AreTables program.now) }
+    ensures run { IfOk result (λ run. IsRun program.now arg.now fuel (tables store.new) run) }
+    ensures history { IfOk result (λ run. HasHistory program.now (tables store.old) (tables store.new) run.log) }
+    ensures refused { IfErr result (λ error. HasSomeHistory program.now (tables store.old) (tables store.new)) }
+    ensures fit { IfSome (tables store.new) (AreTables program.now) }
+    ensures others { IfOk result (λ run. KeepsOthers program.now (tables store.old) (tables store.new)) }
+    ensures plain { IfOk result IsPlainRun }
+    ensures name { name store.new ≡ name store.old }
+    ensures idle { is_open store.new ≡ false }
+    ensures later { faults store.old ≤ faults store.new }
+    ensures fault { IfOk result (λ run. run.end ≡ StoreFault → Rose (faults store.old) (faults store.new)) }
 {
     soundness_laws();
-    let index = Index::new(alloc, program)?;
+    let catalog = Catalog::new(alloc, program)?;
     match main_of(program) {
-        Some(main) => Ok(run_main(alloc, &index, main, arg, fuel)?),
+        Some(main) => Ok(run_main(alloc, &catalog, main, arg, store, fuel)?),
         None => unreachable!(),
     }
 }
 
-/// Evaluates the body of a function of one parameter at the client. No expression in it lacks a rule.
+/// Evaluates the body of a function of one parameter at the client.
 fn run_main<'p>(
     alloc: Global,
-    index: &Index<'p>,
+    catalog: &Catalog<'p>,
     main: &'p FunDef,
     arg: &Text,
+    store: &mut dyn Store,
     fuel: u64,
 ) -> Result<SourceRun, NoMemory>
+    requires apart { AreBoundAndApart catalog.now }
     requires one { length main.now.params ≡ 1 }
-    requires ruled { NeverLacks (session index.now main.now arg.now) fuel }
-    ensures { IfOk result (IsRunOf (session index.now main.now arg.now) fuel) }
+    requires sound { IsSound catalog.now (session catalog.now main.now arg.now) fuel }
+    requires idle { is_open store.old ≡ false }
+    requires fit { AreFit catalog.now (tables store.old) }
+    ensures run { IfOk result (λ run. IsRunBy catalog.now (session catalog.now main.now arg.now) fuel (tables store.new) run run.end) }
+    ensures history { IfOk result (λ run. HasHistory catalog.now (tables store.old) (tables store.new) run.log) }
+    ensures refused { IfErr result (λ error. HasSomeHistory catalog.now (tables store.old) (tables store.new)) }
+    ensures fit { AreFit catalog.now (tables store.new) }
+    ensures others { IfOk result (λ run. KeepsOthers catalog.now (tables store.old) (tables store.new)) }
+    ensures plain { IfOk result IsPlainRun }
+    ensures name { name store.new ≡ name store.old }
+    ensures idle { is_open store.new ≡ false }
+    ensures later { faults store.old ≤ faults store.new }
+    ensures fault { IfOk result (λ run. run.end ≡ StoreFault → Rose (faults store.old) (faults store.new)) }
 {
     let mut args = List::new(alloc);
     args.push(Value::Base(Base::Text(arg.copy(alloc)?)))?;
@@ -64,35 +98,73 @@ fn run_main<'p>(
         fuel,
     };
     let first = Next::Enter(&main.body, scope, Loc::Client);
-    match run(alloc, index, &mut machine, first)? {
-        Finish::End(end) => Ok(SourceRun {
-            end,
-            used: fuel - machine.fuel,
-            log: machine.log,
-        }),
-        Finish::Stuck(_) => unreachable!(),
-    }
+    let end = run(alloc, catalog, &mut machine, store, first)?;
+    Ok(SourceRun {
+        end,
+        used: fuel - machine.fuel,
+        log: machine.log,
+    })
 }
 
 /// Goes on to the end.
 fn run<'p>(
     alloc: Global,
-    index: &Index<'p>,
+    catalog: &Catalog<'p>,
     machine: &mut Machine<'p>,
+    store: &mut dyn Store,
     first: Next<'p>,
-) -> Result<Finish, NoMemory>
-    requires { machine.old.stack ≡ [] }
-    ensures { IfOk result (λ finish. Ends machine.old (outcome index.now first.entry) machine.new finish) }
+) -> Result<SourceEnd, NoMemory>
+    requires apart { AreBoundAndApart catalog.now }
+    requires stack { machine.old.stack ≡ [] }
+    requires log { machine.old.log ≡ [] }
+    requires sound { IsSound catalog.now (outcome catalog.now first) machine.old.fuel }
+    requires idle { is_open store.old ≡ false }
+    requires fit { AreFit catalog.now (tables store.old) }
+    ensures ends { IfOk result (Ends catalog.now (outcome catalog.now first.entry) machine.old.fuel (tables store.old) (tables store.new) machine.new) }
+    ensures refused { IfErr result (λ error. HasSomeHistory catalog.now (tables store.old) (tables store.new)) }
+    ensures fit { AreFit catalog.now (tables store.new) }
+    ensures name { name store.new ≡ name store.old }
+    ensures idle { is_open store.new ≡ false }
+    ensures later { faults store.old ≤ faults store.new }
+    ensures fault { IfOk result (λ end. end ≡ StoreFault → Rose (faults store.old) (faults store.new)) }
 {
     let mut next = first;
     loop {
         next = match next {
-            Next::Enter(e, scope, place) => machine.enter(alloc, index, e, scope, place)?,
+            Next::Enter(e, scope, place) => {
+                machine.enter(alloc, catalog.index(), e, scope, place)?
+            }
             Next::Give(value) => match machine.stack.pop() {
-                Some(frame) => machine.give(alloc, index, frame, value)?,
-                None => return Ok(Finish::End(SourceEnd::Value(value))),
+                Some(frame) => machine.give(alloc, catalog.index(), frame, value)?,
+                None => return Ok(SourceEnd::Value(value)),
             },
-            Next::Stop(halt) => return Ok(halt.finish()),
+            Next::Read(back, site, args) => {
+                match read_at(alloc, catalog, store, site, args.as_slice()) {
+                    Ok(rows) => machine.answered(alloc, catalog.index(), back, site, args, rows)?,
+                    Err(fault) => return Ok(refused(fault)?),
+                }
+            }
+            Next::Write(back, site, args) => {
+                match write_at(alloc, catalog, store, site, args.as_slice()) {
+                    Ok(Written::Done) => machine.written(alloc, catalog.index(), back, site, args)?,
+                    Ok(Written::Full(size)) => return Ok(SourceEnd::TableFull(size)),
+                    Err(fault) => return Ok(refused(fault)?),
+                }
+            }
+            Next::Stop(halt) => match halt.end() {
+                Some(end) => return Ok(end),
+                None => unreachable!(),
+            },
         };
+    }
+}
+
+/// The end at a store that refuses.
+fn refused(fault: OutFault) -> Result<SourceEnd, NoMemory>
+    ensures { IfOk result (λ end. (end ≡ StoreFault) × (fault ≡ Failed)) }
+{
+    match fault {
+        OutFault::Failed => Ok(SourceEnd::StoreFault),
+        OutFault::NoMemory => Err(NoMemory),
     }
 }

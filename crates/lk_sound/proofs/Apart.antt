@@ -16,7 +16,7 @@ use Rattle.lk_ast.specs.declared.declaration.FunDef.{FunDef}
 use Rattle.lk_ast.specs.declared.declaration.Program.{Program}
 use Rattle.lk_ast.specs.declared.expression.LambdaExpr.{LambdaExpr}
 use Rattle.lk_ast.specs.declared.place.Word.{Word}
-use Rattle.lk_index.specs.Free.{free_lambda, captured}
+use Rattle.lk_index.specs.Free.{free_lambda, in_byte_order, captured}
 use Rattle.lk_index.specs.Places.{PlacedLambda, Lambdas, gather, gather_all, each_with, lambdas_of}
 use Rattle.lk_names.specs.Expressions.{fault}
 use Rattle.lk_names.specs.Faults.{Fault, first_of}
@@ -208,8 +208,12 @@ sorted_apart : (es : List (Label × Unit {0})) → T (is_sorted (slice_cmp nat_c
 sorted_apart [] sorted = tt
 sorted_apart (e ∷ es) sorted = (not_above e.0 es (first_of_both _ _ sorted), sorted_apart es (second_of_both _ _ sorted))
 
+-- words in byte order are each there once
+pub ordered_apart : (words : List Label) → AreDistinct (in_byte_order words)
+ordered_apart words =
+    let names : finite.FinMap (slice_cmp nat_cmp) (Unit {0}) = finite.from_entries (map (λ word. (word, tt {0})) words) in
+    sorted_apart (finite.entries names) (finite.entries_sorted names)
+
 -- a lambda captures each name once
 pub captured_apart : (l : LambdaExpr) → AreDistinct (captured l)
-captured_apart l =
-    let names : finite.FinMap (slice_cmp nat_cmp) (Unit {0}) = finite.from_entries (map (λ word. (word, tt {0})) (free_lambda l no_names)) in
-    sorted_apart (finite.entries names) (finite.entries_sorted names)
+captured_apart l = ordered_apart (free_lambda l no_names)

@@ -10,6 +10,7 @@ use Rattle.lk_locals.specs.Names.{Names, bind, bind_each, lookup}
 use Rattle.lk_types.specs.Rows.{Label}
 use Rattle.lk_types.specs.declared.ground.Ground.{Ground}
 use Rattle.lk_typing.specs.Names.{Named, named, names_of, types_of}
+use Rattle.lk_sound.specs.Instances.{Instances}
 use Rattle.lk_sound.specs.Points.{AreLocals}
 use Rattle.lk_sound.specs.Values.{Fits, FitEach, one_more}
 use Rattle.lk_sound.proofs.Names.{IsAmong, AreDistinct}
@@ -25,15 +26,15 @@ lookup_bound x v names y = finite.get-insert nat_list_cmp_total names x v y ∙ 
 
 -- ---- one name
 
-by_test : (p : Program) (b : Bool) (v : Value) (a t : Ground) (type : Option Ground) (value : Option Value) → Fits p v a
-    → (type ≡ Some t → (w : Value) × (value ≡ Some w) × Fits p w t) → (if b then Some a else type) ≡ Some t → (w : Value) × (cond b (Some v) value ≡ Some w) × Fits p w t
-by_test p true v a t type value fits other is = let same : a ≡ t = cc in (v, refl, subst (λ x. Fits p v x) same fits)
-by_test p false v a t type value fits other is = other is
+by_test : (p : Program) (i : Instances) (b : Bool) (v : Value) (a t : Ground) (type : Option Ground) (value : Option Value) → Fits p i v a
+    → (type ≡ Some t → (w : Value) × (value ≡ Some w) × Fits p i w t) → (if b then Some a else type) ≡ Some t → (w : Value) × (cond b (Some v) value ≡ Some w) × Fits p i w t
+by_test p i true v a t type value fits other is = let same : a ≡ t = cc in (v, refl, subst (λ x. Fits p i v x) same fits)
+by_test p i false v a t type value fits other is = other is
 
 -- one name more, which hides an outer one
-pub bound_one : (p : Program) (x : Label) (v : Value) (a : Ground) (locals : Named Ground) (names : Names) → Fits p v a → AreLocals p locals names → AreLocals p ((x, a) ∷ locals) (bind x v names)
-bound_one p x v a locals names fits are y t is =
-    let found : (w : Value) × (cond (bytes_eq x y) (Some v) (lookup names y) ≡ Some w) × Fits p w t = by_test p (bytes_eq x y) v a t (named y locals) (lookup names y) fits (are y t) is in
+pub bound_one : (p : Program) (i : Instances) (x : Label) (v : Value) (a : Ground) (locals : Named Ground) (names : Names) → Fits p i v a → AreLocals p i locals names → AreLocals p i ((x, a) ∷ locals) (bind x v names)
+bound_one p i x v a locals names fits are y t is =
+    let found : (w : Value) × (cond (bytes_eq x y) (Some v) (lookup names y) ≡ Some w) × Fits p i w t = by_test p i (bytes_eq x y) v a t (named y locals) (lookup names y) fits (are y t) is in
     (found.0, lookup_bound x v names y ∙ found.1, found.2)
 
 -- ---- several names
@@ -52,10 +53,10 @@ moved y x a (entry ∷ others) locals apart =
     (moved y x a others locals (λ among. apart (inr among)))
 
 -- values under names of which none is there twice
-pub bound_each : (p : Program) (params : Named Ground) (values : List Value) (locals : Named Ground) (names : Names) → AreDistinct (names_of params) → FitEach p values (types_of params) → AreLocals p locals names
-    → AreLocals p (params ++ locals) (bind_each names (names_of params) values)
-bound_each p [] [] locals names distinct fit are y t is = are y t is
-bound_each p [] (v ∷ values) locals names distinct fit are y t is = are y t is
-bound_each p (entry ∷ params) [] locals names distinct fit are y t is = elim fit [ ]
-bound_each p (entry ∷ params) (v ∷ values) locals names (apart, distinct) (one_more fits fit) are y t is =
-    bound_each p params values ((entry.0, entry.1) ∷ locals) (bind entry.0 v names) distinct fit (bound_one p entry.0 v entry.1 locals names fits are) y t (moved y entry.0 entry.1 params locals apart ∙ is)
+pub bound_each : (p : Program) (i : Instances) (params : Named Ground) (values : List Value) (locals : Named Ground) (names : Names) → AreDistinct (names_of params) → FitEach p i values (types_of params) → AreLocals p i locals names
+    → AreLocals p i (params ++ locals) (bind_each names (names_of params) values)
+bound_each p i [] [] locals names distinct fit are y t is = are y t is
+bound_each p i [] (v ∷ values) locals names distinct fit are y t is = are y t is
+bound_each p i (entry ∷ params) [] locals names distinct fit are y t is = elim fit [ ]
+bound_each p i (entry ∷ params) (v ∷ values) locals names (apart, distinct) (one_more fits fit) are y t is =
+    bound_each p i params values ((entry.0, entry.1) ∷ locals) (bind entry.0 v names) distinct fit (bound_one p i entry.0 v entry.1 locals names fits are) y t (moved y entry.0 entry.1 params locals apart ∙ is)

@@ -21,7 +21,8 @@ use Rattle.lk_types.specs.declared.scheme.Scheme.{Scheme}
 use Rattle.lk_typing.proofs.Values.{just}
 use Rattle.lk_typing.specs.Groups.{IsFunction, AreFunctions, IsGroup, is_mutual, own_entries, scheme_entries}
 use Rattle.lk_typing.specs.Names.{Named, named, types_of, Entry, One, Many, IsUse, MayBe}
-use Rattle.lk_typing.specs.Programs.{AreAt, AreInstances, Hold, HaveSchemes, entries, tables_of}
+use Rattle.lk_typing.specs.Programs.{AreAt, AreInstances, Hold, HaveSchemes, entries}
+use Rattle.lk_ast.specs.Tables.{tables_of}
 use Rattle.lk_typing.specs.Types.{function_of}
 use Rattle.lk_sound.proofs.Members.{one_in_front, one_in_back, one_of_both}
 use Rattle.lk_sound.proofs.Names.{IsAmong, AreDistinct}
@@ -228,7 +229,7 @@ named_there (other ∷ fs) f (inl is) = inl (ap (λ (f : FunDef). f.name.text) i
 named_there (other ∷ fs) f (inr later) = inr (named_there fs f later)
 
 -- where no two have the same name, that of one of them finds it
-found_named : (fs : List FunDef) (f : FunDef) → AreDistinct (map (λ (f : FunDef). f.name.text) fs) → OneOf (λ other. other ≡ f) fs → find (is_named f.name.text) fs ≡ Some f
+pub found_named : (fs : List FunDef) (f : FunDef) → AreDistinct (map (λ (f : FunDef). f.name.text) fs) → OneOf (λ other. other ≡ f) fs → find (is_named f.name.text) fs ≡ Some f
 found_named [] f distinct there = absurd there
 found_named (other ∷ fs) f distinct (inl is) =
     ap (λ b. cond b (Some other) (find (is_named f.name.text) fs)) ((bytes_eq-Decides other.name.text f.name.text).1 (ap (λ (f : FunDef). f.name.text) is)) ∙ ap (λ g. Some g) is

@@ -41,11 +41,11 @@ module _ (globals : Globals) where
 
   -- ---- one level
 
-  abbrev mapped : Layer → Node-F (Span → In Fault) (In Item) (In Fault) (In Fault) (In Fault) (In Fault) (In Item)
+  abbrev pub mapped : Layer → Node-F (Span → In Fault) (In Item) (In Fault) (In Fault) (In Fault) (In Fault) (In Item)
   mapped = map-Node Node Case ChangeExpr Expr LambdaExpr LastCase PartExpr (Span → In Fault) (In Item) (In Fault) (In Fault) (In Fault) (In Fault) (In Item)
       (node_fault globals) (case_item globals) (change_fault globals) (fault globals) (lambda_fault globals) (last_fault globals) (part_item globals)
 
-  fault_level : (e : Expr) (names : Names) → fault globals e names ≡ node_in globals (mapped (layer e)) e.span names
+  pub fault_level : (e : Expr) (names : Names) → fault globals e names ≡ node_in globals (mapped (layer e)) e.span names
   fault_level e names =
       ap (λ f. f names) (fold_out-Expr (Span → In Fault) (In Item) (In Fault) (In Fault) (In Fault) (In Fault) (In Item) (node_in globals) case_in (change_in globals) expr_in lambda_in last_in part_in e)
       ∙ ap (λ f. f e.span names) (fold_out-Node (Span → In Fault) (In Item) (In Fault) (In Fault) (In Fault) (In Fault) (In Item) (node_in globals) case_in (change_in globals) expr_in lambda_in last_in part_in e.node)
@@ -111,7 +111,7 @@ module _ (globals : Globals) where
   two : (a b : Expr) (names others : Names) → first_of (fault globals a names) (fault globals b others) ≡ None → Each IsFaultless (a ∷ b ∷ [])
   two a b names others none = let both = neither (fault globals a names) (fault globals b others) none in ((names, both.0), ((others, both.1), tt))
 
-  inside_faultless : (l : Layer) (span : Span) (names : Names) → node_in globals (mapped l) span names ≡ None → Each IsFaultless (insides l)
+  pub inside_faultless : (l : Layer) (span : Span) (names : Names) → node_in globals (mapped l) span names ≡ None → Each IsFaultless (insides l)
   inside_faultless (Node-F.Int number) span names none = tt
   inside_faultless (Node-F.Text text) span names none = tt
   inside_faultless (Node-F.Bool truth) span names none = tt

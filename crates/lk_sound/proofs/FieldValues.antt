@@ -21,68 +21,69 @@ use Rattle.lk_typing.proofs.Values.{just}
 use Rattle.lk_typing.specs.Names.{Named}
 use Rattle.lk_typing.specs.Types as types
 use Rattle.lk_typing.specs.Typing.{label_of}
+use Rattle.lk_sound.specs.Instances.{Instances}
 use Rattle.lk_sound.proofs.FieldRows.{Grows, stays, grows, as_fields, same_test, no_entries}
 use Rattle.lk_sound.specs.Values.{Fits, FitEach, none_left, one_more, FieldsFit, no_field, field}
 
 abbrev as_values : List (Label × Value) → List Field
 as_values es = map (λ e. values.field e.0 e.1) es
 
-module _ (p : Program) where
+module _ (p : Program) (i : Instances) where
   -- ---- lists of fields
 
-  pub fit_both : {fs more : List Field} {gs others : List GroundField} → FieldsFit p fs gs → FieldsFit p more others → FieldsFit p (fs ++ more) (gs ++ others)
+  pub fit_both : {fs more : List Field} {gs others : List GroundField} → FieldsFit p i fs gs → FieldsFit p i more others → FieldsFit p i (fs ++ more) (gs ++ others)
   fit_both no_field rest = rest
   fit_both (field same fit fits) rest = field same fit (fit_both fits rest)
 
-  pub as_many : {fs : List Field} {gs : List GroundField} → FieldsFit p fs gs → length fs ≡ length gs
+  pub as_many : {fs : List Field} {gs : List GroundField} → FieldsFit p i fs gs → length fs ≡ length gs
   as_many no_field = refl
   as_many (field same fit fits) = ap suc (as_many fits)
 
   -- ---- maps
 
-  put_fits : (l : Label) (v : Value) (t : Ground) (es : List (Label × Value)) (gs : Named Ground) → Fits p v t → FieldsFit p (as_values es) (as_fields gs)
-      → FieldsFit p (as_values (fin.put label_order l v es)) (as_fields (fin.put label_order l t gs))
+  put_fits : (l : Label) (v : Value) (t : Ground) (es : List (Label × Value)) (gs : Named Ground) → Fits p i v t → FieldsFit p i (as_values es) (as_fields gs)
+      → FieldsFit p i (as_values (fin.put label_order l v es)) (as_fields (fin.put label_order l t gs))
   put_fits l v t [] [] fit fits = field refl fit no_field
   put_fits l v t [] (g ∷ gs) fit fits = elim fits [ ]
   put_fits l v t (e ∷ es) [] fit fits = elim fits [ ]
   put_fits l v t (e ∷ es) (g ∷ gs) fit (field same first rest) =
-      subst (λ k. FieldsFit p (as_values (fin.put label_order l v (e ∷ es))) (as_fields (by_order (label_order l k) ((l, t) ∷ g ∷ gs) ((g.0, t) ∷ gs) (g ∷ fin.put label_order l t gs)))) same
+      subst (λ k. FieldsFit p i (as_values (fin.put label_order l v (e ∷ es))) (as_fields (by_order (label_order l k) ((l, t) ∷ g ∷ gs) ((g.0, t) ∷ gs) (g ∷ fin.put label_order l t gs)))) same
       (by_place (label_order l e.0) (put_fits l v t es gs fit rest))
     where
-      by_place : (o : Ordering) → FieldsFit p (as_values (fin.put label_order l v es)) (as_fields (fin.put label_order l t gs))
-          → FieldsFit p (as_values (by_order o ((l, v) ∷ e ∷ es) ((e.0, v) ∷ es) (e ∷ fin.put label_order l v es))) (as_fields (by_order o ((l, t) ∷ g ∷ gs) ((g.0, t) ∷ gs) (g ∷ fin.put label_order l t gs)))
+      by_place : (o : Ordering) → FieldsFit p i (as_values (fin.put label_order l v es)) (as_fields (fin.put label_order l t gs))
+          → FieldsFit p i (as_values (by_order o ((l, v) ∷ e ∷ es) ((e.0, v) ∷ es) (e ∷ fin.put label_order l v es))) (as_fields (by_order o ((l, t) ∷ g ∷ gs) ((g.0, t) ∷ gs) (g ∷ fin.put label_order l t gs)))
       by_place Less behind = field refl fit (field same first rest)
       by_place Equal behind = field same fit rest
       by_place Greater behind = field same first behind
 
-  pub empty_fits : FieldsFit p (fields_in_order fin.empty) (fields_of no_fields)
+  pub empty_fits : FieldsFit p i (fields_in_order fin.empty) (fields_of no_fields)
   empty_fits =
-      subst (λ es. FieldsFit p (as_values es) (fields_of no_fields)) (sym (no_entries Value))
-      (subst (λ gs. FieldsFit p [] (as_fields gs)) (sym (no_entries Ground)) no_field)
+      subst (λ es. FieldsFit p i (as_values es) (fields_of no_fields)) (sym (no_entries Value))
+      (subst (λ gs. FieldsFit p i [] (as_fields gs)) (sym (no_entries Ground)) no_field)
 
-  insert_fits : (m : Entries) (row : Row) (l : Label) (v : Value) (t : Ground) → Fits p v t → FieldsFit p (fields_in_order m) (fields_of row)
-      → FieldsFit p (fields_in_order (fin.insert m l v)) (fields_of (fin.insert row l t))
+  insert_fits : (m : Entries) (row : Row) (l : Label) (v : Value) (t : Ground) → Fits p i v t → FieldsFit p i (fields_in_order m) (fields_of row)
+      → FieldsFit p i (fields_in_order (fin.insert m l v)) (fields_of (fin.insert row l t))
   insert_fits m row l v t fit fits =
-      subst (λ es. FieldsFit p (as_values es) (fields_of (fin.insert row l t))) (sym (fin.entries-insert nat_list_cmp_total m l v))
-      (subst (λ gs. FieldsFit p (as_values (fin.put label_order l v (fin.entries m))) (as_fields gs)) (sym (fin.entries-insert nat_list_cmp_total row l t))
+      subst (λ es. FieldsFit p i (as_values es) (fields_of (fin.insert row l t))) (sym (fin.entries-insert nat_list_cmp_total m l v))
+      (subst (λ gs. FieldsFit p i (as_values (fin.put label_order l v (fin.entries m))) (as_fields gs)) (sym (fin.entries-insert nat_list_cmp_total row l t))
       (put_fits l v t (fin.entries m) (fin.entries row) fit fits))
 
   -- fields put into a map, and their types put before the row that it fits
-  pub all_fit : {row last : Row} {fields : Named Ground} → Grows row fields last → (m : Entries) (fs : List Field) → FieldsFit p fs (as_fields fields)
-      → FieldsFit p (fields_in_order m) (fields_of row) → FieldsFit p (fields_in_order (made.with_fields m fs)) (fields_of last)
+  pub all_fit : {row last : Row} {fields : Named Ground} → Grows row fields last → (m : Entries) (fs : List Field) → FieldsFit p i fs (as_fields fields)
+      → FieldsFit p i (fields_in_order m) (fields_of row) → FieldsFit p i (fields_in_order (made.with_fields m fs)) (fields_of last)
   all_fit stays m fs no_field fits = fits
   all_fit (grows {row = row} {f = g} lacks inner) m fs (field {f = f} same fit more) fits =
       all_fit inner (fin.insert m f.label f.value) _ more
-      (subst (λ l. FieldsFit p (fields_in_order (fin.insert m f.label f.value)) (fields_of (fin.insert row l g.1))) same (insert_fits m row f.label f.value g.1 fit fits))
+      (subst (λ l. FieldsFit p i (fields_in_order (fin.insert m f.label f.value)) (fields_of (fin.insert row l g.1))) same (insert_fits m row f.label f.value g.1 fit fits))
 
   -- ---- the value under a label
 
   pub record UnderLabel (l : Label) (t : Ground) (fs : List Field) : Type 0 where
     pub value : Value
     pub is : value_under l fs ≡ Some value
-    pub fit : Fits p value t
+    pub fit : Fits p i value t
 
-  pub found_under : (l : Label) (t : Ground) (fs : List Field) (gs : Named Ground) → FieldsFit p fs (as_fields gs) → fin.find label_order l gs ≡ Some t → UnderLabel l t fs
+  pub found_under : (l : Label) (t : Ground) (fs : List Field) (gs : Named Ground) → FieldsFit p i fs (as_fields gs) → fin.find label_order l gs ≡ Some t → UnderLabel l t fs
   found_under l t fs [] fits is = let wrong : None ≡ Some t = is in cc
   found_under l t [] (g ∷ gs) fits is = elim fits [ ]
   found_under l t (f ∷ fs) (g ∷ gs) (field same fit rest) is =
@@ -95,7 +96,7 @@ module _ (p : Program) where
       by_test true same_label is behind = record {
         value = f.value;
         is = ap (λ b. option_map (λ (f : Field). f.value) (if b then Some f else find (λ f. bytes_eq f.label l) fs)) same_label;
-        fit = subst (Fits p f.value) (just is) fit;
+        fit = subst (Fits p i f.value) (just is) fit;
       }
       by_test false other is behind =
           let found : UnderLabel l t fs = behind is in record {
@@ -107,20 +108,20 @@ module _ (p : Program) where
   -- ---- values under the labels of parts
 
   pub record AreLabelled (parts : List PartExpr) (vs : List Value) (fields : Named Ground) (left : List Ground) : Type 0 where
-    pub fits : FieldsFit p (made.labelled parts vs) (as_fields fields)
-    pub behind : FitEach p (drop (length parts) vs) left
+    pub fits : FieldsFit p i (made.labelled parts vs) (as_fields fields)
+    pub behind : FitEach p i (drop (length parts) vs) left
     pub count : length vs ≡ length parts + length left
 
-  pub each_many : {vs : List Value} {ts : List Ground} → FitEach p vs ts → length vs ≡ length ts
+  pub each_many : {vs : List Value} {ts : List Ground} → FitEach p i vs ts → length vs ≡ length ts
   each_many none_left = refl
   each_many (one_more fit fits) = ap suc (each_many fits)
 
-  none_labelled : (vs : List Value) (ts : List Ground) → FitEach p vs ts → AreLabelled [] vs [] ts
+  none_labelled : (vs : List Value) (ts : List Ground) → FitEach p i vs ts → AreLabelled [] vs [] ts
   none_labelled [] ts fits = record { fits = no_field; behind = fits; count = each_many fits ∙ omega arith }
   none_labelled (v ∷ vs) ts fits = record { fits = no_field; behind = fits; count = each_many fits ∙ omega arith }
 
   pub labelled_fit : (parts : List PartExpr) (ts : List Ground) (vs : List Value) (fields : Named Ground) (left : List Ground)
-      → types.labelled (map label_of parts) ts ≡ Some (fields, left) → FitEach p vs ts → AreLabelled parts vs fields left
+      → types.labelled (map label_of parts) ts ≡ Some (fields, left) → FitEach p i vs ts → AreLabelled parts vs fields left
   labelled_fit [] ts vs fields left is fits =
       let same : ◌≡◌ {A = Named Ground × List Ground} ([], ts) (fields, left) = just is in
       subst (λ (x : Named Ground × List Ground). AreLabelled [] vs x.0 x.1) same (none_labelled vs ts fits)

@@ -49,7 +49,7 @@ module _ {A : Type 0} (key : A → ℕ) where
   none_has n (y ∷ ys) x none (inr later) e = none_has n ys x none.1 later e
 
   -- where no two have the same number, that of one of them finds it
-  apart_found : (xs : List A) (x : A) → AreApart (map key xs) → OneOf (λ y. y ≡ x) xs → find (λ y. key y == key x) xs ≡ Some x
+  pub apart_found : (xs : List A) (x : A) → AreApart (map key xs) → OneOf (λ y. y ≡ x) xs → find (λ y. key y == key x) xs ≡ Some x
   apart_found [] x apart one = absurd one
   apart_found (y ∷ ys) x apart (inl is) = ap (λ b. cond b (Some y) (find (λ y. key y == key x) ys)) (number_same (key y) (key x) (ap key is)) ∙ ap Some is
   apart_found (y ∷ ys) x apart (inr later) =

@@ -69,7 +69,7 @@ own_known bound other rule = none_known
 
 module _ {functions : Named (Entry Ground)} {tables : List TableDecl} where
   mutual
-    known_in : {names : Named Ground} {effects : EffectSet} {e : Expr} {t : Ground} {inside : List Ground} → HasType functions tables names effects e t inside → (bound : Names) → AreKnown names bound (free e bound)
+    pub known_in : {names : Named Ground} {effects : EffectSet} {e : Expr} {t : Ground} {inside : List Ground} → HasType functions tables names effects e t inside → (bound : Names) → AreKnown names bound (free e bound)
     known_in {e = e} (plain h ts is parts rule) bound = these_known (free_plain e h bound is) (both_known (own_known bound h rule) (all_known parts bound))
     known_in {e = e} (lambda l params own b is are moves body local) bound = these_known (free_lambda_form e l bound is) (outside_known params (binds_all l.params params bound are) (known_in body (bind_all l.params bound)))
     known_in {e = e} (var x d rest a first last is of_d of_rest) bound = these_known (free_var e x d rest bound is) (both_known (known_in of_d bound) (outside_known ((x.text, a) ∷ []) (binds_one x a bound) (known_in of_rest (bind x bound))))
@@ -83,17 +83,17 @@ module _ {functions : Named (Entry Ground)} {tables : List TableDecl} where
     known_in {e = e} (update change is of_change writes) bound = these_known (free_update e change bound is) (change_known of_change bound)
     known_in {e = e} (delete change is of_change writes) bound = these_known (free_delete e change bound is) (change_known of_change bound)
 
-    all_known : {names : Named Ground} {effects : EffectSet} {es : List Expr} {ts inside : List Ground} → HaveTypes functions tables names effects es ts inside → (bound : Names) → AreKnown names bound (free_all es bound)
+    pub all_known : {names : Named Ground} {effects : EffectSet} {es : List Expr} {ts inside : List Ground} → HaveTypes functions tables names effects es ts inside → (bound : Names) → AreKnown names bound (free_all es bound)
     all_known none bound = none_known
     all_known (more inside rest of_e of_es) bound = both_known (known_in of_e bound) (all_known of_es bound)
 
-    cases_known : {names : Named Ground} {effects : EffectSet} {cases : List Case} {ts : List Ground} {tags : Named Ground} {inside : List Ground} → HaveCases functions tables names effects cases ts tags inside
+    pub cases_known : {names : Named Ground} {effects : EffectSet} {cases : List Case} {ts : List Ground} {tags : Named Ground} {inside : List Ground} → HaveCases functions tables names effects cases ts tags inside
         → (bound : Names) → AreKnown names bound (free_cases cases bound)
     cases_known no_cases bound = none_known
     cases_known (case_of {case = case} a held inside rest is_held of_body of_cases) bound =
         both_known (these_known (case_level case bound) (outside_known held (binds_held case.name a held bound is_held) (known_in of_body (bind_some case.name bound)))) (cases_known of_cases bound)
 
-    change_known : {names : Named Ground} {change : ChangeExpr} {inside : List Ground} → IsChange functions tables names change inside → (bound : Names) → AreKnown names bound (free_change change bound)
+    pub change_known : {names : Named Ground} {change : ChangeExpr} {inside : List Ground} → IsChange functions tables names change inside → (bound : Names) → AreKnown names bound (free_change change bound)
     change_known {change = change} (changed row sets ts cond rest rows of_cond of_sets labels each) bound =
         let x : Word = (out-ChangeExpr change).name in
         let entries : Named Ground = (x.text, record_of row) ∷ [] in

@@ -1,8 +1,8 @@
--- Nodes that are operations on the values of their parts.
+-- Operations by the rules of their operators.
 use Rattle.std.proofs.Common.{◌≡◌, refl, sym, subst, ℤ, Bool, List, [], ◌∷◌, map}
 use Rattle.std.specs.Prelude.{int_rem}
 use Rattle.std.specs.Int.{w64, int_wrapping_add, int_wrapping_sub, int_wrapping_mul, int_wrapping_div}
-use Rattle.lk_ast.specs.Layers.{Layer, layer}
+use Rattle.lk_ast.specs.Layers.{Layer}
 use Rattle.lk_ast.specs.declared.declaration.Program.{Program}
 use Rattle.lk_ast.specs.declared.expression.Expr.{Expr}
 use Rattle.lk_ast.specs.declared.expression.Node.TheOpen.{Node-F}
@@ -10,8 +10,7 @@ use Rattle.lk_ast.specs.declared.expression.PartExpr.{PartExpr}
 use Rattle.lk_ast.specs.declared.place.Span.{Span}
 use Rattle.lk_ast.specs.declared.place.Word.{Word}
 use Rattle.lk_ast.specs.declared.value.Value.{Value}
-use Rattle.lk_evaluation.specs.Source.{Point, act, done}
-use Rattle.lk_evaluation.specs.Syntax.{parts_of}
+use Rattle.lk_evaluation.specs.Source.{done}
 use Rattle.lk_operators.specs.Operators.{operated}
 use Rattle.lk_operators.specs.Order.{holds}
 use Rattle.lk_operators.specs.Outcomes.{both, on_two}
@@ -27,61 +26,58 @@ use Rattle.lk_ast.specs.declared.table.BaseKind.TheVariants as kind
 use Rattle.lk_typing.specs.Heads as head
 use Rattle.lk_typing.specs.Heads.{Head, parts}
 use Rattle.lk_typing.specs.Names.{Named, Entry}
-use Rattle.lk_typing.specs.Programs.{tables_of}
+use Rattle.lk_ast.specs.Tables.{tables_of}
 use Rattle.lk_typing.specs.Rules.{Rule}
 use Rattle.lk_typing.specs.Rules as rule
-use Rattle.lk_typing.specs.Typing.{HaveTypes, label_of, expr_of}
-use Rattle.lk_sound.specs.Acts.{IsAct, IsNode}
-use Rattle.lk_sound.specs.Functions.{IsContext}
-use Rattle.lk_sound.specs.Points.{AreLocals}
+use Rattle.lk_typing.specs.Typing.{label_of}
+use Rattle.lk_sound.specs.Instances.{Instances}
+use Rattle.lk_sound.specs.Acts.{IsAct}
 use Rattle.lk_sound.specs.Values.{Fits, AllFit, FitEach, none, more, none_left, one_more}
-use Rattle.lk_sound.specs.Within.{IsWithin}
 use Rattle.lk_sound.proofs.Fitting.{on_none}
 use Rattle.lk_sound.proofs.Operations.{by_one, by_two, calculation_sound, division_sound, negate_sound, int_to_string_sound, negation_sound, concat_sound, append_sound, cons_sound, head_sound, tail_sound, empty_sound}
-use Rattle.lk_sound.proofs.Points.{with_parts}
 use Rattle.lk_sound.proofs.Records.{record_sound, extend_sound, project_sound, tag_sound}
 use Rattle.lk_sound.proofs.Results.{IsResult}
 use Rattle.lk_sound.proofs.Shapes.{int_fits, truth_fits, text_fits, list_fits}
 
-module _ (p : Program) (functions : Named (Entry Ground)) (effects : EffectSet) (locals : Named Ground) where
+module _ (p : Program) (i : Instances) (functions : Named (Entry Ground)) (effects : EffectSet) (locals : Named Ground) where
   abbrev By : Head → List Ground → Ground → Type 0
   By = Rule functions (tables_of p) locals effects
 
-  done_sound : (at : Span) (t : Ground) (o : Outcome) → IsResult p effects t o → IsAct p effects t (done at o)
+  pub done_sound : (at : Span) (t : Ground) (o : Outcome) → IsResult p i effects t o → IsAct p i effects t (done at o)
   done_sound at t (outcome.Value v) sound = sound
   done_sound at t (outcome.Trap trap) sound = sound
   done_sound at t outcome.NoRule sound = absurd sound
 
   -- all of one type
-  same_types : (a : Ground) (ts : List Ground) → Each (λ t. t ≡ a) ts → (values : List Value) → FitEach p values ts → AllFit p values a
+  same_types : (a : Ground) (ts : List Ground) → Each (λ t. t ≡ a) ts → (values : List Value) → FitEach p i values ts → AllFit p i values a
   same_types a [] all [] none_left = none
   same_types a [] all (v ∷ values) fit = elim fit [ ]
   same_types a (t ∷ ts) all [] fit = elim fit [ ]
-  same_types a (t ∷ ts) (same, all) (v ∷ values) (one_more fits fit) = more (subst (λ x. Fits p v x) same fits) (same_types a ts all values fit)
+  same_types a (t ∷ ts) (same, all) (v ∷ values) (one_more fits fit) = more (subst (λ x. Fits p i v x) same fits) (same_types a ts all values fit)
 
   -- ---- what an operation comes to, by the rule of its operator
 
   abbrev pub Results : Layer → List Ground → Ground → Type 0
-  Results l ts t = (values : List Value) → FitEach p values ts → IsResult p effects t (operated l values)
+  Results l ts t = (values : List Value) → FitEach p i values ts → IsResult p i effects t (operated l values)
 
   -- operations on two integers
   calculated : (l : Layer) (f : ℤ → ℤ → ℤ) → ((values : List Value) → operated l values ≡ on_two (both int_in (calculation f)) values) → (ts : List Ground) (t : Ground) → By head.Arithmetic ts t → Results l ts t
-  calculated l f is _ _ rule.arithmetic values fit = subst (λ o. IsResult p effects known.Int o) (sym (is values)) (by_two p effects (both int_in (calculation f)) known.Int known.Int known.Int (calculation_sound p effects f) values fit)
+  calculated l f is _ _ rule.arithmetic values fit = subst (λ o. IsResult p i effects known.Int o) (sym (is values)) (by_two p i effects (both int_in (calculation f)) known.Int known.Int known.Int (calculation_sound p i effects f) values fit)
 
   divided : (l : Layer) (f : ℤ → ℤ → ℤ) → ((values : List Value) → operated l values ≡ on_two (both int_in (division f)) values) → (ts : List Ground) (t : Ground) → By head.Division ts t → Results l ts t
-  divided l f is _ _ (rule.division traps) values fit = subst (λ o. IsResult p effects known.Int o) (sym (is values)) (by_two p effects (both int_in (division f)) known.Int known.Int known.Int (division_sound p effects traps f) values fit)
+  divided l f is _ _ (rule.division traps) values fit = subst (λ o. IsResult p i effects known.Int o) (sym (is values)) (by_two p i effects (both int_in (division f)) known.Int known.Int known.Int (division_sound p i effects traps f) values fit)
 
   on_comparison : (l : Layer) (ts : List Ground) (t : Ground) → By head.Comparison ts t → ((a : Ground) → Results l (a ∷ a ∷ []) known.Bool) → Results l ts t
   on_comparison l _ _ (rule.comparison {t}) sound = sound t
 
   pub literal_number : (n : _) (ts : List Ground) (t : Ground) → By (head.Literal kind.Int) ts t → Results (Node-F.Int n) ts t
-  literal_number n _ _ rule.literal = on_none p (λ vs. IsResult p effects known.Int (operated (Node-F.Int n) vs)) (int_fits p n)
+  literal_number n _ _ rule.literal = on_none p i (λ vs. IsResult p i effects known.Int (operated (Node-F.Int n) vs)) (int_fits p i n)
 
   pub literal_text : (bytes : _) (ts : List Ground) (t : Ground) → By (head.Literal kind.Text) ts t → Results (Node-F.Text bytes) ts t
-  literal_text bytes _ _ rule.literal = on_none p (λ vs. IsResult p effects known.Text (operated (Node-F.Text bytes) vs)) (text_fits p bytes)
+  literal_text bytes _ _ rule.literal = on_none p i (λ vs. IsResult p i effects known.Text (operated (Node-F.Text bytes) vs)) (text_fits p i bytes)
 
   pub literal_truth : (b : _) (ts : List Ground) (t : Ground) → By (head.Literal kind.Bool) ts t → Results (Node-F.Bool b) ts t
-  literal_truth b _ _ rule.literal = on_none p (λ vs. IsResult p effects known.Bool (operated (Node-F.Bool b) vs)) (truth_fits p b)
+  literal_truth b _ _ rule.literal = on_none p i (λ vs. IsResult p i effects known.Bool (operated (Node-F.Bool b) vs)) (truth_fits p i b)
 
   pub add_results : (a b : Expr) (ts : List Ground) (t : Ground) → By head.Arithmetic ts t → Results (Node-F.Add a b) ts t
   add_results a b ts t by = calculated (Node-F.Add a b) (int_wrapping_add w64) (λ values. refl) ts t by
@@ -100,49 +96,49 @@ module _ (p : Program) (functions : Named (Entry Ground)) (effects : EffectSet) 
 
   -- any two values may be compared
   compared_results : (l : Layer) (test : Value → Value → Bool) (ts : List Ground) (t : Ground) → ((values : List Value) → operated l values ≡ on_two (holds test) values) → By head.Comparison ts t → Results l ts t
-  compared_results l test ts t is by = on_comparison l ts t by (λ a values fit. subst (λ o. IsResult p effects known.Bool o) (sym (is values)) (by_two p effects (holds test) a a known.Bool (λ v w one other. truth_fits p (test v w)) values fit))
+  compared_results l test ts t is by = on_comparison l ts t by (λ a values fit. subst (λ o. IsResult p i effects known.Bool o) (sym (is values)) (by_two p i effects (holds test) a a known.Bool (λ v w one other. truth_fits p i (test v w)) values fit))
 
   pub concat_results : (a b : Expr) (ts : List Ground) (t : Ground) → By head.Concat ts t → Results (Node-F.Concat a b) ts t
-  concat_results a b _ _ rule.concat = by_two p effects _ _ _ _ (concat_sound p effects)
+  concat_results a b _ _ rule.concat = by_two p i effects _ _ _ _ (concat_sound p i effects)
 
   pub append_results : (a b : Expr) (ts : List Ground) (t : Ground) → By head.Append ts t → Results (Node-F.Append a b) ts t
-  append_results a b _ _ (rule.append u) = by_two p effects _ _ _ _ (append_sound p effects u)
+  append_results a b _ _ (rule.append u) = by_two p i effects _ _ _ _ (append_sound p i effects u)
 
   pub cons_results : (a b : Expr) (ts : List Ground) (t : Ground) → By head.Cons ts t → Results (Node-F.Cons a b) ts t
-  cons_results a b _ _ (rule.cons {a = u} own) = by_two p effects _ _ _ _ (cons_sound p effects u)
+  cons_results a b _ _ (rule.cons {a = u} own) = by_two p i effects _ _ _ _ (cons_sound p i effects u)
 
   pub negation_results : (e : Expr) (ts : List Ground) (t : Ground) → By head.Negation ts t → Results (Node-F.Neg e) ts t
-  negation_results e _ _ rule.negation = by_one p effects _ _ _ (negate_sound p effects)
+  negation_results e _ _ rule.negation = by_one p i effects _ _ _ (negate_sound p i effects)
 
   pub not_results : (e : Expr) (ts : List Ground) (t : Ground) → By head.Not ts t → Results (Node-F.Not e) ts t
-  not_results e _ _ rule.not = by_one p effects _ _ _ (negation_sound p effects)
+  not_results e _ _ rule.not = by_one p i effects _ _ _ (negation_sound p i effects)
 
   pub first_results : (e : Expr) (ts : List Ground) (t : Ground) → By head.First ts t → Results (Node-F.Hd e) ts t
-  first_results e _ _ (rule.first {a} traps own) = by_one p effects _ _ _ (head_sound p effects traps a)
+  first_results e _ _ (rule.first {a} traps own) = by_one p i effects _ _ _ (head_sound p i effects traps a)
 
   pub rest_results : (e : Expr) (ts : List Ground) (t : Ground) → By head.Rest ts t → Results (Node-F.Tl e) ts t
-  rest_results e _ _ (rule.rest a traps own) = by_one p effects _ _ _ (tail_sound p effects traps a)
+  rest_results e _ _ (rule.rest a traps own) = by_one p i effects _ _ _ (tail_sound p i effects traps a)
 
   pub empty_results : (e : Expr) (ts : List Ground) (t : Ground) → By head.Empty ts t → Results (Node-F.Empty e) ts t
-  empty_results e _ _ (rule.empty a) = by_one p effects _ _ _ (empty_sound p effects a)
+  empty_results e _ _ (rule.empty a) = by_one p i effects _ _ _ (empty_sound p i effects a)
 
   pub int_to_string_results : (e : Expr) (ts : List Ground) (t : Ground) → By head.IntToString ts t → Results (Node-F.IntToString e) ts t
-  int_to_string_results e _ _ (rule.int_to_string own) = by_one p effects _ _ _ (int_to_string_sound p effects)
+  int_to_string_results e _ _ (rule.int_to_string own) = by_one p i effects _ _ _ (int_to_string_sound p i effects)
 
   pub items_results : (es : List Expr) (ts : List Ground) (t : Ground) → By head.Items ts t → Results (Node-F.List es) ts t
-  items_results es ts _ (rule.items a all) values fit = list_fits p values a (same_types a ts all values fit)
+  items_results es ts _ (rule.items a all) values fit = list_fits p i values a (same_types a ts all values fit)
 
   pub record_results : (fields : List PartExpr) (ts : List Ground) (t : Ground) → By (head.Record (map label_of fields)) ts t → Results (Node-F.Record fields) ts t
-  record_results parts ts _ (rule.closed_record fields row named made) values fit = record_sound p effects parts ts values fields row named made fit
+  record_results parts ts _ (rule.closed_record fields row named made) values fit = record_sound p i effects parts ts values fields row named made fit
 
   pub extend_results : (fields : List PartExpr) (e : Expr) (ts : List Ground) (t : Ground) → By (head.Extend (map label_of fields)) ts t → Results (Node-F.Extend fields e) ts t
-  extend_results parts e ts _ (rule.extend fields other row named made) values fit = extend_sound p effects parts ts values fields other row named made fit
+  extend_results parts e ts _ (rule.extend fields other row named made) values fit = extend_sound p i effects parts ts values fields other row named made fit
 
   pub project_results : (e : Expr) (l : Word) (ts : List Ground) (t : Ground) → By (head.Project l.text) ts t → Results (Node-F.Project e l) ts t
-  project_results e l _ t (rule.project other row made) = by_one p effects _ _ _ (λ v fits. project_sound p effects l.text t other row v made fits)
+  project_results e l _ t (rule.project other row made) = by_one p i effects _ _ _ (λ v fits. project_sound p i effects l.text t other row v made fits)
 
   pub tag_results : (l : Word) (e : Expr) (ts : List Ground) (t : Ground) → By (head.Tag l.text) ts t → Results (Node-F.Tag l e) ts t
-  tag_results l e _ _ (rule.tag {t} other row made) = by_one p effects _ _ _ (λ v fits. tag_sound p effects l.text t other row v made fits)
+  tag_results l e _ _ (rule.tag {t} other row made) = by_one p i effects _ _ _ (λ v fits. tag_sound p i effects l.text t other row v made fits)
 
   pub equal_results : (a b : Expr) (ts : List Ground) (t : Ground) → By head.Comparison ts t → Results (Node-F.Eq a b) ts t
   equal_results a b ts t by = compared_results (Node-F.Eq a b) _ ts t (λ values. refl) by
@@ -161,13 +157,3 @@ module _ (p : Program) (functions : Named (Entry Ground)) (effects : EffectSet) 
 
   pub at_least_results : (a b : Expr) (ts : List Ground) (t : Ground) → By head.Comparison ts t → Results (Node-F.Ge a b) ts t
   at_least_results a b ts t by = compared_results (Node-F.Ge a b) _ ts t (λ values. refl) by
-
-  -- ---- a node that is such an operation
-
-  module _ (seen : IsContext p functions) (point : Point) (fit : AreLocals p locals point.names) (within : IsWithin p point.expr) where
-    pub operation_node : (l : Layer) (ts : List Ground) (t : Ground) (inside : List Ground) → layer point.expr ≡ l → parts_of l ≡ parts label_of expr_of l
-        → ((values : List Value) → act p point.expr.span l point.names values ≡ done point.expr.span (operated l values))
-        → HaveTypes functions (tables_of p) locals effects (parts label_of expr_of l) ts inside → Results l ts t → IsNode p effects t point
-    operation_node l ts t inside is are acts have results =
-        with_parts p functions seen effects locals point fit within t l (parts label_of expr_of l) ts inside is are have
-        (λ values fits. subst (λ a. IsAct p effects t a) (sym (acts values)) (done_sound point.expr.span t (operated l values) (results values fits)))

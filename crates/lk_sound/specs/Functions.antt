@@ -10,7 +10,8 @@ use Rattle.lk_types.specs.declared.ground.Ground.{Ground}
 use Rattle.lk_types.specs.declared.scheme.Scheme.{Scheme}
 use Rattle.lk_typing.specs.Groups.{IsFunction, IsGroup, own_entries, scheme_entries}
 use Rattle.lk_typing.specs.Names.{Named, Entry}
-use Rattle.lk_typing.specs.Programs.{Hold, entries, tables_of}
+use Rattle.lk_typing.specs.Programs.{Hold, entries}
+use Rattle.lk_ast.specs.Tables.{tables_of}
 use Rattle.lk_sound.specs.Within.{IsFunctionOf}
 
 -- What names of functions stand for in the bodies of one of these declarations: its own functions have types that they have

@@ -1,7 +1,10 @@
 pub mod Acts
 pub mod Functions
+pub mod Instances
+pub mod Law
+pub mod Nodes
 pub mod Outcomes
 pub mod Points
+pub mod Tables
 pub mod Values
 pub mod Within
-pub mod Law

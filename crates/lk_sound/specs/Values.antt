@@ -1,7 +1,7 @@
--- Values of ground types (Pierce, Types and Programming Languages, 2002, sections 8.3 and 11). A function value has a function
--- type where the function or lambda that begins at its place has it by the rules, and the values that it keeps have the types
--- of the names that it captured.
-use Rattle.std.specs.Prelude.{◌≡◌, ℕ, ℤ, Bool, List, [], ◌∷◌, ◌++◌, Some, None}
+-- Values of ground types (Pierce, Types and Programming Languages, 2002, sections 8.3 and 11), where functions are used at these
+-- instances. A function value has a function type where the function that begins at its place is such an instance, or the lambda
+-- there has it by the rules, with such nodes in its body, and the values that it keeps have the types of the names that it captured.
+use Rattle.std.specs.Prelude.{◌≡◌, ℕ, ℤ, Bool, false, List, [], ◌∷◌, ◌++◌, Some, None}
 use Rattle.lk_ast.specs.declared.declaration.FunDef.{FunDef}
 use Rattle.lk_ast.specs.declared.declaration.Program.{Program}
 use Rattle.lk_ast.specs.declared.expression.LambdaExpr.{LambdaExpr}
@@ -12,18 +12,19 @@ use Rattle.lk_ast.specs.declared.value.Value.TheVariants as value
 use Rattle.lk_index.specs.Free.{captured}
 use Rattle.lk_index.specs.Places.{function_at, lambda_at}
 use Rattle.lk_operators.specs.Values.{int as number, truth, text as words, list as items, fields as record_value, tagged}
-use Rattle.lk_types.specs.Each.{OneOf}
+use Rattle.lk_types.specs.Each.{Each, OneOf}
 use Rattle.lk_types.specs.Rows.{EffectSet}
 use Rattle.lk_types.specs.declared.ground.Ground.{Ground}
 use Rattle.lk_types.specs.declared.ground.Ground.TheVariants as known
 use Rattle.lk_types.specs.declared.ground.GroundField.{GroundField}
 use Rattle.lk_typing.specs.Names.{Named, names_of, types_of, texts, Entry}
-use Rattle.lk_typing.specs.Programs.{tables_of}
+use Rattle.lk_ast.specs.Tables.{tables_of}
 use Rattle.lk_typing.specs.Types.{function_of}
 use Rattle.lk_typing.specs.Typing.{HasType}
-use Rattle.lk_sound.specs.Functions.{IsContext, HasFunctionType}
+use Rattle.lk_sound.specs.Instances.{Instances, IsFine, IsListed}
+use Rattle.lk_sound.specs.Nodes.{nodes_of}
 
-module _ (p : Program) where
+module _ (p : Program) (i : Instances) where
   mutual
     -- the value has the type
     pub data Fits : Value → Ground → Type 0 where
@@ -35,15 +36,15 @@ module _ (p : Program) where
       fields : {v : Value} {t : Ground} (fs : List Field) (gs : List GroundField) → v ≡ record_value fs → FieldsFit fs gs → t ≡ known.Fields gs → Fits v t
       -- one of the tags, with a value of its type
       tag : {v : Value} {t : Ground} (held : Value) (g : GroundField) (gs : List GroundField) → v ≡ tagged g.label held → OneOf (λ other. other ≡ g) gs → Fits held g.ty → t ≡ known.Tags gs → Fits v t
-      -- a function of the program, which captures nothing
-      function : {v : Value} {t : Ground} (f : FunDef) (site : ℕ) → v ≡ value.Fun (record { site = site; env = [] }) → function_at p site ≡ Some f → HasFunctionType p f t → Fits v t
+      -- an instance, which captures nothing
+      function : {v : Value} {t : Ground} (f : FunDef) (site : ℕ) (ts : List Ground) (own : EffectSet) (b : Ground) → v ≡ value.Fun (record { site = site; env = [] }) → function_at p site ≡ Some f
+          → IsListed i.mains (record { name = f.name.text; type = t }) → t ≡ function_of ts own b → Fits v t
       -- a lambda, with values for the names that it captured
       lambda : {v : Value} {t : Ground} (f : FunValue) (l : LambdaExpr) (functions : Named (Entry Ground)) (params kept : Named Ground) (own : EffectSet) (b : Ground) (inside : List Ground)
           → v ≡ value.Fun f → function_at p f.site ≡ None → lambda_at p f.site ≡ Some l
-          → IsContext p functions
           → names_of kept ≡ captured l → FitEach f.env (types_of kept)
           → names_of params ≡ texts l.params
-          → HasType functions (tables_of p) (params ++ kept) own l.body b inside
+          → (typed : HasType functions (tables_of p) (params ++ kept) own l.body b inside) → Each (IsFine i) (nodes_of false typed)
           → t ≡ function_of (types_of params) own b
           → Fits v t
 

@@ -2,10 +2,9 @@
 -- with mutual recursion as in Milner, A theory of type polymorphism in programming, 1978): the functions of a program by
 -- groups in text order, where a group has a scheme for each function and sees the schemes of the groups before it.
 use Rattle.std.specs.Prelude.{◌≡◌, ℕ, Some, slice_get, List, [], ◌∷◌, ◌++◌, length}
-use Rattle.std.specs.List.{flat_map}
 use Rattle.lk_ast.specs.Functions.{functions_in}
+use Rattle.lk_ast.specs.Tables.{tables_of}
 use Rattle.lk_ast.specs.declared.declaration.Decl.{Decl}
-use Rattle.lk_ast.specs.declared.declaration.Decl.TheVariants.{Table, Fun, Mutual}
 use Rattle.lk_ast.specs.declared.declaration.FunDef.{FunDef}
 use Rattle.lk_ast.specs.declared.declaration.Program.{Program}
 use Rattle.lk_ast.specs.declared.declaration.TableDecl.{TableDecl}
@@ -15,14 +14,6 @@ use Rattle.lk_types.specs.declared.ground.Ground.{Ground}
 use Rattle.lk_types.specs.declared.scheme.Scheme.{Scheme}
 use Rattle.lk_typing.specs.Groups.{IsGroup}
 use Rattle.lk_typing.specs.Names.{Named}
-
-abbrev pub tables_in : Decl → List TableDecl
-tables_in (Table table) = table ∷ []
-tables_in (Fun f) = []
-tables_in (Mutual functions) = []
-
-abbrev pub tables_of : Program → List TableDecl
-tables_of program = flat_map tables_in program.decls
 
 -- ---- instances of several schemes
 

@@ -1,6 +1,6 @@
 use Rattle.std.proofs.Common.{ap, ◌∙◌}
 use Rattle.lk_ast.specs.Plain.{holds_function}
-use Rattle.lk_cli.proofs.PlainRows.{rows_plain}
+use Rattle.lk_ast.proofs.PlainRows.{rows_plain}
 use Rattle.lk_cli.proofs.report.line_of_event.Goals as goal
 
 pub value_text-requires : goal.value_text-requires

@@ -3,7 +3,7 @@ use Rattle.lk_ast.specs.declared.declaration.Decl.{Decl}
 use Rattle.lk_infer.proofs.ProgramAnswers.{nothing_done, one_more, ill_typed_there, not_well_typed_there, too_large_there, has_types, are_principal}
 use Rattle.lk_infer.proofs.program.infer.Goals as goal
 use Rattle.lk_infer.specs.declared.error.InferError.TheVariants as errors
-use Rattle.lk_typing.specs.Programs.{tables_of}
+use Rattle.lk_ast.specs.Tables.{tables_of}
 
 pub loop-decl-init : goal.loop-decl-init
 loop-decl-init c = nothing_done _ _ _ _ c.new.ensures c.new-2.ensures c.new-3.ensures

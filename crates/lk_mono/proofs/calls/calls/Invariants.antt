@@ -4,7 +4,7 @@ use Rattle.lk_mono.specs.Held.{AreSited}
 use Rattle.lk_mono.specs.Listed.{IsListedAt}
 use Rattle.lk_mono.specs.Looks.{as_uses}
 use Rattle.lk_mono.specs.Queues.{as_list}
-use Rattle.lk_outline.specs.Nodes.{TypedNode}
+use Rattle.lk_sound.specs.Nodes.{TypedNode}
 use Rattle.lk_types.specs.Each.{Each}
 use Rattle.lk_mono.proofs.calls.calls.Given as goal
 

@@ -1,7 +1,7 @@
 use Rattle.std.proofs.Common.{◌≡◌, Some}
 use Rattle.lk_mono.proofs.Calling.{IsLeft}
 use Rattle.lk_mono.specs.Queues.{as_list}
-use Rattle.lk_outline.specs.Nodes.{Use}
+use Rattle.lk_sound.specs.Nodes.{Use}
 use Rattle.lk_types.specs.Each.{OneOf}
 use Rattle.lk_mono.proofs.calls.place_of.Given as goal
 

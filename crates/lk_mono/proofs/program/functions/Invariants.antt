@@ -6,7 +6,7 @@ use Rattle.lk_mono.specs.Held.{AreHeld}
 use Rattle.lk_mono.specs.Instances.{Body, uses_of}
 use Rattle.lk_mono.specs.Queues.{as_list}
 use Rattle.lk_mono.specs.declared.body.Source.{Source}
-use Rattle.lk_outline.specs.Nodes.{Use}
+use Rattle.lk_sound.specs.Nodes.{Use}
 use Rattle.lk_mono.proofs.program.functions.Given as goal
 
 abbrev pub invariant-loop-usage : goal.invariant-loop-usage

@@ -2,7 +2,7 @@ use Rattle.std.proofs.Common.{◌≡◌, refl, sym, subst, ◌∙◌, ap, true, 
 use Rattle.lk_mono.proofs.Queueing.{full_added, lacking_not_listed, large_added, large_not_listed, listed_added, made_added, there_is_listed}
 use Rattle.lk_mono.specs.Instances.{IsListed}
 use Rattle.lk_mono.specs.Queues.{IsAdded, as_list}
-use Rattle.lk_outline.specs.Nodes.{Use}
+use Rattle.lk_sound.specs.Nodes.{Use}
 use Rattle.lk_types.specs.Each.{OneOf}
 use Rattle.lk_mono.proofs.queue.add_use.Goals as goal
 use Rattle.lk_mono.proofs.queue.add_use.Goals.{in-Some+else-is_listed, in_default}

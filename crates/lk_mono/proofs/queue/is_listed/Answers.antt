@@ -2,7 +2,7 @@ use Rattle.std.proofs.Common.{◌≡◌, rules}
 use Rattle.std.proofs.lemmas.Iterator.{YieldsList-from_slice, cases_from_any}
 use Rattle.lk_mono.proofs.Queueing.{IsAnswer, not_there, yes_there}
 use Rattle.lk_mono.specs.Queues.{as_use}
-use Rattle.lk_outline.specs.Nodes.{Use}
+use Rattle.lk_sound.specs.Nodes.{Use}
 use Rattle.lk_mono.proofs.queue.is_listed.Goals as goal
 
 abbrev looked_for : goal.After-any → Use

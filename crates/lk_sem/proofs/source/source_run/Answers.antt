@@ -1,16 +1,19 @@
-use Rattle.std.proofs.Common.{subst, sym}
+use Rattle.std.proofs.Common.{sym, subst}
 use Rattle.lk_evaluation.specs.Source.{session}
+use Rattle.lk_sem.specs.Standing.{IsSound}
+use Rattle.lk_sem.proofs.Ending.{if_err, no_events}
 use Rattle.lk_sem.proofs.MainParams.{main_params}
-use Rattle.lk_sem.proofs.Sound.{never_lacks}
+use Rattle.lk_sem.proofs.Sound.{sound_session}
 use Rattle.lk_sem.proofs.source.source_run.Goals as goal
-use Rattle.lk_sem.specs.SourceRuns.{NeverLacks}
+
+pub returns-in_err-catalog-clause-refused : goal.returns-in_err-catalog-clause-refused
+returns-in_err-catalog-clause-refused g c = if_err _ c.from_residual.result (no_events _ _)
 
 pub run_main-requires-clause-one : goal.run_main-requires-clause-one
-run_main-requires-clause-one c = main_params c.args.program.now c.in-Some.main.now c.in-Some.ensures
+run_main-requires-clause-one g c = main_params c.args.program.now c.in-Some.main.now c.in-Some.ensures
 
-pub run_main-requires-clause-ruled : goal.run_main-requires-clause-ruled
-run_main-requires-clause-ruled c =
+pub run_main-requires-clause-sound : goal.run_main-requires-clause-sound
+run_main-requires-clause-sound g c =
     let laws = c.soundness_laws.ensures in
-    let program = c.args.program.now in
-    let never = never_lacks program laws.main laws.session c.requires.bound c.requires.placed c.requires.typed c.in-Some.main.now c.in-Some.ensures c.args.arg.now c.args.fuel in
-    subst (λ p. NeverLacks (session p c.in-Some.main.now c.args.arg.now) c.args.fuel) (sym c.in_ok-index.ensures) never
+    subst (λ p. IsSound p (session p c.in-Some.main.now c.args.arg.now) c.args.fuel) (sym c.in_ok-catalog.ensures)
+    (sound_session c.args.program.now laws.plain laws.session c.requires.apart c.requires.shaped c.in-Some.main.now c.in-Some.ensures c.args.arg.now c.args.fuel)

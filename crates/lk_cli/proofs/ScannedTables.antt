@@ -1,0 +1,78 @@
+-- Tables that are scanned one after the other, and what a session makes of them.
+use Rattle.std.proofs.Common.{◌≡◌, ◌≢◌, ◌∙◌, refl, ap, subst, true, ℕ, List, [], ◌∷◌, ◌++◌, map}
+use Rattle.std.specs.Prelude.{Option, Some, None, option_map, IfSome}
+use Rattle.std.specs.List.{AllZip}
+use Rattle.lk_ast.specs.Tables.{Tables, all_fit, rows_of, table_defs}
+use Rattle.lk_ast.specs.declared.declaration.Program.{Program}
+use Rattle.lk_ast.specs.declared.event.Event.{Event}
+use Rattle.lk_ast.specs.declared.table.TableDef.{TableDef}
+use Rattle.lk_ast.specs.declared.table.TableRows.{TableRows}
+use Rattle.lk_sem.specs.Histories.{KeepsOthers}
+use Rattle.lk_sem.specs.SourceRuns.{HasHistory, IsRun}
+use Rattle.lk_sem.specs.declared.run.SourceEnd.TheVariants as end
+use Rattle.lk_sound.specs.Tables.{table_at}
+use Rattle.lk_types.specs.Each.{Each}
+use Rattle.lk_cli.specs.Answers.{IsSessionOver}
+use Rattle.lk_cli.specs.Loading.{FitsTold, HasRowsOf, HasToldSession, IsOfTable, IsScanned, empty_table, loaded_over, rows_if}
+use Rattle.lk_cli.specs.declared.answer.Done.{Done}
+use Rattle.lk_cli.specs.declared.command.SourceCommand.{SourceCommand}
+
+pub scanned_more : (told : Option Tables) (defs : List TableDef) (def : TableDef) (tables : List TableRows) (table : TableRows)
+    → AllZip (IsScanned told) defs tables → IsScanned told def table → AllZip (IsScanned told) (defs ++ def ∷ []) (tables ++ table ∷ [])
+scanned_more told [] def [] table are is = (is, tt)
+scanned_more told [] def (t ∷ ts) table are is = absurd are
+scanned_more told (d ∷ ds) def [] table are is = absurd are
+scanned_more told (d ∷ ds) def (t ∷ ts) table are is = (are.0, scanned_more told ds def ts table are.1 is)
+
+-- tables without rows fit
+pub empty_fit : (defs : List TableDef) → AllZip IsOfTable defs (map empty_table defs)
+empty_fit [] = tt
+empty_fit (def ∷ defs) = (record { name = refl; columns = refl }, empty_fit defs)
+
+all_of_table : (told : Option Tables) (defs : List TableDef) (tables : List TableRows) → AllZip (IsScanned told) defs tables → AllZip IsOfTable defs tables
+all_of_table told [] [] are = tt
+all_of_table told [] (table ∷ tables) are = absurd are
+all_of_table told (def ∷ defs) [] are = absurd are
+all_of_table told (def ∷ defs) (table ∷ tables) are = (are.0.is, all_of_table told defs tables are.1)
+
+all_rows : (now : Tables) (defs : List TableDef) (tables : List TableRows) → AllZip (IsScanned (Some now)) defs tables → AllZip (HasRowsOf now) defs tables
+all_rows now [] [] are = tt
+all_rows now [] (table ∷ tables) are = absurd are
+all_rows now (def ∷ defs) [] are = absurd are
+all_rows now (def ∷ defs) (table ∷ tables) are = (are.0.rows, all_rows now defs tables are.1)
+
+-- what a table that isn't declared has is what it had
+unloaded : (program : Program) (loaded : List TableRows) (old : Tables) (x : List ℕ) → table_at program x ≡ None → loaded_over (table_defs program) loaded old x ≡ old x
+unloaded program loaded old x none = ap (λ o. rows_if o (rows_of loaded x) (old x)) none
+
+told_session : (program : Program) (loaded : List TableRows) (events : List Event) (printed : List TableRows) (old new : Option Tables)
+    → HasHistory program (option_map (loaded_over (table_defs program) loaded) old) new events
+    → KeepsOthers program (option_map (loaded_over (table_defs program) loaded) old) new
+    → AllZip (IsScanned new) (table_defs program) printed
+    → HasToldSession program loaded events printed old new
+told_session program loaded events printed None new history others are = tt
+told_session program loaded events printed (Some old) None history others are = absurd history
+told_session program loaded events printed (Some old) (Some new) history others are = record {
+  history = history;
+  same = all_rows new (table_defs program) printed are;
+  others = λ x none. others x none ∙ unloaded program loaded old x none;
+}
+
+-- a session over tables that were loaded
+pub session_over : (program : Program) (command : SourceCommand) (loaded : List TableRows) (done : Done) (old between new : Option Tables)
+    → between ≡ option_map (loaded_over (table_defs program) loaded) old
+    → IsRun program command.arg command.fuel new done.run → done.run.end ≢ end.StoreFault
+    → HasHistory program between new done.run.log → KeepsOthers program between new → AllZip (IsScanned new) (table_defs program) done.tables
+    → IsSessionOver program command loaded done old new
+session_over program command loaded done old between new is run ended history others are = record {
+  run = run;
+  ended = ended;
+  tables = all_of_table new (table_defs program) done.tables are;
+  told = told_session program loaded done.run.log done.tables old new (subst (λ told. HasHistory program told new done.run.log) is history) (subst (λ told. KeepsOthers program told new) is others) are;
+}
+
+-- where the tables are told, the rows of each declared one fit it
+pub each_told : (defs : List TableDef) (told : Option Tables) → IfSome told (λ tables. Each (λ (def : TableDef). all_fit def (tables def.name) ≡ true) defs) → Each (FitsTold told) defs
+each_told [] told fit = tt
+each_told (def ∷ defs) None fit = (tt, each_told defs None tt)
+each_told (def ∷ defs) (Some tables) fit = (fit.0, each_told defs (Some tables) fit.1)

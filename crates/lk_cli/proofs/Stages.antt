@@ -1,0 +1,123 @@
+-- The answers of stages as those of the whole.
+use Rattle.std.proofs.Common.{◌≡◌, ◌≤◌, refl, sym, ap, subst, inl, inr, ℕ, List, Result, Ok, Err, arith, bytes_eq, find}
+use Rattle.std.specs.Prelude.{Option, Some, None, IfOk, IsSomeAnd, OnErr, option_map}
+use Rattle.lk_ast.specs.Tables.{Tables, table_defs}
+use Rattle.lk_ast.specs.declared.declaration.Program.{Program}
+use Rattle.lk_ast.specs.declared.table.TableDef.{TableDef}
+use Rattle.lk_ast.specs.declared.table.TableRows.{TableRows}
+use Rattle.lk_outside.specs.Causes.{HasCause, Rose}
+use Rattle.lk_outside.specs.Files.{Contents}
+use Rattle.lk_outside.specs.declared.fault.OutFault.{OutFault}
+use Rattle.lk_outside.specs.declared.fault.OutFault.TheVariants.{Failed, NoMemory}
+use Rattle.lk_cli.specs.Answers.{Answers, AnswersSession, HasNoRows, HasStoreFault, IsAcceptedOf, IsSessionOver, answer_of}
+use Rattle.lk_cli.specs.Loading.{AreLeft, AreLoaded}
+use Rattle.lk_cli.specs.Seen.{CameBack, FilesSeen, StoreSeen, StoresSeen, store_seen, stores_seen}
+use Rattle.lk_cli.specs.Words.{store_of}
+use Rattle.lk_cli.specs.declared.answer.Answer.{Answer}
+use Rattle.lk_cli.specs.declared.answer.Answer.TheVariants.{Schemes, Run}
+use Rattle.lk_cli.specs.declared.answer.Done.{Done}
+use Rattle.lk_cli.specs.declared.answer.Refusal.{Refusal}
+use Rattle.lk_cli.specs.declared.answer.Refusal.TheVariants as refused
+use Rattle.lk_cli.specs.declared.command.Command.{Command}
+use Rattle.lk_cli.specs.declared.command.Command.TheVariants.{Source}
+use Rattle.lk_cli.specs.declared.command.SourceCommand.{SourceCommand}
+
+-- ---- the store
+
+pub came_back : (stores : StoresSeen) (before after : StoreSeen) (P : StoreSeen → StoreSeen → Type 0) → stores.given ≡ Some before → stores.back ≡ Some after → P before after → CameBack stores P
+came_back stores before after P given back is =
+    subst (λ g. IsSomeAnd g (λ b. IsSomeAnd stores.back (λ a. P b a))) (sym given) (subst (λ k. IsSomeAnd k (λ a. P before a)) (sym back) is)
+
+module _ {S : Type 0} (name : S → List ℕ) (tables : S → Option Tables) (faults : S → ℕ) (stores : List S) (wanted : List ℕ) where
+  pub given_none : None ≡ find (λ store. bytes_eq wanted (name store)) stores → option_map (store_seen tables faults) (find (λ store. bytes_eq wanted (name store)) stores) ≡ None
+  given_none first = ap (option_map (store_seen tables faults)) (sym first)
+
+  pub given_some : (store : S) → Some store ≡ find (λ store. bytes_eq wanted (name store)) stores
+      → option_map (store_seen tables faults) (find (λ store. bytes_eq wanted (name store)) stores) ≡ Some (store_seen tables faults store)
+  given_some store first = ap (option_map (store_seen tables faults)) (sym first)
+
+pub told_back : {S : Type 0} (tables : S → Option Tables) (faults : S → ℕ) (back : Option S) (store : S) → back ≡ Some store → option_map (store_seen tables faults) back ≡ Some (store_seen tables faults store)
+told_back tables faults back store is = ap (option_map (store_seen tables faults)) is
+
+-- the answer of a session that was tried
+pub tried_answer : (files : FilesSeen) (stores : StoresSeen) (command : SourceCommand) (program : Program) (loaded : List TableRows) (outcome : Result Done OutFault) (before after : StoreSeen) (answer : Result Answer Refusal)
+    → answer ≡ answer_of outcome → stores.given ≡ Some before → stores.back ≡ Some after
+    → AreLoaded files command.tables (table_defs program) loaded
+    → IfOk outcome (λ done. IsSessionOver program command loaded done before.tables after.tables)
+    → OnErr outcome (AreLeft program loaded before.tables after.tables)
+    → HasCause before.faults after.faults outcome
+    → AnswersSession files stores command program answer
+tried_answer files stores command program loaded outcome before after answer is given back are session left cause =
+    subst (AnswersSession files stores command program) (sym is) (by_outcome outcome session left cause)
+  where
+    by_outcome : (outcome : Result Done OutFault) → IfOk outcome (λ done. IsSessionOver program command loaded done before.tables after.tables)
+        → OnErr outcome (AreLeft program loaded before.tables after.tables) → HasCause before.faults after.faults outcome → AnswersSession files stores command program (answer_of outcome)
+    by_outcome (Ok done) session left cause = (loaded, are, came_back stores before after (λ b a. IsSessionOver program command loaded done b.tables a.tables) given back session)
+    by_outcome (Err Failed) session left cause = inr (inr (loaded, are, came_back stores before after (λ b a. Rose b.faults a.faults × AreLeft program loaded b.tables a.tables) given back (cause.failed refl, left)))
+    by_outcome (Err NoMemory) session left cause = inr (inr tt)
+
+-- ---- the files
+
+rose_earlier : (before middle after : ℕ) → before ≤ middle → Rose middle after → Rose before after
+rose_earlier before middle after le rose = omega (arith, le, rose)
+
+module _ (contents : Option Contents) (failed : List ℕ) (before middle after : ℕ) (le : before ≤ middle) where
+  abbrev whole : FilesSeen
+  whole = record { contents = contents; failed = failed; before = before; after = after }
+
+  abbrev later : FilesSeen
+  later = record { contents = contents; failed = failed; before = middle; after = after }
+
+  rows_earlier : (file : Option (List ℕ)) (defs : List TableDef) (why : Refusal) → HasNoRows later file defs why → HasNoRows whole file defs why
+  rows_earlier None defs why is = is
+  rows_earlier (Some file) defs refused.Words is = is
+  rows_earlier (Some file) defs (refused.ReadFault name) is = (rose_earlier before middle after le is.0, is.1, is.2)
+  rows_earlier (Some file) defs refused.TextTooLong is = is
+  rows_earlier (Some file) defs (refused.NotUtf8 at) is = is
+  rows_earlier (Some file) defs (refused.BadToken at) is = is
+  rows_earlier (Some file) defs (refused.TooNested at) is = is
+  rows_earlier (Some file) defs (refused.Unexpected at) is = is
+  rows_earlier (Some file) defs (refused.Unbound at) is = is
+  rows_earlier (Some file) defs (refused.Twice at) is = is
+  rows_earlier (Some file) defs refused.NoMain is = is
+  rows_earlier (Some file) defs (refused.TypeTooLarge at) is = is
+  rows_earlier (Some file) defs (refused.IllTyped at) is = is
+  rows_earlier (Some file) defs (refused.Shape kind at) is = is
+  rows_earlier (Some file) defs refused.TooManyInstances is = is
+  rows_earlier (Some file) defs (refused.NoStore name) is = is
+  rows_earlier (Some file) defs (refused.Tables kind) is = is
+  rows_earlier (Some file) defs refused.StoreFault is = is
+  rows_earlier (Some file) defs refused.NoMemory is = is
+
+  loaded_earlier : (file : Option (List ℕ)) (defs : List TableDef) (loaded : List TableRows) → AreLoaded later file defs loaded → AreLoaded whole file defs loaded
+  loaded_earlier None defs loaded are = are
+  loaded_earlier (Some file) defs loaded are = are
+
+  fault_earlier : (stores : StoresSeen) (file : Option (List ℕ)) (program : Program) (why : Refusal) → HasStoreFault later stores file program why → HasStoreFault whole stores file program why
+  fault_earlier stores None program why is = is
+  fault_earlier stores (Some file) program why is = is
+
+  answer_earlier : (stores : StoresSeen) (command : SourceCommand) (program : Program) (answer : Result Answer Refusal) → IsAcceptedOf whole command.program program
+      → AnswersSession later stores command program answer → Answers whole stores (Some (Source command)) answer
+  answer_earlier stores command program (Ok (Run done)) accepted (loaded, are, back) = (program, accepted, (loaded, loaded_earlier command.tables (table_defs program) loaded are, back))
+  answer_earlier stores command program (Ok (Schemes checked)) accepted is = absurd is
+  answer_earlier stores command program (Err why) accepted (inl none) = inr (program, accepted, inl none)
+  answer_earlier stores command program (Err why) accepted (inr (inl rows)) = inr (program, accepted, inr (inl (rows_earlier command.tables (table_defs program) why rows.0, rows.1)))
+  answer_earlier stores command program (Err why) accepted (inr (inr fault)) = inr (program, accepted, inr (inr (fault_earlier stores command.tables program why fault)))
+
+-- the answer of a session as that of its command, whose program was read before
+pub whole_answer : (contents between : Option Contents) (failed : List ℕ) (before middle after : ℕ) → between ≡ contents → before ≤ middle
+    → (stores : StoresSeen) (command : SourceCommand) (program : Program) (answer : Result Answer Refusal)
+    → IsAcceptedOf (record { contents = contents; failed = failed; before = before; after = after }) command.program program
+    → AnswersSession (record { contents = between; failed = failed; before = middle; after = after }) stores command program answer
+    → Answers (record { contents = contents; failed = failed; before = before; after = after }) stores (Some (Source command)) answer
+whole_answer contents between failed before middle after same le stores command program answer accepted is =
+    answer_earlier contents failed before middle after le stores command program answer accepted
+    (subst (λ c. AnswersSession (record { contents = c; failed = failed; before = middle; after = after }) stores command program answer) same is)
+
+-- ---- the words
+
+-- an answer to a command is one to the words that have its form
+pub form_answer : {S : Type 0} (files : FilesSeen) (name : S → List ℕ) (tables : S → Option Tables) (faults : S → ℕ) (stores : List S) (back : Option S) (command form : Option Command) (answer : Result Answer Refusal)
+    → command ≡ form → Answers files (stores_seen name tables faults stores back (store_of command)) command answer → Answers files (stores_seen name tables faults stores back (store_of form)) form answer
+form_answer files name tables faults stores back command form answer is has = subst (λ o. Answers files (stores_seen name tables faults stores back (store_of o)) o answer) is has

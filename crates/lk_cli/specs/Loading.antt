@@ -1,0 +1,79 @@
+-- The tables of a session: with which rows it begins, what becomes of them, and what is read of them at its end.
+use Rattle.std.specs.Prelude.{◌≡◌, ◌⊎◌, true, ℕ, List, [], ◌∷◌, Option, Some, None, IfSome, IsSomeAnd, IsPermutation, bytes_eq, find, map, option_map, if◌then◌else◌}
+use Rattle.std.specs.List.{AllZip}
+use Rattle.lk_ast.specs.Tables.{Tables, all_fit, rows_of, table_defs}
+use Rattle.lk_ast.specs.declared.declaration.Program.{Program}
+use Rattle.lk_ast.specs.declared.event.Event.{Event}
+use Rattle.lk_ast.specs.declared.table.Row.{Row}
+use Rattle.lk_ast.specs.declared.table.TableDef.{TableDef}
+use Rattle.lk_ast.specs.declared.table.TableRows.{TableRows}
+use Rattle.lk_bag.specs.Legal.{IsLegal}
+use Rattle.lk_sem.specs.SourceRuns.{HasSomeHistory}
+use Rattle.lk_sound.specs.Tables.{table_at}
+use Rattle.lk_tables.specs.Reading.{refusal, tables_in}
+use Rattle.lk_cli.specs.Seen.{FilesSeen, HasText}
+
+-- ---- the rows that a session begins with
+
+-- a declared table without rows
+abbrev pub empty_table : TableDef → TableRows
+empty_table def = record { name = def.name; rows = [] }
+
+-- the declared tables with the rows that a tables file has for them; where none is asked for they are empty
+abbrev pub AreLoaded : FilesSeen → Option (List ℕ) → List TableDef → List TableRows → Type 0
+AreLoaded files None defs loaded = loaded ≡ map empty_table defs
+AreLoaded files (Some file) defs loaded = (text : List ℕ) × HasText files file text × (refusal defs text ≡ None) × (tables_in defs text ≡ Some loaded)
+
+-- these rows where a table is declared, and others where none is
+abbrev pub rows_if : Option TableDef → List Row → List Row → List Row
+rows_if (Some def) rows others = rows
+rows_if None rows others = others
+
+-- the declared tables have the rows loaded, and all others their old ones
+abbrev pub loaded_over : List TableDef → List TableRows → Tables → Tables
+loaded_over defs loaded old name = rows_if (find (λ (def : TableDef). bytes_eq def.name name) defs) (rows_of loaded name) (old name)
+
+-- one table has these rows, and all others their old ones
+abbrev pub put : List ℕ → List Row → Tables → Tables
+put named rows old name = if bytes_eq named name then rows else old name
+
+-- these tables have their rows, put in one after the other, and all others their old ones
+abbrev pub all_put : List TableRows → Tables → Tables
+all_put [] old = old
+all_put (table ∷ tables) old = all_put tables (put table.name table.rows old)
+
+-- where the tables are told, the rows of this one fit it
+abbrev pub FitsTold : Option Tables → TableDef → Type 0
+FitsTold told def = IfSome told (λ tables. all_fit def (tables def.name) ≡ true)
+
+-- ---- what becomes of the tables
+
+-- the name of the declared table, and rows that fit it
+pub record IsOfTable (def : TableDef) (table : TableRows) : Type 0 where
+  pub name : table.name ≡ def.name
+  pub columns : all_fit def table.rows ≡ true
+
+-- the rows of that table, with the same repeats
+abbrev pub HasRowsOf : Tables → TableDef → TableRows → Type 0
+HasRowsOf tables def table = IsPermutation (tables def.name) table.rows
+
+-- the name of the declared table, and rows that fit it, which are those of the table where the tables are told
+pub record IsScanned (told : Option Tables) (def : TableDef) (table : TableRows) : Type 0 where
+  pub is : IsOfTable def table
+  pub rows : IfSome told (λ tables. HasRowsOf tables def table)
+
+-- The tables of a session that began with these rows over the old tables: the events lead to the new ones, which are printed, and
+-- tables that aren't declared are as they were.
+pub record HasSession (program : Program) (loaded : List TableRows) (events : List Event) (printed : List TableRows) (old new : Tables) : Type 0 where
+  pub history : IsLegal program (loaded_over (table_defs program) loaded old) events new
+  pub same : AllZip (HasRowsOf new) (table_defs program) printed
+  pub others : (x : List ℕ) → table_at program x ≡ None → new x ≡ old x
+
+-- where the tables were told they still are, and these are the tables of a session
+abbrev pub HasToldSession : Program → List TableRows → List Event → List TableRows → Option Tables → Option Tables → Type 0
+HasToldSession program loaded events printed old new = IfSome old (λ before. IsSomeAnd new (λ after. HasSession program loaded events printed before after))
+
+-- the tables that a session leaves which isn't answered: those from before, or where they were told, those that some events make
+-- of the rows loaded
+abbrev pub AreLeft : Program → List TableRows → Option Tables → Option Tables → Type 0
+AreLeft program loaded old new = (new ≡ old) ⊎ HasSomeHistory program (option_map (loaded_over (table_defs program) loaded) old) new

@@ -1,0 +1,12 @@
+pub mod Bags
+pub mod Bases
+pub mod Counts
+pub mod Follows
+pub mod Lists
+pub mod Params
+pub mod Parts
+pub mod Shows
+pub mod Sums
+pub mod Tests
+pub mod Unfold
+pub mod Whole

@@ -1,0 +1,3 @@
+pub mod Branches
+pub mod Given
+pub mod Order

@@ -1,0 +1,50 @@
+//! Parts of inlined queries.
+
+use lk_ast::{Base, Column, List, Text};
+use lk_sql::SqlOp;
+
+/// A part of an inlined query, which stands in a list of parts. It names its own parts by their numbers in the list, which are
+/// below its own, and the names that it binds by the numbers of theirs.
+#[derive(Debug, Drop)]
+pub enum Part {
+    Lit(Base),
+    /// A captured value, or the row of a `for`: what is bound to this part's number.
+    Bound,
+    /// A base: the second where the first is true, else the third.
+    Case(u32, u32, u32),
+    /// A list: the second where the first is true, else the third.
+    If(u32, u32, u32),
+    /// A record with these labels: the second part where the first is true, else the third.
+    IfRow(List<Text>, u32, u32, u32),
+    /// An operation on one base.
+    One(SqlOp, u32),
+    /// An operation on two bases.
+    Two(SqlOp, u32, u32),
+    /// Whether two records with these labels are equal.
+    EqRows(List<Text>, u32, u32),
+    /// Whether the list, of rows with these columns, is empty.
+    Empty(List<Column>, u32),
+    Record(List<Labelled>),
+    /// The record with these labels: what is listed, and the rest from the last part.
+    Extend(List<Text>, List<Labelled>, u32),
+    /// What a record has under the label.
+    Project(u32, Text),
+    /// The list of these records.
+    Items(List<u32>),
+    /// One list behind the other.
+    Append(u32, u32),
+    /// The lists that the third part gives, one behind the other, for each row of the first, which is bound to the number of the
+    /// second. A loop over a table is one over its rows.
+    ForList(u32, u32, u32),
+    /// The rows of a table with these columns.
+    Table(Text, List<Text>),
+    /// The list where the first is true, else the empty one.
+    Where(u32, u32),
+}
+
+/// A label of a record, and the part that is under it.
+#[derive(Debug, Drop)]
+pub struct Labelled {
+    pub label: Text,
+    pub part: u32,
+}

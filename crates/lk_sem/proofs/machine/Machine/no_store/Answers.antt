@@ -1,8 +1,0 @@
-use Rattle.lk_sem.proofs.Leading.{leads_missing, leads_missing_across}
-use Rattle.lk_sem.proofs.machine.Machine.no_store.Goals as goal
-
-pub returns-in_ok-push-in-Client-clause-leads : goal.returns-in_ok-push-in-Client-clause-leads
-returns-in_ok-push-in-Client-clause-leads c = leads_missing_across _ _ _ _ _ c.in-Client.is c.in_ok-push-in-Client.ensures.ok
-
-pub returns-in_default-clause-leads : goal.returns-in_default-clause-leads
-returns-in_default-clause-leads c = leads_missing _ _ _ _ c.in_default.not-Client

@@ -1,0 +1,19 @@
+use Rattle.std.proofs.Common.{rules, ◌≡◌, ◌+◌, ◌++◌, ◌∷◌, [], take, refl, sym, subst, add-one}
+use Rattle.std.proofs.Math.Seq.{take-suc}
+use Rattle.lk_sem.specs.Scans.{AreScanned}
+use Rattle.lk_sem.proofs.Scanned.{scanned_more}
+use Rattle.lk_sem.proofs.reads.scan_all.Goals as goal
+
+pub loop-def-preserved : goal.loop-def-preserved
+loop-def-preserved g c =
+    let more : take (c.loop-def.def-index + 1) c.args.defs.now ≡ take c.loop-def.def-index c.args.defs.now ++ c.def-item.result ∷ [] = rw (add-one, take-suc c.args.defs.now c.loop-def.def-index c.def-item.result c.loop-def-test.true, ← c.def-item.is) refl in
+    let told = (goal.Store-dyn g c.args.store.now).tables c.args.store.now.1 in
+    record {
+      name = search rules;
+      under_way = search rules;
+      tables = search rules;
+      kept = search rules;
+      later = search rules;
+      scanned = rw (more, c.in_ok-push.ensures.ok) (scanned_more told (take c.loop-def.def-index c.args.defs.now) c.def-item.result c.loop-def.scanned c.in_ok-scan_one.field-0 c.loop-def.invariant.scanned
+          (rw c.loop-def.invariant.tables at c.in_ok-scan_one.ensures.scanned));
+    }

@@ -1,0 +1,42 @@
+-- What an event, and the events so far, make of tables.
+use Rattle.std.specs.Prelude.{◌≡◌, ℕ, List, ◌∷◌, ◌++◌, Option, None, IfSome, IsSomeAnd}
+use Rattle.lk_ast.specs.Tables.{Tables}
+use Rattle.lk_ast.specs.declared.declaration.Program.{Program}
+use Rattle.lk_ast.specs.declared.event.Event.{Event}
+use Rattle.lk_ast.specs.declared.event.Event.TheVariants.{Read, Write}
+use Rattle.lk_ast.specs.declared.table.Row.{Row}
+use Rattle.lk_ast.specs.declared.value.Value.{Value}
+use Rattle.lk_bag.specs.Legal.{IsLegal}
+use Rattle.lk_sound.specs.Tables.{AreTables, table_at}
+
+-- the answer of a reading
+abbrev pub read_event : ℕ → List Value → List Row → Event
+read_event site args answer = Read (record { site = site; args = args; answer = answer })
+
+-- a writing
+abbrev pub write_event : ℕ → List Value → Event
+write_event site args = Write (record { site = site; args = args })
+
+-- a legal history from the later tables is one from the earlier, with these events before it
+pub record Precedes (p : Program) (before : Tables) (events : List Event) (after : Tables) : Type 0 where
+  pub on : (more : List Event) (last : Tables) → IsLegal p after more last → IsLegal p before (events ++ more) last
+
+-- the same of one event
+pub record Follows (p : Program) (before : Tables) (event : Event) (after : Tables) : Type 0 where
+  pub on : (more : List Event) (last : Tables) → IsLegal p after more last → IsLegal p before (event ∷ more) last
+
+-- where the tables were told they still are, and these events came between
+abbrev pub HasPast : Program → Option Tables → Option Tables → List Event → Type 0
+HasPast p old new events = IfSome old (λ before. IsSomeAnd new (λ after. Precedes p before events after))
+
+-- the same of one event
+abbrev pub HasFollowed : Program → Option Tables → Option Tables → Event → Type 0
+HasFollowed p old new event = IfSome old (λ before. IsSomeAnd new (λ after. Follows p before event after))
+
+-- where they are told before and after, tables that the program doesn't declare are as they were
+abbrev pub KeepsOthers : Program → Option Tables → Option Tables → Type 0
+KeepsOthers p old new = (x : List ℕ) → table_at p x ≡ None → IfSome old (λ before. IfSome new (λ after. after x ≡ before x))
+
+-- the tables fit, where they are told
+abbrev pub AreFit : Program → Option Tables → Type 0
+AreFit p told = IfSome told (AreTables p)

@@ -1,0 +1,118 @@
+//! Readings of tables.
+
+ghost use Rattle.std.specs.Prelude.{◌≡◌, true, false, IfOk, IfSome};
+ghost use Rattle.lk_ast.specs.Tables.{all_fit, rows_of};
+ghost use Rattle.lk_outside.specs.Causes.{HasCause};
+ghost use Rattle.lk_sem.specs.Histories.{AreFit, HasFollowed, read_event};
+ghost use Rattle.lk_sem.specs.Scans.{AreScanned, FitDefs, FitsDef, IsScanned};
+ghost use Rattle.lk_sound.specs.Law.{AreBoundAndApart};
+ghost use Rattle.lk_sound.specs.Tables.{IsAnswered, IsReading};
+
+use crate::catalog::Catalog;
+use lk_ast::{List, Row, TableDef, TableRows, Value};
+use lk_bag::answer;
+use lk_outside::{OutFault, Store};
+use std::alloc::Global;
+
+/// Reads tables in a transaction of its own, for what begins at that place with what it captured.
+pub fn read_at<'p>(
+    alloc: Global,
+    catalog: &Catalog<'p>,
+    store: &mut dyn Store,
+    site: u32,
+    args: &[Value],
+) -> Result<List<Row>, OutFault>
+    requires apart { AreBoundAndApart catalog.now }
+    requires idle { is_open store.old ≡ false }
+    requires fit { AreFit catalog.now (tables store.old) }
+    requires reading { IsReading catalog.now site args.now }
+    ensures name { name store.new ≡ name store.old }
+    ensures idle { is_open store.new ≡ false }
+    ensures tables { tables store.new ≡ tables store.old }
+    ensures cause { HasCause (faults store.old) (faults store.new) result }
+    ensures answered { IfOk result (λ answer. IsAnswered catalog.now (read_event site args.now answer)) }
+    ensures follows { IfOk result (λ answer. HasFollowed catalog.now (tables store.old) (tables store.old) (read_event site args.now answer)) }
+{
+    store.begin(alloc)?;
+    match read_open(alloc, catalog, store, site, args) {
+        Ok(rows) => {
+            store.commit(alloc)?;
+            Ok(rows)
+        }
+        Err(fault) => {
+            store.abort();
+            Err(fault)
+        }
+    }
+}
+
+/// Reads tables where a transaction is under way.
+fn read_open<'p>(
+    alloc: Global,
+    catalog: &Catalog<'p>,
+    store: &mut dyn Store,
+    site: u32,
+    args: &[Value],
+) -> Result<List<Row>, OutFault>
+    requires apart { AreBoundAndApart catalog.now }
+    requires under_way { is_open store.old ≡ true }
+    requires fit { AreFit catalog.now (tables store.old) }
+    requires reading { IsReading catalog.now site args.now }
+    ensures name { name store.new ≡ name store.old }
+    ensures under_way { is_open store.new ≡ true }
+    ensures tables { tables store.new ≡ tables store.old }
+    ensures kept { kept store.new ≡ kept store.old }
+    ensures cause { HasCause (faults store.old) (faults store.new) result }
+    ensures answered { IfOk result (λ answer. IsAnswered catalog.now (read_event site args.now answer)) }
+    ensures follows { IfOk result (λ answer. HasFollowed catalog.now (tables store.old) (tables store.old) (read_event site args.now answer)) }
+{
+    let scanned = scan_all(alloc, catalog.tables(), store)?;
+    let Some(block) = catalog.block(site) else {
+        unreachable!()
+    };
+    match answer(alloc, catalog.index(), scanned.as_slice(), block, args)? {
+        Some(rows) => Ok(rows),
+        None => unreachable!(),
+    }
+}
+
+/// Scans these tables where a transaction is under way.
+fn scan_all(
+    alloc: Global,
+    defs: &[TableDef],
+    store: &mut dyn Store,
+) -> Result<List<TableRows>, OutFault>
+    requires under_way { is_open store.old ≡ true }
+    requires fit { FitDefs defs.now (tables store.old) }
+    ensures name { name store.new ≡ name store.old }
+    ensures under_way { is_open store.new ≡ true }
+    ensures tables { tables store.new ≡ tables store.old }
+    ensures kept { kept store.new ≡ kept store.old }
+    ensures cause { HasCause (faults store.old) (faults store.new) result }
+    ensures scanned { IfOk result (λ scanned. AreScanned (tables store.old) defs.now scanned) }
+{
+    let mut scanned = List::new(alloc);
+    for def in defs {
+        scanned.push(scan_one(alloc, def, store)?)?;
+    }
+    Ok(scanned)
+}
+
+/// Scans a table where a transaction is under way.
+pub fn scan_one(alloc: Global, def: &TableDef, store: &mut dyn Store) -> Result<TableRows, OutFault>
+    requires under_way { is_open store.old ≡ true }
+    requires fit { FitsDef def.now (tables store.old) }
+    ensures name { name store.new ≡ name store.old }
+    ensures under_way { is_open store.new ≡ true }
+    ensures tables { tables store.new ≡ tables store.old }
+    ensures kept { kept store.new ≡ kept store.old }
+    ensures cause { HasCause (faults store.old) (faults store.new) result }
+    ensures scanned { IfOk result (λ table. IsScanned (tables store.old) def.now table) }
+{
+    let name_copy = def.name.copy(alloc)?;
+    let rows = store.scan(alloc, def)?;
+    Ok(TableRows {
+        name: name_copy,
+        rows,
+    })
+}

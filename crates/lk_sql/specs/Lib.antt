@@ -1,0 +1,6 @@
+pub mod Bags
+pub mod Good
+pub mod Keys
+pub mod Meaning
+pub mod Operations
+pub mod Text
