@@ -24,8 +24,6 @@ mod signature;
 mod statements;
 mod table;
 mod tables;
-#[cfg(test)]
-mod tests;
 mod text;
 mod token;
 mod tree_copies;

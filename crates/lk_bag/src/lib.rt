@@ -9,8 +9,6 @@ mod order;
 mod rows;
 mod sort;
 mod tables;
-#[cfg(test)]
-mod tests;
 mod walk;
 
 pub use answers::answer;

@@ -6,7 +6,5 @@
 
 mod classes;
 mod forest;
-#[cfg(test)]
-mod tests;
 
 pub use classes::Classes;

@@ -13,8 +13,6 @@ mod renamed;
 mod scope;
 mod signatures;
 mod tables;
-#[cfg(test)]
-mod tests;
 mod told;
 mod unknowns;
 

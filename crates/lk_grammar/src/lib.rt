@@ -11,8 +11,6 @@ mod levels;
 mod names;
 mod primaries;
 mod program;
-#[cfg(test)]
-mod tests;
 
 pub use error::GrammarError;
 pub use program::read_program;

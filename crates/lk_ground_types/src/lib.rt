@@ -17,8 +17,6 @@ mod made_row;
 mod matching;
 mod same;
 mod shapes;
-#[cfg(test)]
-mod tests;
 mod under;
 
 pub use bindings::Bindings;

@@ -4,8 +4,6 @@
 mod free;
 mod index;
 mod places;
-#[cfg(test)]
-mod tests;
 
 pub use free::{captured, captured_change, captured_query};
 pub use index::{Index, IndexedLambda};

@@ -6,7 +6,5 @@
 
 mod layer;
 mod locals;
-#[cfg(test)]
-mod tests;
 
 pub use locals::Locals;

@@ -10,8 +10,6 @@ mod globals;
 mod program;
 mod repeats;
 mod scoped;
-#[cfg(test)]
-mod tests;
 mod types;
 
 pub use error::NameError;

@@ -6,8 +6,6 @@
 
 mod law;
 mod site;
-#[cfg(test)]
-mod tests;
 mod walk;
 
 pub use law::outline_laws;

@@ -24,6 +24,3 @@ pub use os_files::OsFiles;
 pub use sink::Sink;
 pub use std_sink::StdSink;
 pub use store::Store;
-
-#[cfg(test)]
-mod tests;

@@ -12,8 +12,6 @@ mod program;
 mod scan;
 mod signs;
 mod start;
-#[cfg(test)]
-mod tests;
 
 pub use error::ParseError;
 pub use lk_ast::{Token, TokenKind};

@@ -5,8 +5,6 @@
 mod eat;
 mod stop;
 mod tables;
-#[cfg(test)]
-mod tests;
 mod tokens;
 
 pub use eat::{eat_any_tag, eat_name, eat_sign, eat_tag, eat_word};

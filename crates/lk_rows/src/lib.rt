@@ -3,8 +3,6 @@
 
 mod error;
 mod signature;
-#[cfg(test)]
-mod tests;
 mod types;
 
 pub use error::SigError;

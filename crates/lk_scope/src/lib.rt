@@ -7,8 +7,6 @@
 mod expression;
 mod names;
 mod program;
-#[cfg(test)]
-mod tests;
 
 pub use names::Names;
 pub use program::scoped;

@@ -5,8 +5,6 @@ mod choice;
 mod failing;
 mod memory;
 mod named_tables;
-#[cfg(test)]
-mod tests;
 
 pub use choice::pick;
 pub use failing::FailingStore;

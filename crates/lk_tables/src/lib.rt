@@ -10,8 +10,6 @@ mod error;
 mod file;
 mod printing;
 mod rows;
-#[cfg(test)]
-mod tests;
 
 pub use error::TablesError;
 pub use file::read_tables;

@@ -10,8 +10,6 @@ mod ground;
 mod ground_text;
 mod names;
 mod scheme;
-#[cfg(test)]
-mod tests;
 mod ty;
 mod type_text;
 mod variables;

@@ -4,8 +4,6 @@
 
 mod law;
 mod step;
-#[cfg(test)]
-mod tests;
 
 pub use law::typing_laws;
 pub use step::{Said, Step};

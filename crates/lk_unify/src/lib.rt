@@ -8,8 +8,6 @@
 
 mod chain;
 mod constrained;
-#[cfg(test)]
-mod constrained_tests;
 mod constraint;
 mod load;
 mod loader;
@@ -19,8 +17,6 @@ mod row_fields;
 mod side_sizes;
 mod small;
 mod solvable;
-#[cfg(test)]
-mod solve_tests;
 mod unifying;
 
 pub use constrained::solve;

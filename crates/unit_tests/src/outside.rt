@@ -1,5 +1,9 @@
-use super::*;
+//! The forms in memory, and the adapters over real files and standard output.
+
 use lk_ast::{Bytes, List, Text};
+use lk_outside::{
+    FileEntry, Files, MemFiles, MemSink, NumberedCalls, OsFiles, OutFault, Sink, StdSink, Store,
+};
 use std::fmt::Display;
 use std::io::ErrorKind;
 use std::test::Fail;

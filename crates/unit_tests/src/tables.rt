@@ -1,7 +1,7 @@
 //! Tables files, read and printed again, with what is wanted worked out by hand.
 
-use crate::{TablesError, print_tables, read_tables};
 use lk_ast::{BaseKind, Column, List, NoMemory, TableDef, Text};
+use lk_tables::{TablesError, print_tables, read_tables};
 use std::alloc::Global;
 use std::test::Fail;
 

@@ -1,9 +1,9 @@
 //! Types written, worked by hand.
 
-use crate::{
+use lk_ast::{Boxed, List, NoMemory, Text};
+use lk_types::{
     Effect, Effects, Ground, GroundField, RowTail, Ty, TyField, TyRow, print_ground, print_type,
 };
-use lk_ast::{Boxed, List, NoMemory, Text};
 use std::alloc::Global;
 use std::test::Fail;
 

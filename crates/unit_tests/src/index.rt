@@ -1,7 +1,7 @@
 //! A lambda and a program made by hand, and what is found of them.
 
-use crate::{Index, captured};
 use lk_ast::{Boxed, Decl, Expr, FunDef, LambdaExpr, List, Loc, Node, Program, Span, Text, Word};
+use lk_index::{Index, captured};
 use std::alloc::{AllocError, Global};
 use std::test::Fail;
 

@@ -1,6 +1,6 @@
 //! A call of the laws, which does nothing.
 
-use crate::typing_laws;
+use lk_typing::typing_laws;
 use std::test::Fail;
 
 #[test]

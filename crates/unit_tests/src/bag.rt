@@ -1,10 +1,10 @@
 //! A query, an update and a deletion made by hand, over two tables.
 
-use crate::{Blocks, answer, kept_rows, updated_rows};
 use lk_ast::{
     Base, Boxed, Cell, ChangeExpr, Decl, Expr, FunDef, List, Loc, Node, PartExpr, Program, Row,
     SortKey, Span, TableRows, Text, Value, Word, holds_function, rows_value, value_text,
 };
+use lk_bag::{Blocks, answer, kept_rows, updated_rows};
 use lk_index::Index;
 use std::alloc::Global;
 use std::test::Fail;

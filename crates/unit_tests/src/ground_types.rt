@@ -1,10 +1,10 @@
 //! Ground types and what types become, worked by hand.
 
-use crate::{
+use lk_ast::{Boxed, List, NoMemory, Text};
+use lk_ground_types::{
     Bindings, copy_type, effects_of, ground_effects, ground_type, has_function, is_base, is_flat,
     is_list, is_query_type, same_type,
 };
-use lk_ast::{Boxed, List, NoMemory, Text};
 use lk_types::{Effect, Effects, Ground, GroundField, RowTail, Ty, TyField, TyRow, print_ground};
 use std::alloc::Global;
 use std::test::Fail;

@@ -1,8 +1,8 @@
 //! Lists of constraints, worked by hand.
 
-use crate::{Constraint, Sizing, UnifyError, solve};
 use lk_ast::{Boxed, List, NoMemory, Text};
 use lk_types::{Equation, RowTail, Ty, TyField, TyRow, print_type};
+use lk_unify::{Constraint, Sizing, UnifyError, solve};
 use std::alloc::Global;
 use std::process::Abort;
 use std::test::Fail;

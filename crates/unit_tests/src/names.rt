@@ -1,10 +1,10 @@
 //! Small programs, their names bound or refused.
 
-use crate::{NameError, resolve};
 use lk_ast::{
     BaseKind, Boxed, ColumnDecl, Decl, Expr, FunDef, List, Loc, Node, Program, Span, TableDecl,
     Text, Word,
 };
+use lk_names::{NameError, resolve};
 use std::alloc::Global;
 use std::test::Fail;
 

@@ -1,4 +1,6 @@
-use crate::{
+//! Values, trees and texts: copies, equality, order, JSON, worked by hand.
+
+use lk_ast::{
     Base, BaseKind, Boxed, Bytes, Cell, ColumnDecl, Decl, Expr, Field, FunDef, FunValue, List, Loc,
     NoMemory, Node, Program, Row, Shared, Sig, SigType, Span, TableDecl, Text, Value, Word,
     base_order, copy_program, copy_row, copy_value, equal, first_statement, holds_function,

@@ -1,7 +1,7 @@
 //! Functions made by hand, and their outlines.
 
-use crate::{Around, Kind, Site, outline};
 use lk_ast::{Boxed, Expr, FunDef, LambdaExpr, List, Loc, Node, Span, Text, Word};
+use lk_outline::{Around, Kind, Site, outline};
 use std::alloc::{AllocError, Global};
 use std::test::Fail;
 

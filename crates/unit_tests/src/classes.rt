@@ -1,6 +1,6 @@
 //! The names after unions, worked by hand.
 
-use crate::Classes;
+use lk_classes::Classes;
 use std::alloc::Global;
 use std::test::Fail;
 

@@ -1,7 +1,7 @@
 //! Tables of programs, worked by hand.
 
-use crate::{GrammarError, read_program};
 use lk_ast::{NoMemory, Span, Text, Token, TokenKind};
+use lk_grammar::{GrammarError, read_program};
 use std::alloc::Global;
 use std::process::Abort;
 use std::test::Fail;

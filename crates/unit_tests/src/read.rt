@@ -1,11 +1,11 @@
 //! The tokens of `fun x(X "x" 7)`, worked by hand.
 
-use crate::{
+use lk_ast::{NoMemory, Span, Text, Token, TokenKind};
+use lk_read::{
     Stop, eat_any_tag, eat_name, eat_sign, eat_tag, eat_word, is_any_tag, is_keyword, is_name,
     is_one_of, is_sign, is_tag, is_word, next_is_any_tag, next_is_name, next_is_sign, next_is_tag,
     next_is_word, word_of,
 };
-use lk_ast::{NoMemory, Span, Text, Token, TokenKind};
 use std::alloc::Global;
 use std::test::Fail;
 

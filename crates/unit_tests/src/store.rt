@@ -1,6 +1,8 @@
-use super::*;
+//! Stores in memory, call by call, and one of several by its name.
+
 use lk_ast::{Base, BaseKind, Cell, Column, List, NoMemory, Row, TableDef, Text};
 use lk_outside::{OutFault, Store};
+use lk_store::{FailingStore, MemoryStore, pick};
 use std::alloc::Global;
 use std::test::Fail;
 

@@ -1,7 +1,7 @@
 //! A tree as the grammar gives it, and the program that is meant.
 
-use crate::scoped;
 use lk_ast::{Boxed, Decl, Expr, FunDef, List, Loc, Node, Program, Span, Text, Word};
+use lk_scope::scoped;
 use std::alloc::{AllocError, Global};
 use std::test::Fail;
 

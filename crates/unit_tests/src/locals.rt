@@ -1,7 +1,7 @@
 //! Names that are bound in a scope that is shared, and in one's own.
 
-use crate::Locals;
 use lk_ast::{Base, List, Span, Text, Value, Word, holds_function, value_text};
+use lk_locals::Locals;
 use std::alloc::Global;
 use std::test::Fail;
 

@@ -1,8 +1,8 @@
 //! Tables of types, worked by hand.
 
-use crate::{SigError, read_sig, read_type};
 use lk_ast::{NoMemory, SigField, SigType, Span, Text, Token, TokenKind};
 use lk_read::Stop;
+use lk_rows::{SigError, read_sig, read_type};
 use std::alloc::Global;
 use std::process::Abort;
 use std::test::Fail;

@@ -1,6 +1,6 @@
 //! Names that hide others, and come back.
 
-use crate::scope::Scope;
+use lk_equations::Scope;
 use std::alloc::Global;
 use std::test::Fail;
 

@@ -1,8 +1,8 @@
 //! Lists of equations of types, worked by hand.
 
-use crate::first_unsolvable;
 use lk_ast::{Boxed, List, NoMemory, Text};
 use lk_types::{Effect, Effects, Equation, RowTail, Ty, TyField, TyRow};
+use lk_unify::first_unsolvable;
 use std::alloc::Global;
 use std::test::Fail;
 
