@@ -1,12 +1,10 @@
 //! The program `links`: the real files, standard output and a store in memory, and the top call, which does all else.
 #![tactic(auto)]
 
-ghost use Rattle.std.specs.Prelude.{◌≡◌, All, IfOk, false};
-
 use lk_cli::links_main;
 use lk_outside::{OsFiles, StdSink, Store};
 use lk_store::MemoryStore;
-use std::alloc::{AllocError, Global};
+use std::alloc::Global;
 use std::io::ErrorKind;
 use std::process::ExitCode;
 use std::rt::Env;
@@ -20,9 +18,14 @@ fn main(rt: HostRuntime) -> ExitCode {
         // Words that aren't UTF-8 have no form, as no words at all.
         Err(_) => Vec::new(alloc),
     };
-    let Ok(stores) = stores(alloc) else {
+    // The stores that a command may ask for: one in memory, without tables.
+    let mut stores: Vec<Box<dyn Store + Drop>> = Vec::new(alloc);
+    let Ok(memory) = Box::new(alloc, MemoryStore::new(alloc)) else {
         return ExitCode::from(5);
     };
+    if stores.push(memory).is_err() {
+        return ExitCode::from(5);
+    }
     let mut files = OsFiles::new(&rt);
     let mut out = StdSink::new(&rt);
     let ran = links_main(alloc, &words, &mut files, stores, &mut out);
@@ -36,13 +39,4 @@ fn words(rt: &(impl Env + AllocGlobal), alloc: Global) -> io::Result<Vec<String>
         words.push(word)?;
     }
     Ok(words)
-}
-
-/// The stores that a command may ask for: one in memory, without tables.
-fn stores(alloc: Global) -> Result<Vec<Box<dyn Store + Drop>>, AllocError>
-    ensures { IfOk result (λ stores. All (λ store. is_open store ≡ false) stores.items) }
-{
-    let mut stores: Vec<Box<dyn Store + Drop>> = Vec::new(alloc);
-    stores.push(Box::new(alloc, MemoryStore::new(alloc))?)?;
-    Ok(stores)
 }
