@@ -14,7 +14,7 @@ use Rattle.lk_ground.specs.declared.program.GroundFun.{GroundFun}
 use Rattle.lk_ground.specs.declared.program.GroundProgram.{GroundProgram}
 use Rattle.lk_ground_types.proofs.Parts.{same_some}
 use Rattle.lk_ground_types.specs.Least.{least}
-use Rattle.lk_ground_types.specs.Shapes.{has_function, is_flat}
+use Rattle.lk_ground_types.specs.Shapes.{has_function, is_flat, is_query_type}
 use Rattle.lk_infer.proofs.Principal.{inferred_principal}
 use Rattle.lk_infer.specs.Inferred.{HasTypes}
 use Rattle.lk_mono.proofs.BlockParts.{BlockUses, PartUses, UsesInside, part_uses}
@@ -24,7 +24,10 @@ use Rattle.lk_mono.proofs.HelperUses.{IsClear, IsGood, all_good, good_block}
 use Rattle.lk_mono.proofs.Loopless.{IsLoopless, flat_type}
 use Rattle.lk_mono.proofs.MainUses.{is_of_text}
 use Rattle.lk_mono.proofs.Ranks.{lower}
-use Rattle.lk_mono.specs.Grounded.{Are, AreCalled, IsGrounded}
+use Rattle.lk_ground.specs.Language.{function_of as function_in}
+use Rattle.lk_mono.specs.Grounded.{Are, AreCalled, IsGrounded, IsInstance}
+use Rattle.lk_mono.specs.Held.{types_in}
+use Rattle.lk_mono.specs.Instanced.{AreInstancesOf, HasInstances, IsInstanceOf}
 use Rattle.lk_mono.specs.Grounded as grounded
 use Rattle.lk_mono.specs.Instances.{Body, HasBody as HasNodes, IsBody, IsDone, IsMain, IsWalked, Turn, Wanted, uses_of}
 use Rattle.lk_mono.specs.Shapes.{AreShaped, IsFaultless, IsNotFlat, IsShaped as AllFaultless, IsUsedBy, answer_level, answers_function}
@@ -37,6 +40,7 @@ use Rattle.lk_principal.proofs.There.{as_many_schemes}
 use Rattle.lk_principal.specs.Bodies.{IsSeenBy}
 use Rattle.lk_principal.specs.Law.{UseLaw}
 use Rattle.lk_sound.proofs.Apart.{functions_apart}
+use Rattle.lk_sound.proofs.FlatTypes.{second_holds}
 use Rattle.lk_sound.proofs.Members.{each_in, found_in}
 use Rattle.lk_sound.specs.Functions.{AreSeen, HasFunctionType}
 use Rattle.lk_sound.specs.Instances.{AreClosed, HasBody, Instances, IsFine, IsFlatBlock, IsFlatPart, IsHelperNode, IsListed, IsShaped, number_in, number_of}
@@ -146,7 +150,7 @@ all_hold test (x ∷ xs) isnt = (holds_or_not (test x) (λ fails. isnt (inl fail
 
 flat_parts : (helpers : List Use) (parts : List Part) → Each IsFlat parts → Each (PartUses (IsListed helpers)) parts → Each (IsFlatPart helpers) parts
 flat_parts helpers [] flat uses = tt
-flat_parts helpers (part ∷ parts) flat uses = (record { type = flat_type part.type _ flat.0; calls = uses.0 }, flat_parts helpers parts flat.1 uses.1)
+flat_parts helpers (part ∷ parts) flat uses = (record { type = flat_type part.type _ flat.0; compares = second_holds (is_query_type part.type) _ flat.0; calls = uses.0 }, flat_parts helpers parts flat.1 uses.1)
 
 module _ (bodies : List Body) where
   flat_block : (node : TypedNode) → IsFaultless bodies node → BlockUses (IsListed (uses_of bodies)) node → (block : Block) → node.block ≡ Some block → IsFlatBlock (uses_of bodies) block
@@ -173,18 +177,38 @@ each_inside mains helpers [] all = tt
 each_inside mains helpers (node ∷ nodes) all = (inside_listed mains helpers node all.0, each_inside mains helpers nodes all.1)
 
 module _ (use_law : UseLaw) (p : Program) (schemes : List Scheme) (types : List Ty) (has : HasTypes p schemes types) (bound : IsBound p) (helpers : List Body) (mains : List Use) where
-  main_body : (u : Use) (nodes : List TypedNode) → IsBody p schemes types u nodes → Each (IsFaultless helpers) nodes → Each (IsPlacedUse mains (uses_of helpers) false) nodes → HasBody p (IsFine (the_set helpers mains)) u
-  main_body u nodes body faultless uses =
-      has_body has (IsFine (the_set helpers mains)) body
-      (fine_nodes helpers mains nodes uses faultless
+  main_nodes : (u : Use) (nodes : List TypedNode) → IsBody p schemes types u nodes → Each (IsFaultless helpers) nodes → Each (IsPlacedUse mains (uses_of helpers) false) nodes → Each (IsFine (the_set helpers mains)) nodes
+  main_nodes u nodes body faultless uses =
+      fine_nodes helpers mains nodes uses faultless
       (subst (Each (BlockUses (IsListed (uses_of helpers)))) (sym body.are)
-      (part_uses (IsListed (uses_of helpers)) false body.typed.is.typed.body (subst (Each (UsesInside (IsListed (uses_of helpers)))) body.are (each_inside mains (uses_of helpers) nodes uses)))))
+      (part_uses (IsListed (uses_of helpers)) false body.typed.is.typed.body (subst (Each (UsesInside (IsListed (uses_of helpers)))) body.are (each_inside mains (uses_of helpers) nodes uses))))
 
   all_mains : (fs : List GroundFun) (bodies : List Body) → Are p mains (uses_of helpers) false fs bodies → Each (HasNodes p schemes types) bodies → Each (AllFaultless helpers) bodies
       → Each (HasBody p (IsFine (the_set helpers mains))) (uses_of bodies)
   all_mains _ _ Are.none have shaped = tt
   all_mains _ _ (Are.more {f} {fs} {body} {bodies} is others) have shaped =
-      (main_body body.use_of body.nodes have.0 shaped.0 (placed_uses mains (uses_of helpers) false body.nodes f.calls is.calls), all_mains fs bodies others have.1 shaped.1)
+      (has_body has (IsFine (the_set helpers mains)) have.0 (main_nodes body.use_of body.nodes have.0 shaped.0 (placed_uses mains (uses_of helpers) false body.nodes f.calls is.calls)), all_mains fs bodies others have.1 shaped.1)
+
+  -- an instance, of which its types and calls are told
+  instance_of : {f : GroundFun} {body : Body} (in_helper : Bool) (P : TypedNode → Type 0) → IsInstance p mains (uses_of helpers) in_helper f body → (its : IsBody p schemes types body.use_of body.nodes) → Each P body.nodes
+      → IsInstanceOf p (the_set helpers mains) in_helper P (function_in f) f body.use_of
+  unfolding typed_there
+  instance_of {f = f} {body = body} in_helper P is its all =
+      subst (λ function. IsInstanceOf p (the_set helpers mains) in_helper P function f body.use_of) (same_some (sym its.named ∙ is.function))
+      (record {
+        named = its.named;
+        has = typed_there has its;
+        nodes = subst (Each P) its.are all;
+        types = is.types ∙ ap types_in its.are;
+        calls = subst (λ nodes. AreCalled mains (uses_of helpers) in_helper nodes f.calls) its.are is.calls;
+      })
+
+  main_instances : (fs : List GroundFun) (bodies : List Body) → Are p mains (uses_of helpers) false fs bodies → Each (HasNodes p schemes types) bodies → Each (AllFaultless helpers) bodies
+      → AreInstancesOf p (the_set helpers mains) false (λ u. IsFine (the_set helpers mains)) fs (uses_of bodies)
+  main_instances _ _ Are.none have shaped = AreInstancesOf.none
+  main_instances _ _ (Are.more {f} {fs} {body} {bodies} is others) have shaped =
+      AreInstancesOf.more (instance_of false (IsFine (the_set helpers mains)) is have.0 (main_nodes body.use_of body.nodes have.0 shaped.0 (placed_uses mains (uses_of helpers) false body.nodes f.calls is.calls)))
+      (main_instances fs bodies others have.1 shaped.1)
 
   -- ---- helpers
 
@@ -203,7 +227,7 @@ module _ (use_law : UseLaw) (p : Program) (schemes : List Scheme) (types : List 
   helper_nodes body loopless have [] among flat uses = tt
   helper_nodes body loopless have (node ∷ nodes) among flat uses = (
     record {
-      flat = record { type = flat_type node.part.type _ flat.0; calls = uses.0 };
+      flat = record { type = flat_type node.part.type _ flat.0; compares = second_holds (is_query_type node.part.type) _ flat.0; calls = uses.0 };
       before = λ w is. before body loopless w (among w (inl is)) helpers have (uses.0 w is);
     },
     helper_nodes body loopless have nodes (λ w one. among w (inr one)) flat.1 uses.1,
@@ -218,6 +242,16 @@ module _ (use_law : UseLaw) (p : Program) (schemes : List Scheme) (types : List 
         (helper_nodes have.0 good.0.0 all body.nodes (λ w one. one) (good.0.1 body.use_of body.nodes shapes.Reaches.itself (among body (inl refl))) (placed_uses mains (uses_of helpers) true body.nodes f.calls is.calls)),
     all_helpers all fs bodies others have.1 (λ b one. among b (inr one)) good.1,
   )
+
+  helper_instances : Each (HasNodes p schemes types) helpers → (fs : List GroundFun) (bodies : List Body) → Are p mains (uses_of helpers) true fs bodies → Each (HasNodes p schemes types) bodies
+      → ((body : Body) → OneOf (λ b. b ≡ body) bodies → OneOf (λ b. b ≡ body) helpers) → Each (IsGood helpers) (uses_of bodies)
+      → AreInstancesOf p (the_set helpers mains) true (λ u. IsHelperNode p (uses_of helpers) u) fs (uses_of bodies)
+  helper_instances all _ _ Are.none have among good = AreInstancesOf.none
+  helper_instances all _ _ (Are.more {f} {fs} {body} {bodies} is others) have among good =
+      AreInstancesOf.more
+      (instance_of true (IsHelperNode p (uses_of helpers) body.use_of) is have.0
+      (helper_nodes have.0 good.0.0 all body.nodes (λ w one. one) (good.0.1 body.use_of body.nodes shapes.Reaches.itself (among body (inl refl))) (placed_uses mains (uses_of helpers) true body.nodes f.calls is.calls)))
+      (helper_instances all fs bodies others have.1 (λ b one. among b (inr one)) good.1)
 
 -- ---- the first instance
 
@@ -244,6 +278,20 @@ module _ (use_law : UseLaw) (instance_law : InstanceLaw) (p : Program) (schemes 
     mains = all_mains use_law p schemes types has bound helpers (uses_of mains) funs mains are_funs main_bodies shaped;
     helpers = all_helpers use_law p schemes types has bound helpers (uses_of mains) helper_bodies others helpers are_others helper_bodies (λ body one. one) good;
   }
+
+  pub instanced : (g : GroundProgram) → IsGrounded p schemes types g → HasInstances p g
+  instanced g is = elim is.shaped [ AreShaped.shaped {main = body} {others = others} same none each ↦ from_each each ]
+    where
+      good : Each (AllFaultless is.helpers) is.mains → Each (IsGood is.helpers) (uses_of is.helpers)
+      good each = all_good outline_law p schemes types bound is.mains is.helpers is.instances is.shaped
+
+      from_each : Each (AllFaultless is.helpers) is.mains → HasInstances p g
+      from_each each = record {
+        instances = the_set is.helpers (uses_of is.mains);
+        closed = closed is.mains is.helpers g.funs g.helpers is.funs is.others is.instances.main_bodies is.instances.helper_bodies each (good each);
+        mains = main_instances use_law p schemes types has bound is.helpers (uses_of is.mains) g.funs is.mains is.funs is.instances.main_bodies each;
+        helpers = helper_instances use_law p schemes types has bound is.helpers (uses_of is.mains) is.instances.helper_bodies g.helpers is.helpers is.others is.instances.helper_bodies (λ body one. one) (good each);
+      }
 
   pub shaped : (g : GroundProgram) → IsGrounded p schemes types g → IsShaped p
   shaped g is = elim is.shaped [ AreShaped.shaped {main = body} {others = others} same none each ↦ at_first body others same none each ]

@@ -1,6 +1,7 @@
 pub mod Flatness
 pub mod Grounded
 pub mod Held
+pub mod Instanced
 pub mod Instances
 pub mod Judged
 pub mod Keeps

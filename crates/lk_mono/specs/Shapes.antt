@@ -1,23 +1,17 @@
 -- The shapes that a ground program has, so that sessions can be shown and queries can be run by a database: the answer of
 -- `main` has no function in it, functions aren't compared, only bases are put in order, and queries are flat (Cheney, Lindley
 -- and Wadler, A practical theory of language-integrated query, 2013; Cooper, The script-writer's dream, 2009).
-use Rattle.std.specs.Prelude.{◌≡◌, Bool, true, false, ◌&&◌, not, List, [], ◌∷◌, Option, Some, None}
+use Rattle.std.specs.Prelude.{◌≡◌, Bool, true, false, ◌&&◌, List, [], ◌∷◌, Option, Some, None}
 use Rattle.lk_ast.specs.declared.place.Span.{Span}
-use Rattle.lk_ground_types.specs.Shapes.{has_function, is_base, is_flat, is_list, is_query_type}
+use Rattle.lk_ground_types.specs.Shapes.{has_function, is_base, is_flat, is_query_type}
 use Rattle.lk_mono.specs.Instances.{Body}
 use Rattle.lk_mono.specs.declared.error.ShapeKind.{ShapeKind}
 use Rattle.lk_mono.specs.declared.error.ShapeKind.TheVariants.{MainType, EqualityAtFunction, OrderAtNonBase, QueryNotFlat, QueryCapture}
-use Rattle.lk_sound.specs.Nodes.{Use, Comparison, Equality, Order, Part, Block, TypedNode, parts_of}
+use Rattle.lk_sound.specs.Nodes.{Use, Comparison, Equality, Order, Part, Block, TypedNode, may_compare, parts_of}
 use Rattle.lk_types.specs.Each.{Each, OneOf}
 use Rattle.lk_types.specs.declared.ground.Ground.{Ground, out-Ground}
 use Rattle.lk_types.specs.declared.ground.Ground.TheOpen.{Ground-F}
 use Rattle.lk_types.specs.declared.ground.GroundField.{GroundField}
-
--- what a query may compare: no lists, and in order only bases
-abbrev pub may_compare : Option Comparison → Bool
-may_compare None = true
-may_compare (Some (Equality t)) = not (is_list t)
-may_compare (Some (Order t)) = is_base t
 
 -- whether it may stand in a query, an update or a deletion
 abbrev pub is_flat_part : Part → Bool

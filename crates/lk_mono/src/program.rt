@@ -4,6 +4,7 @@ ghost use Rattle.lk_ast.specs.declared.place.Span.{Span as TheSpan};
 ghost use Rattle.lk_infer.specs.Inferred.{HasTypes};
 ghost use Rattle.lk_mono.specs.Grounded.{Are, AreAllCalled, IsGrounded};
 ghost use Rattle.lk_mono.specs.Held.{AreHeld, IsSource};
+ghost use Rattle.lk_mono.specs.Instanced.{HasInstances};
 ghost use Rattle.lk_mono.specs.Instances.{AreTooMany, Body as TheBody, IsTooLarge, uses_of};
 ghost use Rattle.lk_mono.specs.Keeps.{Keeps, SameEvents};
 ghost use Rattle.lk_mono.specs.Listed.{AreFound};
@@ -136,7 +137,7 @@ fn ground_source<'p>(alloc: Global, source: Source<'_, 'p>) -> Result<GroundProg
 /// instances in both lists together as `TooManyInstances`; and then what can't be shown, compared or run by a database as
 /// `Shape`, at the first place. `NoMemory` where memory runs out.
 ///
-/// Its instances are a closed set whose queries are flat. So no function stands in what the sessions of a program that has one
+/// Its instances are a closed set whose queries are flat, with the types of their nodes and what their uses call. So no function stands in what the sessions of a program that has one
 /// show, these have the same events as the sessions of the ground program, and no helper calls itself, directly or through
 /// others.
 pub fn ground<'p>(
@@ -148,6 +149,7 @@ pub fn ground<'p>(
     ensures grounded { IfOk result (IsGrounded program.now typed.now.schemes typed.now.types) }
     ensures keeps { IfOk result (Keeps program.now) }
     ensures closed { IfOk result (λ done. IsShaped program.now) }
+    ensures instances { IfOk result (HasInstances program.now) }
     ensures plain { IfOk result (λ done. ShowsPlain program.now) }
     ensures events { IfOk result (SameEvents program.now) }
     ensures ranked { IfOk result AreRanked }

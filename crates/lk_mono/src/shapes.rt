@@ -11,7 +11,8 @@ ghost use Rattle.lk_mono.specs.Flatness.{order_fault as the_order_fault, other_c
 ghost use Rattle.lk_mono.specs.Grounded.{AreAllCalled};
 ghost use Rattle.lk_mono.specs.Held.{AreHeld};
 ghost use Rattle.lk_mono.specs.Instances.{AreDistinct, Body as TheBody, uses_of};
-ghost use Rattle.lk_mono.specs.Shapes.{answers_function as answer_has_function, may_compare as comparable};
+ghost use Rattle.lk_mono.specs.Shapes.{answers_function as answer_has_function};
+ghost use Rattle.lk_sound.specs.Nodes.{may_compare as comparable};
 ghost use Rattle.lk_mono.specs.declared.body.Source.{Source};
 ghost use Rattle.lk_outline.specs.Shown.{shown, shown_kind, shown_site};
 ghost use Rattle.lk_outline.specs.Typed.{compared, type_at};

@@ -88,26 +88,26 @@ module _ (p : Program) (i : Instances) (closed : AreClosed p i) (tables : Tables
 
 -- ---- calls
 
-length_names : (entries : Named Ground) → length (names_of entries) ≡ length (types_of entries)
+pub length_names : (entries : Named Ground) → length (names_of entries) ≡ length (types_of entries)
 length_names [] = refl
 length_names (entry ∷ entries) = ap suc (length_names entries)
 
-length_texts : (words : List Word) → length (texts words) ≡ length words
+pub length_texts : (words : List Word) → length (texts words) ≡ length words
 length_texts [] = refl
 length_texts (word ∷ words) = ap suc (length_texts words)
 
 -- as many arguments as parameters
-bound_all : (names : Names) (params : List Word) (values : List Value) → length params ≡ length values → bind_all names params values ≡ Some (bind_each names (texts params) values)
+pub bound_all : (names : Names) (params : List Word) (values : List Value) → length params ≡ length values → bind_all names params values ≡ Some (bind_each names (texts params) values)
 bound_all names params values is = ap (λ b. if b then Some (bind_each names (texts params) values) else None) (eq-eqb (length params) (length values) is)
 
-no_locals : (p : Program) (i : Instances) → AreLocals p i [] no_names
+pub no_locals : (p : Program) (i : Instances) → AreLocals p i [] no_names
 no_locals p i x t is = absurd cc
 
 -- what stands in a helper calls helpers before it
-before_caller : (p : Program) (i : Instances) (caller : Use) (n : ℕ) (body : List TypedNode) → number_of p caller.name < suc n → Each (IsHelperNode p i.helpers caller) body → AreQueryNodes p i.helpers n body
+pub before_caller : (p : Program) (i : Instances) (caller : Use) (n : ℕ) (body : List TypedNode) → number_of p caller.name < suc n → Each (IsHelperNode p i.helpers caller) body → AreQueryNodes p i.helpers n body
 before_caller p i caller n [] below all = tt
 before_caller p i caller n (node ∷ body) below (one, all) =
-    (record { type = one.flat.type; calls = λ u used. (one.flat.calls u used, earlier u (one.before u used)) }, before_caller p i caller n body below all)
+    (record { type = one.flat.type; compares = one.flat.compares; calls = λ u used. (one.flat.calls u used, earlier u (one.before u used)) }, before_caller p i caller n body below all)
   where
     earlier : (u : Use) → number_of p u.name < number_of p caller.name → number_of p u.name < n
     earlier u before = omega arith
@@ -132,7 +132,7 @@ module _ (p : Program) (i : Instances) (bound : IsBound p) (closed : AreClosed p
       (value_fits p i closed tables rows (called p tables n) n calls_fit body.has.functions false typed.body (sym (ap (λ s. s effect.Local) like) ∙ own) (sym (ap (λ s. s effect.Trap) like) ∙ traps)
       (before_caller p i u n (nodes_of false typed.body) below body.nodes) (bind_each no_names (texts body.function.params) args) locals))
 
-  called_fits : (n : ℕ) → CallsFit p i (called p tables n) n
+  pub called_fits : (n : ℕ) → CallsFit p i (called p tables n) n
   unfolding called
   called_fits zero u (listed, below) ts effects a is own traps args fits = absurd (omega arith)
   called_fits (suc n) u (listed, below) ts effects a is own traps args fits =
@@ -153,7 +153,7 @@ number_below (h ∷ fs) g f is = by_test (bytes_eq h.name.text g) is (number_bel
 -- what stands in a query calls functions of the program
 pub all_early : (p : Program) (i : Instances) → AreClosed p i → (body : List TypedNode) → Each (IsFlatPart i.helpers) (nodes.parts_of body) → AreQueryNodes p i.helpers (length (functions_of p)) body
 all_early p i closed [] all = tt
-all_early p i closed (node ∷ body) (one, all) = (record { type = one.type; calls = λ u used. (one.calls u used, early u (one.calls u used)) }, all_early p i closed body all)
+all_early p i closed (node ∷ body) (one, all) = (record { type = one.type; compares = one.compares; calls = λ u used. (one.calls u used, early u (one.calls u used)) }, all_early p i closed body all)
   where
     early : (u : Use) → IsListed i.helpers u → number_of p u.name < length (functions_of p)
     early u listed =

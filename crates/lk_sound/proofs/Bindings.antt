@@ -45,7 +45,7 @@ step_behind true false a u o q apart is = refl
 step_behind false c a u o q apart is = is
 
 -- an entry under a name that none of the others has may stand behind them
-moved : (y x : Label) (a : Ground) (others locals : Named Ground) → (IsAmong x (names_of others) → ⊥) → named y (others ++ (x, a) ∷ locals) ≡ named y ((x, a) ∷ (others ++ locals))
+pub moved : (y x : Label) (a : Ground) (others locals : Named Ground) → (IsAmong x (names_of others) → ⊥) → named y (others ++ (x, a) ∷ locals) ≡ named y ((x, a) ∷ (others ++ locals))
 moved y x a [] locals apart = refl
 moved y x a (entry ∷ others) locals apart =
     step_behind (bytes_eq entry.0 y) (bytes_eq x y) a entry.1 (named y (others ++ (x, a) ∷ locals)) (named y (others ++ locals))

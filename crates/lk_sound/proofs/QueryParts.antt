@@ -9,7 +9,7 @@ use Rattle.lk_ast.specs.declared.expression.PartExpr.{PartExpr}
 use Rattle.lk_bag.proofs.Given.{operands}
 use Rattle.lk_ground_types.specs.Shapes.{is_query_type}
 use Rattle.lk_sound.specs.Instances.{IsListed, number_of}
-use Rattle.lk_sound.specs.Nodes.{TypedNode, Use, nodes_of, each_nodes}
+use Rattle.lk_sound.specs.Nodes.{TypedNode, Use, may_compare, nodes_of, each_nodes}
 use Rattle.lk_types.specs.Each.{Each}
 use Rattle.lk_types.specs.Rows.{EffectSet}
 use Rattle.lk_types.specs.declared.ground.Ground.{Ground}
@@ -55,6 +55,7 @@ module _ (p : Program) (helpers : List Use) (n : ℕ) where
   -- it may stand in a query that calls these helpers
   pub record IsQueryNode (node : TypedNode) : Type 0 where
     pub type : is_query_type node.part.type ≡ true
+    pub compares : may_compare node.part.compares ≡ true
     pub calls : (u : Use) → node.part.use_of ≡ Some u → IsEarly u
 
   abbrev pub AreQueryNodes : List TypedNode → Type 0

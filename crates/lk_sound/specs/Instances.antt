@@ -13,7 +13,7 @@ use Rattle.lk_types.specs.declared.ground.Ground.{Ground}
 use Rattle.lk_types.specs.declared.ground.Ground.TheVariants as known
 use Rattle.lk_typing.specs.Types.{function_of}
 use Rattle.lk_sound.specs.Functions.{HasFunctionType}
-use Rattle.lk_sound.specs.Nodes.{Use, Part, Block, TypedNode, nodes_of}
+use Rattle.lk_sound.specs.Nodes.{Use, Part, Block, TypedNode, may_compare, nodes_of}
 
 -- what sessions use outside of queries, updates and deletions, and what these use
 pub record Instances : Type 0 where
@@ -38,6 +38,7 @@ number_of p g = number_in (functions_of p) g
 -- it may stand in a query, an update or a deletion
 pub record IsFlatPart (helpers : List Use) (part : Part) : Type 0 where
   pub type : is_query_type part.type ≡ true
+  pub compares : may_compare part.compares ≡ true
   pub calls : (u : Use) → part.use_of ≡ Some u → IsListed helpers u
 
 -- the same in a helper, which calls only what stands before it

@@ -1,6 +1,6 @@
 -- The nodes of a typed expression in text order, each before those in it: its place, its ground type, and the use of a
 -- function of the program that it may be, at its ground type.
-use Rattle.std.specs.Prelude.{Bool, true, List, [], ◌∷◌, ◌++◌, Option, Some, None, map}
+use Rattle.std.specs.Prelude.{Bool, true, List, [], ◌∷◌, ◌++◌, Option, Some, None, map, not}
 use Rattle.lk_ast.specs.Layers.{layer}
 use Rattle.lk_ast.specs.declared.declaration.TableDecl.{TableDecl}
 use Rattle.lk_ast.specs.declared.expression.Case.{Case}
@@ -8,6 +8,7 @@ use Rattle.lk_ast.specs.declared.expression.ChangeExpr.{ChangeExpr}
 use Rattle.lk_ast.specs.declared.expression.Expr.{Expr}
 use Rattle.lk_ast.specs.declared.expression.Node.TheOpen.{Node-F}
 use Rattle.lk_ast.specs.declared.place.Span.{Span}
+use Rattle.lk_ground_types.specs.Shapes.{is_base, is_list}
 use Rattle.lk_index.specs.Free.{free, free_change}
 use Rattle.lk_scope.specs.Names.{no_names}
 use Rattle.lk_types.specs.Rows.{Label, EffectSet}
@@ -28,6 +29,12 @@ pub record Use : Type 0 where
 pub data Comparison : Type 0 where
   Equality : Ground → Comparison
   Order : Ground → Comparison
+
+-- what a query may compare: no lists, and in order only bases
+abbrev pub may_compare : Option Comparison → Bool
+may_compare None = true
+may_compare (Some (Equality t)) = not (is_list t)
+may_compare (Some (Order t)) = is_base t
 
 pub record Part : Type 0 where
   pub span : Span

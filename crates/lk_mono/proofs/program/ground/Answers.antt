@@ -1,6 +1,6 @@
 use Rattle.std.proofs.Common.{subst}
 use Rattle.std.proofs.lemmas.Result.{err_from_is_err_and}
-use Rattle.lk_mono.proofs.Closed.{shaped}
+use Rattle.lk_mono.proofs.Closed.{instanced, shaped}
 use Rattle.lk_mono.proofs.Keeping.{grounded_keeps}
 use Rattle.lk_mono.proofs.MainFirst.{main_first}
 use Rattle.lk_mono.proofs.PlainSessions.{same_events, shows_plain}
@@ -28,6 +28,11 @@ returns-clause-keeps c =
 pub returns-clause-closed : goal.returns-clause-closed
 returns-clause-closed c =
     shaped c.principal_laws.ensures.used c.soundness_laws.ensures.instance c.args.program.now c.args.typed.now.schemes c.args.typed.now.types (rw c.program-program.ensures.same at c.program-program.ensures.bound) c.requires.typed c.in_ok-ground_source.field-0
+    (subst (λ p. IsGrounded p c.args.typed.now.schemes c.args.typed.now.types c.in_ok-ground_source.field-0) c.program-program.ensures.same c.in_ok-ground_source.ensures.grounded)
+
+pub returns-clause-instances : goal.returns-clause-instances
+returns-clause-instances c =
+    instanced c.principal_laws.ensures.used c.soundness_laws.ensures.instance c.args.program.now c.args.typed.now.schemes c.args.typed.now.types (rw c.program-program.ensures.same at c.program-program.ensures.bound) c.requires.typed c.in_ok-ground_source.field-0
     (subst (λ p. IsGrounded p c.args.typed.now.schemes c.args.typed.now.types c.in_ok-ground_source.field-0) c.program-program.ensures.same c.in_ok-ground_source.ensures.grounded)
 
 pub returns-clause-plain : goal.returns-clause-plain
