@@ -41,7 +41,7 @@ module _ {X : Type 0} (level : (ℕ → X) → ℕ → Part → X) where
   IsLocal = (f g : ℕ → X) (n : ℕ) → ((k : ℕ) → k < n → f k ≡ g k) → (x : Part) → Below n x → level f n x ≡ level g n x
 
   -- later parts leave the earlier ones
-  kept : (n : ℕ) (found : ℕ → X) (parts : List Part) (k : ℕ) → k < n → filled_from level n found parts k ≡ found k
+  pub kept : (n : ℕ) (found : ℕ → X) (parts : List Part) (k : ℕ) → k < n → filled_from level n found parts k ≡ found k
   kept n found [] k l = refl
   kept n found (x ∷ parts) k l = kept (n + 1) (bind n (level found n x) found) parts k (omega (arith, l)) ∙ bind-other n k (level found n x) found (λ e. lt_irrefl n (omega (arith, l, e)))
 

@@ -1,9 +1,11 @@
 -- When SQL is well formed: each list of selects has one, and all of them have the same columns; the columns have distinct labels,
--- which stand in byte order; the keys are distinct ones of these labels; each operation has as many operands as it takes.
+-- which stand in byte order; the keys are distinct ones of these labels; each operation has as many operands as it takes. An update sets
+-- distinct columns.
 use Rattle.std.specs.Prelude.{ℕ, Bool, true, false, not, ◌&&◌, List, [], ◌∷◌, map, length, ◌==◌, bytes_eq}
 use Rattle.std.specs.Cmp.Lexicographic.{slice_cmp}
 use Rattle.std.specs.List.{list_all, list_any}
 use Rattle.std.specs.Ordering.{nat_cmp, is_lt}
+use Rattle.lk_sql.specs.declared.tree.Change.{Change}
 use Rattle.lk_sql.specs.declared.tree.Key.{Key}
 use Rattle.lk_sql.specs.declared.tree.Out.{Out, fold-Out}
 use Rattle.lk_sql.specs.declared.tree.Scalar.{Scalar}
@@ -89,3 +91,9 @@ abbrev pub is_good_sql : Sql → Bool
 is_good_sql sql =
     are_alike (map judged sql.selects)
     && (are_distinct (map (λ (key : Key). key.label) sql.keys) && list_all (λ (key : Key). is_there (first_labels (map judged sql.selects)) key.label) sql.keys)
+
+-- ---- updates and deletions
+
+-- the columns that are set are distinct
+abbrev pub is_good_change : Change → Bool
+is_good_change change = is_good change.cond && (are_distinct (map (λ (set : Out). set.label) change.sets) && list_all (λ (set : Out). is_good set.scalar) change.sets)

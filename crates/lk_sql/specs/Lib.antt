@@ -1,4 +1,5 @@
 pub mod Bags
+pub mod Change
 pub mod Good
 pub mod Keys
 pub mod Meaning
