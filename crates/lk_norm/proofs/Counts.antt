@@ -5,22 +5,23 @@ use Rattle.lk_sql.specs.declared.tree.FromItem.{FromItem}
 use Rattle.lk_sql.specs.declared.tree.Scalar.{Scalar}
 use Rattle.lk_sql.specs.declared.tree.Scalar.TheVariants as scalar
 use Rattle.lk_query.specs.Branches.{count_level, counts}
+use Rattle.lk_query.specs.Captured.{Binding}
 use Rattle.lk_query.specs.Order.{bind}
 use Rattle.lk_query.specs.declared.part.Part.{Part}
 use Rattle.lk_query.specs.declared.part.Part.TheVariants as part
 use Rattle.lk_query.proofs.Parts.{filled-related}
-use Rattle.lk_norm.specs.Captured.{Captured, names_from, outputs_from}
+use Rattle.lk_norm.specs.Captured.{names_from, outputs_from}
 use Rattle.lk_norm.specs.Law.{CountLaw, HasBranches, NoLists}
-use Rattle.lk_norm.specs.Normal.{Names, Stands, StandsFor, as_base, as_row, branch, columns_of, conjunction, generator, negation, next, norm_level, norms, test}
+use Rattle.lk_norm.specs.Normal.{Names, Stands, StandsFor, as_base, as_row, branch, conjunction, negation, norm_level, norms, test}
 
-no-lists : (x : ℕ) (a : Stands) (names : Names) → ((m : ℕ) (g : List FromItem) (c : Scalar) → a.list m g c ≡ []) → NoLists names → NoLists (bind x a names)
+pub no-lists : (x : ℕ) (a : Stands) (names : Names) → ((m : ℕ) (g : List FromItem) (c : Scalar) → a.list m g c ≡ []) → NoLists names → NoLists (bind x a names)
 no-lists x a names e h k = step (k == x)
   where
     step : (b : Bool) (m : ℕ) (g : List FromItem) (c : Scalar) → (if b then a else names k).list m g c ≡ []
     step true m g c = e m g c
     step false m g c = h k m g c
 
-length-map : {X Y : Type 0} (f : X → Y) (xs : List X) → length (map f xs) ≡ length xs
+pub length-map : {X Y : Type 0} (f : X → Y) (xs : List X) → length (map f xs) ≡ length xs
 length-map f [] = refl
 length-map f (x ∷ xs) = let e = length-map f xs in omega (arith, e)
 
@@ -66,7 +67,7 @@ unfolding norms counts
 counted parts k = filled-related HasBranches norm_level count_level level_has _ _ (λ names free m g d. refl) parts k
 
 -- captured names stand for no list
-pub captured-no_lists : (k : ℕ) (captured : List Captured) → NoLists (names_from k captured)
+pub captured-no_lists : (k : ℕ) (captured : List Binding) → NoLists (names_from k captured)
 captured-no_lists k [] = λ n m g c. refl
 captured-no_lists k ((x, None) ∷ captured) = no-lists x (as_base (λ n. scalar.Param k)) (names_from (k + 1) captured) (λ m g c. refl) (captured-no_lists (k + 1) captured)
 captured-no_lists k ((x, Some labels) ∷ captured) = no-lists x (as_row (λ n. outputs_from k labels)) (names_from (k + length labels) captured) (λ m g c. refl) (captured-no_lists (k + length labels) captured)

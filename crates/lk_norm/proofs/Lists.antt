@@ -1,5 +1,5 @@
 -- The parts that are lists.
-use Rattle.std.proofs.Common.{◌≡◌, ℕ, ◌+◌, ◌≤◌, ◌<◌, List, [], ◌∷◌, ◌++◌, map, length, refl, sym, ◌∙◌, ap, ap₂, if◌then◌else◌, Bool, true, false, not, ◌&&◌, arith, length-append, lt_irrefl, le_refl, le_of_eq}
+use Rattle.std.proofs.Common.{◌≡◌, ℕ, ◌+◌, ◌≤◌, ◌<◌, List, [], ◌∷◌, ◌++◌, map, length, refl, sym, ◌∙◌, ap, ap₂, if◌then◌else◌, Bool, true, false, not, ◌&&◌, arith, length-append, lt_irrefl, le_refl}
 use Rattle.std.specs.List.{flat_map}
 use Rattle.std.proofs.lemmas.Bool.{eq-eqb, ne_eqb}
 use Rattle.lk_ast.specs.Tables.{Tables}
@@ -10,11 +10,11 @@ use Rattle.lk_sql.specs.Meaning.{Scope, product, with_row}
 use Rattle.lk_sql.specs.Operations.{truth}
 use Rattle.lk_sql.specs.declared.tree.FromItem.{FromItem}
 use Rattle.lk_sql.specs.declared.tree.Scalar.{Scalar}
-use Rattle.lk_query.specs.Given.{Given, Gives, Values, at_labels, of_list, of_row}
+use Rattle.lk_query.specs.Given.{Given, Gives, Values, of_list, of_row}
 use Rattle.lk_query.specs.Order.{bind}
-use Rattle.lk_norm.specs.Normal.{Branch, Names, StandsFor, as_list, as_row, branch, columns_of, conjunction, generator, negation, next}
-use Rattle.lk_norm.proofs.Bases.{holds-conjunction, holds-not, row-columns}
-use Rattle.lk_norm.proofs.Shows.{Agree, Each, Each-append, Each-flat, Fit, Follows, IsSound, ShowAll, ShowAll-bind, ShowAll-more, Shows, Shows-same, Steady, Steady-more, at, at-bind, at-looks, holds, row_of, shows_list, shows_row, total-each, total-when, wanted, weight, weights, when, when-zero}
+use Rattle.lk_norm.specs.Normal.{Branch, Names, StandsFor, as_list, as_row, branch, conjunction, generator, negation, next}
+use Rattle.lk_norm.proofs.Bases.{holds-conjunction, holds-not}
+use Rattle.lk_norm.proofs.Shows.{Agree, Each, Each-append, Each-flat, Fit, Follows, IsSound, ShowAll, ShowAll-bind, ShowAll-more, Shows, Shows-same, Steady, Steady-more, at, at-bind, at-looks, holds, row_of, shows_list, shows_row, total-each, wanted, weight, weights, when, when-zero}
 use Rattle.lk_norm.proofs.Sums.{total-append, total-flat, total-plus, total-same, total-zero}
 
 pub with_row-same : (n : ℕ) (r : Row) (s : Scope) → with_row n r s n ≡ r

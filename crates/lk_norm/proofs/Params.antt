@@ -2,13 +2,16 @@
 use Rattle.std.proofs.Common.{◌≡◌, ℕ, ◌+◌, ◌==◌, if◌then◌else◌, Bool, true, false, List, [], ◌∷◌, length, Some, None, refl, ap₂}
 use Rattle.lk_ast.specs.Tables.{Tables}
 use Rattle.lk_ast.specs.declared.table.Base.{Base}
-use Rattle.lk_sql.specs.Meaning.{Scope}
+use Rattle.lk_sql.specs.Meaning.{Scope, all_rows, no_rows}
 use Rattle.lk_sql.specs.declared.tree.Scalar.TheVariants as scalar
-use Rattle.lk_query.specs.Given.{Given, cell_with, of_base, of_row, row_with}
+use Rattle.lk_query.specs.Captured.{Binding, bindings_from, cells_from, parameter, query_values, values_from}
+use Rattle.lk_query.specs.Given.{Given, cell_with, gives, of_base, of_row, row_with}
 use Rattle.lk_query.specs.Order.{bind}
-use Rattle.lk_norm.specs.Captured.{Captured, cells_from, names_from, outputs_from, parameter, values_from}
-use Rattle.lk_norm.specs.Law.{NormalFormLaw}
+use Rattle.lk_norm.specs.Captured.{names_from, outputs_from}
+use Rattle.lk_norm.specs.Law.{NormalFormLaw, PermutedLaw}
 use Rattle.lk_norm.specs.Normal.{Stands, as_base, as_row}
+use Rattle.lk_norm.specs.Sql.{query_sql}
+use Rattle.lk_norm.proofs.Bags.{rows-permutation}
 use Rattle.lk_norm.proofs.Shows.{ShowAll, Shows, cells, shows_base, shows_nothing, shows_row}
 use Rattle.lk_norm.proofs.Unfold.{value-Param}
 use Rattle.lk_norm.proofs.Whole.{whole}
@@ -25,7 +28,7 @@ module _ (tables : Tables) (params : List Base) where
       step true = h
       step false = i k
 
-  pub captured-show : (k : ℕ) (captured : List Captured) → ShowAll tables params 0 (names_from k captured) (λ i s. values_from params k captured i)
+  pub captured-show : (k : ℕ) (captured : List Binding) → ShowAll tables params 0 (names_from k captured) (λ i s. values_from params k captured i)
   captured-show k [] = λ i. shows_nothing tables params 0
   captured-show k ((x, None) ∷ captured) =
       either x (as_base (λ n. scalar.Param k)) (of_base (parameter params k)) (names_from (k + 1) captured) (values_from params (k + 1) captured)
@@ -37,3 +40,8 @@ module _ (tables : Tables) (params : List Base) where
 -- for all tables and captured values
 pub normal-form : NormalFormLaw
 normal-form parts root columns captured tables params scope = whole tables params parts root columns (names_from 1 captured) (values_from params 1 captured) (captured-show tables params 1 captured) scope
+
+pub permuted : PermutedLaw
+permuted query tables params =
+    rows-permutation (all_rows tables params (query_sql query).selects no_rows) (gives tables query.parts query.root (query_values query.captured params)).list
+    (normal-form query.parts query.root query.columns (bindings_from 0 query.captured) tables params no_rows)

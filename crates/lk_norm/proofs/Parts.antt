@@ -6,7 +6,7 @@ use Rattle.lk_query.specs.Order.{AreOrdered, bind}
 use Rattle.lk_query.specs.declared.part.Part.{Part}
 use Rattle.lk_query.specs.declared.part.Part.TheVariants as part
 use Rattle.lk_query.proofs.Parts.{IsLocal, each-same, filled-at, labelled-same, three-same}
-use Rattle.lk_norm.specs.Normal.{always, as_base, as_list, as_row, branch, columns_of, conjunction, equal_rows, generator, negation, next, norm_level, norms, output, outputs, scalar_in, scalar_or, selects}
+use Rattle.lk_norm.specs.Normal.{always, as_base, as_list, as_row, branch, conjunction, equal_rows, negation, norm_level, norms, output, outputs, scalar_in, scalar_or, selects}
 
 norm_local : IsLocal norm_level
 norm_local f g n same (part.Lit b) l = refl

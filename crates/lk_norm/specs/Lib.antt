@@ -1,3 +1,10 @@
+pub mod Capped
 pub mod Captured
+pub mod Changes
 pub mod Law
+pub mod Limits
+pub mod Made
 pub mod Normal
+pub mod Scopes
+pub mod Sql
+pub mod Walks
