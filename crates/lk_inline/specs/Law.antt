@@ -1,0 +1,97 @@
+-- The laws of inlining: what stands at a site gives what the program's text says (Cooper, The script-writer's dream, DBPL 2009).
+use Rattle.std.specs.List.{filter}
+use Rattle.std.specs.Prelude.{List, Option, Some, map, not, slice_get, true, ℕ, ◌+◌, ◌≡◌}
+use Rattle.lk_ast.specs.Layers.{Layer, layer}
+use Rattle.lk_ast.specs.Rows.{row_value}
+use Rattle.lk_ast.specs.Tables.{Tables, row_fits}
+use Rattle.lk_ast.specs.declared.declaration.Program.{Program}
+use Rattle.lk_ast.specs.declared.expression.ChangeExpr.{ChangeExpr, out-ChangeExpr}
+use Rattle.lk_ast.specs.declared.expression.Expr.{Expr}
+use Rattle.lk_ast.specs.declared.expression.Node.TheOpen.{Node-F}
+use Rattle.lk_ast.specs.declared.table.Row.{Row}
+use Rattle.lk_ast.specs.declared.table.TableDef.{TableDef}
+use Rattle.lk_ast.specs.declared.value.Value.{Value}
+use Rattle.lk_bag.specs.Blocks.{blocks_of}
+use Rattle.lk_bag.specs.Change.{is_met, updated}
+use Rattle.lk_bag.specs.Legal.{bag, names_in}
+use Rattle.lk_ground.specs.Language as language
+use Rattle.lk_ground.specs.declared.program.GroundFun.{GroundFun}
+use Rattle.lk_ground.specs.declared.program.GroundProgram.{GroundProgram}
+use Rattle.lk_inline.specs.Blocks.{IsBlock}
+use Rattle.lk_inline.specs.Inlined.{inlined_at}
+use Rattle.lk_inline.specs.Shapes.{columns_of, labels}
+use Rattle.lk_inline.specs.Sites.{Site, sites_of}
+use Rattle.lk_inline.specs.Stands.{AreDistinct}
+use Rattle.lk_mono.specs.Grounded.{IsGrounded}
+use Rattle.lk_mono.specs.Instanced.{HasInstances}
+use Rattle.lk_names.specs.Programs.{IsBound}
+use Rattle.lk_query.specs.Captured.{AreCaptured, leaves, query_values}
+use Rattle.lk_query.specs.Changed.{changed, is_changed}
+use Rattle.lk_query.specs.Given.{gives}
+use Rattle.lk_query.specs.declared.query.Inlined.{Inlined}
+use Rattle.lk_query.specs.declared.query.Inlined.TheVariants as inlined
+use Rattle.lk_query.specs.declared.query.InlinedChange.{InlinedChange}
+use Rattle.lk_query.specs.declared.query.Query.{Query}
+use Rattle.lk_sound.specs.Tables.{AreTables, table_at}
+use Rattle.lk_types.specs.Each.{Each, OneOf}
+use Rattle.lk_types.specs.declared.ground.Ground.{Ground}
+use Rattle.lk_types.specs.declared.scheme.Scheme.{Scheme}
+use Rattle.lk_types.specs.declared.ty.Ty.{Ty}
+
+-- ---- types
+
+-- a type that isn't of records with a label twice
+abbrev pub IsProperType : Ground → Type 0
+IsProperType t = AreDistinct (labels (columns_of t))
+
+-- ---- what is kept
+
+module _ (p : Program) (block : Expr) where
+  -- over tables whose rows fit, and for all values of what it captures, its rows are those of the query, in the same order
+  pub record KeepsBag (query : Query) : Type 0 where
+    pub rows :
+        (tables : Tables) → AreTables p tables → (args : List Value) → AreCaptured query.captured args
+        → bag p tables block args ≡ map row_value (gives tables query.parts query.root (query_values query.captured (leaves args))).list
+
+  -- for all values of what it captures and each row that its table may hold, the row changes where the text says so
+  pub record KeepsTest (change : InlinedChange) (of : ChangeExpr) : Type 0 where
+    pub test :
+        (def : TableDef) → table_at p (out-ChangeExpr of).table.text ≡ Some def → (args : List Value) → AreCaptured change.captured args → (row : Row) → row_fits def row ≡ true
+        → is_changed change (leaves args) row ≡ is_met p (names_in block args) of row
+
+  -- and becomes what the text says
+  pub record KeepsRows (change : InlinedChange) (of : ChangeExpr) : Type 0 where
+    pub rows :
+        (def : TableDef) → table_at p (out-ChangeExpr of).table.text ≡ Some def → (args : List Value) → AreCaptured change.captured args → (row : Row) → row_fits def row ≡ true
+        → changed change (leaves args) row ≡ updated p (names_in block args) of row
+
+  -- what is inlined means what stands there in the text
+  pub data Keeps : Layer → Inlined → Type 0 where
+    query : {l : Layer} {q : Query} → KeepsBag q → Keeps l (inlined.Query q)
+    update : {l : Layer} {change : ChangeExpr} {c : InlinedChange} → l ≡ Node-F.Update change → KeepsTest c change → KeepsRows c change → Keeps l (inlined.Change c)
+    delete : {l : Layer} {change : ChangeExpr} {c : InlinedChange} → l ≡ Node-F.Delete change → KeepsTest c change → Keeps l (inlined.Change c)
+
+-- Where the program's names are bound and its instances are a closed set, what is inlined of a block in them keeps its meaning, if
+-- no type of a node from the block on is of records with a label twice.
+abbrev pub BlockLaw : Type 0
+BlockLaw = (p : Program) → IsBound p → (g : GroundProgram) → (has : HasInstances p g) → (site : Site) → IsBlock p has.instances site.block site.types site.calls → Each IsProperType site.types
+    → (found : Inlined) → inlined_at p g.helpers site ≡ Some found → Keeps p site.block (layer site.block) found
+
+-- In the functions of a ground program no type is.
+abbrev pub TypesLaw : Type 0
+TypesLaw = (p : Program) (schemes : List Scheme) (types : List Ty) (g : GroundProgram) → IsGrounded p schemes types g → Each (λ (f : GroundFun). Each IsProperType f.types) g.funs
+
+-- ---- sites
+
+-- a typed block of an instance, one of the program's text
+pub record IsSiteOf (p : Program) (g : GroundProgram) (has : HasInstances p g) (site : Site) : Type 0 where
+  pub block : IsBlock p has.instances site.block site.types site.calls
+  pub function : GroundFun
+  pub there : slice_get g.funs site.fun ≡ Some function
+  pub of_text : OneOf (λ other. other ≡ site.block) (blocks_of p)
+  -- what has the label is what begins where the block does, in that instance
+  pub labelled : language.labelled g site.label ≡ Some (language.Site site.fun site.block.span.start)
+
+-- where the program's instances are a closed set
+abbrev pub SitesLaw : Type 0
+SitesLaw = (p : Program) → (g : GroundProgram) → (has : HasInstances p g) → Each (IsSiteOf p g has) (sites_of g)

@@ -1,0 +1,19 @@
+//! The laws of inlining.
+
+ghost use Rattle.lk_inline.specs.Law.{BlockLaw, SitesLaw, TypesLaw};
+
+/// The laws of inlining for those who inline blocks of a program, as facts. A call does nothing.
+///
+/// `blocks`: where the names of a program are bound and its instances are a closed set, what is inlined at a site keeps the
+/// meaning that the text has there. The parts of a query, and of a reading of a table, give its rows over tables that fit; those
+/// of an update or a deletion say which rows change, and what becomes of them. All this holds for all values of what the block
+/// captures, if no record type among those of the nodes from the block on has a label twice.
+///
+/// `types`: in the functions of a ground program none has.
+///
+/// `sites`: each site of a ground program is a block of the program's text, typed in an instance, and has its label.
+pub fn inline_laws()
+    ensures blocks { BlockLaw }
+    ensures types { TypesLaw }
+    ensures sites { SitesLaw }
+{}
