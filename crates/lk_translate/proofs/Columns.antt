@@ -1,0 +1,68 @@
+-- Rows that a table may hold have its columns, none of them twice.
+use Rattle.std.proofs.Common.{◌≡◌, refl, sym, ap, ap₂, ◌∙◌, subst, Bool, true, false, not, ◌&&◌, ◌||◌, List, [], ◌∷◌, map, find, inl, inr, Option, Some, None, bytes_eq, if◌then◌else◌}
+use Rattle.std.specs.FinMap as fin
+use Rattle.lk_ast.specs.Tables.{cells_fit, is_of_kind, kinds, row_fits, table_def, tables_of}
+use Rattle.lk_ast.specs.declared.declaration.Program.{Program}
+use Rattle.lk_ast.specs.declared.declaration.TableDecl.{TableDecl}
+use Rattle.lk_ast.specs.declared.table.BaseKind.{BaseKind}
+use Rattle.lk_ast.specs.declared.table.Cell.{Cell}
+use Rattle.lk_ast.specs.declared.table.Column.{Column}
+use Rattle.lk_ast.specs.declared.table.Row.{Row}
+use Rattle.lk_ast.specs.declared.table.TableDef.{TableDef}
+use Rattle.lk_inline.proofs.PutFields.{entry_labels, sorted_distinct}
+use Rattle.lk_inline.specs.Shapes.{labels}
+use Rattle.lk_inline.specs.Stands.{AreDistinct, row_labels}
+use Rattle.lk_norm.specs.Law.{HasColumns}
+use Rattle.lk_sound.proofs.Bindings.{same_bytes}
+use Rattle.lk_sound.proofs.FlatTypes.{first_holds, second_holds}
+use Rattle.lk_sound.proofs.TableRows.{as_columns}
+use Rattle.lk_sound.specs.Tables.{table_at}
+use Rattle.lk_sql.specs.Good.{are_distinct, is_there}
+use Rattle.lk_types.specs.Each.{OneOf}
+use Rattle.lk_types.specs.Rows.{Label}
+use Rattle.lk_typing.proofs.Values.{just}
+
+-- ---- labels that differ
+
+not_there : (l : Label) (ls : List Label) → (OneOf (λ other. other ≡ l) ls → ⊥) → is_there ls l ≡ false
+not_there l [] none = refl
+not_there l (m ∷ ls) none = by_test (bytes_eq l m) refl (not_there l ls (λ one. none (inr one)))
+  where
+    by_test : (b : Bool) → bytes_eq l m ≡ b → is_there ls l ≡ false → (b || is_there ls l) ≡ false
+    by_test true is behind = absurd (none (inl (sym (same_bytes l m is))))
+    by_test false is behind = behind
+
+distinct_is : (ls : List Label) → AreDistinct ls → are_distinct ls ≡ true
+distinct_is [] distinct = refl
+distinct_is (l ∷ ls) distinct = ap₂ (λ a b. not a && b) (not_there l ls distinct.0) (distinct_is ls distinct.1)
+
+-- ---- tables of a program
+
+labels_of_entries : (es : List (Label × BaseKind)) → labels (as_columns es) ≡ entry_labels es
+labels_of_entries [] = refl
+labels_of_entries (e ∷ es) = ap (λ ls. e.0 ∷ ls) (labels_of_entries es)
+
+table_distinct : (table : TableDecl) → AreDistinct (labels (table_def table).columns)
+table_distinct table = subst AreDistinct (sym (labels_of_entries (fin.entries (kinds table.columns)))) (sorted_distinct (fin.entries (kinds table.columns)) (fin.entries_sorted (kinds table.columns)))
+
+found_distinct : (x : Label) (tables : List TableDecl) (def : TableDef) → find (λ (def : TableDef). bytes_eq def.name x) (map table_def tables) ≡ Some def → AreDistinct (labels def.columns)
+found_distinct x [] def is = let wrong : None ≡ Some def = is in absurd cc
+found_distinct x (table ∷ tables) def is = by_test (bytes_eq (table_def table).name x) is (found_distinct x tables def)
+  where
+    by_test : (b : Bool) → (if b then Some (table_def table) else find (λ (def : TableDef). bytes_eq def.name x) (map table_def tables)) ≡ Some def
+        → (find (λ (def : TableDef). bytes_eq def.name x) (map table_def tables) ≡ Some def → AreDistinct (labels def.columns)) → AreDistinct (labels def.columns)
+    by_test true is behind = subst (λ (def : TableDef). AreDistinct (labels def.columns)) (just is) (table_distinct table)
+    by_test false is behind = behind is
+
+-- ---- rows
+
+cells_have : (columns : List Column) (cells : List Cell) → cells_fit columns cells ≡ true → map (λ (cell : Cell). cell.label) cells ≡ labels columns
+cells_have [] [] fit = refl
+cells_have [] (cell ∷ cells) fit = absurd cc
+cells_have (column ∷ columns) [] fit = absurd cc
+cells_have (column ∷ columns) (cell ∷ cells) fit =
+    let both : (bytes_eq column.label cell.label && is_of_kind column.kind cell.value) ≡ true = first_holds (bytes_eq column.label cell.label && is_of_kind column.kind cell.value) _ fit in
+    ap₂ (λ l ls. l ∷ ls) (sym (same_bytes column.label cell.label (first_holds _ _ both))) (cells_have columns cells (second_holds (bytes_eq column.label cell.label && is_of_kind column.kind cell.value) _ fit))
+
+pub has_columns : (p : Program) (x : Label) (def : TableDef) → table_at p x ≡ Some def → (row : Row) → row_fits def row ≡ true → HasColumns (labels def.columns) row
+has_columns p x def at row fits = (cells_have def.columns row.cells fits, distinct_is (labels def.columns) (found_distinct x (tables_of p) def at))

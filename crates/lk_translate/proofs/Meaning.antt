@@ -1,0 +1,61 @@
+-- All that is translated of a program means what stands at the sites.
+use Rattle.std.proofs.Common.{◌≡◌, refl, ap, inl, inr, List, [], ◌∷◌, Option, Some, None, map, option_map}
+use Rattle.lk_ast.specs.declared.declaration.Program.{Program}
+use Rattle.lk_ground.specs.declared.program.GroundProgram.{GroundProgram}
+use Rattle.lk_inline.specs.Blocks.{IsBlock}
+use Rattle.lk_inline.specs.Inlined.{inlined_at}
+use Rattle.lk_inline.specs.Law.{IsProperType, IsSiteOf, SitesLaw, TypesLaw}
+use Rattle.lk_inline.specs.Sites.{Site, sites_of}
+use Rattle.lk_mono.specs.Instanced.{HasInstances}
+use Rattle.lk_names.specs.Programs.{IsBound}
+use Rattle.lk_query.specs.declared.query.Inlined.{Inlined}
+use Rattle.lk_query.specs.declared.query.Inlined.TheVariants as inlined
+use Rattle.lk_translate.proofs.SiteTypes.{HaveTypes, sites_have}
+use Rattle.lk_translate.specs.Law.{AnswerLaw, ChangeLaw, IsLegal, IsMeant, TranslationLaw}
+use Rattle.lk_translate.specs.Translation.{code_of, inlined_code, translated_at}
+use Rattle.lk_translate.specs.declared.translated.Code.{Code}
+use Rattle.lk_translate.specs.declared.translated.Translated.{Translated}
+use Rattle.lk_types.specs.Each.{Each, OneOf}
+use Rattle.lk_typing.proofs.Values.{just}
+
+module _ (answers : AnswerLaw) (changes : ChangeLaw) (p : Program) (bound : IsBound p) (g : GroundProgram) (has : HasInstances p g) where
+  is_legal : (site : Site) → IsBlock p has.instances site.block site.types site.calls → Each IsProperType site.types → (found : Inlined) → inlined_at p g.helpers site ≡ Some found → IsLegal p site found
+  is_legal site block proper (inlined.Query query) at = answers p bound g has site block proper query at
+  is_legal site block proper (inlined.Change change) at = changes p bound g has site block proper change at
+
+  abbrev at_site : Site → Code → Translated
+  at_site site code = record { label = site.label; span = site.block.span; code = code }
+
+  one_meant : (site : Site) → IsSiteOf p g has site → Each IsProperType site.types → OneOf (λ other. other ≡ site) (sites_of g) → (one : Translated) → Some one ≡ translated_at p g.helpers site → IsMeant p g one
+  unfolding code_of
+  one_meant site is proper listed one made = by_found (inlined_at p g.helpers site) refl made
+    where
+      by_found : (o : Option Inlined) → inlined_at p g.helpers site ≡ o → Some one ≡ option_map (at_site site) (option_map inlined_code o) → IsMeant p g one
+      by_found None at made = let wrong : Some one ≡ None = made in absurd cc
+      by_found (Some found) at made =
+          let same : one ≡ at_site site (inlined_code found) = just made in
+          record {
+            site = site;
+            listed = listed;
+            label = ap (λ (one : Translated). one.label) same;
+            span = ap (λ (one : Translated). one.span) same;
+            found = found;
+            there = at;
+            code = ap (λ (one : Translated). one.code) same;
+            legal = is_legal site is.block proper found at;
+          }
+
+  -- site by site
+  all_meant : (sites : List Site) → Each (IsSiteOf p g has) sites → Each (HaveTypes IsProperType) sites → ((site : Site) → OneOf (λ other. other ≡ site) sites → OneOf (λ other. other ≡ site) (sites_of g)) → (all : List Translated) → map Some all ≡ map (translated_at p g.helpers) sites
+      → Each (IsMeant p g) all
+  all_meant [] are proper among [] made = tt
+  all_meant [] are proper among (one ∷ all) made = absurd cc
+  all_meant (site ∷ sites) are proper among [] made = absurd cc
+  all_meant (site ∷ sites) are proper among (one ∷ all) made =
+      let first : Some one ≡ translated_at p g.helpers site = cc in
+      let rest : map Some all ≡ map (translated_at p g.helpers) sites = cc in
+      (one_meant site are.0 proper.0 (among site (inl refl)) one first, all_meant sites are.1 proper.1 (λ other one. among other (inr one)) all rest)
+
+pub translated-meant : AnswerLaw → ChangeLaw → SitesLaw → TypesLaw → TranslationLaw
+translated-meant answers changes sites proper p bound schemes types g grounded has all are =
+    all_meant answers changes p bound g has (sites_of g) (sites p g has) (sites_have IsProperType g (proper p schemes types g grounded)) (λ site one. one) all are.each
