@@ -14,7 +14,7 @@ use Rattle.lk_cli.specs.Loading.{AreLeft, AreLoaded}
 use Rattle.lk_cli.specs.Seen.{CameBack, FilesSeen, StoreSeen, StoresSeen, store_seen, stores_seen}
 use Rattle.lk_cli.specs.Words.{store_of}
 use Rattle.lk_cli.specs.declared.answer.Answer.{Answer}
-use Rattle.lk_cli.specs.declared.answer.Answer.TheVariants.{Schemes, Run}
+use Rattle.lk_cli.specs.declared.answer.Answer.TheVariants.{Schemes, Queries, Run}
 use Rattle.lk_cli.specs.declared.answer.Done.{Done}
 use Rattle.lk_cli.specs.declared.answer.Refusal.{Refusal}
 use Rattle.lk_cli.specs.declared.answer.Refusal.TheVariants as refused
@@ -84,6 +84,7 @@ module _ (contents : Option Contents) (failed : List ℕ) (before middle after :
   rows_earlier (Some file) defs (refused.IllTyped at) is = is
   rows_earlier (Some file) defs (refused.Shape kind at) is = is
   rows_earlier (Some file) defs refused.TooManyInstances is = is
+  rows_earlier (Some file) defs (refused.QueryTooLarge size at) is = is
   rows_earlier (Some file) defs (refused.NoStore name) is = is
   rows_earlier (Some file) defs (refused.Tables kind) is = is
   rows_earlier (Some file) defs refused.StoreFault is = is
@@ -101,6 +102,7 @@ module _ (contents : Option Contents) (failed : List ℕ) (before middle after :
       → AnswersSession later stores command program answer → Answers whole stores (Some (Source command)) answer
   answer_earlier stores command program (Ok (Run done)) accepted (loaded, are, back) = (program, accepted, (loaded, loaded_earlier command.tables (table_defs program) loaded are, back))
   answer_earlier stores command program (Ok (Schemes checked)) accepted is = absurd is
+  answer_earlier stores command program (Ok (Queries checked)) accepted is = absurd is
   answer_earlier stores command program (Err why) accepted (inl none) = inr (program, accepted, inl none)
   answer_earlier stores command program (Err why) accepted (inr (inl rows)) = inr (program, accepted, inr (inl (rows_earlier command.tables (table_defs program) why rows.0, rows.1)))
   answer_earlier stores command program (Err why) accepted (inr (inr fault)) = inr (program, accepted, inr (inr (fault_earlier stores command.tables program why fault)))

@@ -14,6 +14,7 @@ use Rattle.lk_infer.specs.declared.error.InferError.TheVariants as types
 use Rattle.lk_infer.specs.declared.typed.Typed.{Typed}
 use Rattle.lk_ground.specs.declared.program.GroundProgram.{GroundProgram}
 use Rattle.lk_mono.specs.Grounded.{IsGrounded}
+use Rattle.lk_mono.specs.Instanced.{HasInstances}
 use Rattle.lk_mono.specs.Instances.{AreTooMany, IsTooLarge}
 use Rattle.lk_mono.specs.Keeps.{Keeps}
 use Rattle.lk_mono.specs.Plain.{ShowsPlain}
@@ -39,18 +40,26 @@ use Rattle.lk_sound.specs.Instances.{IsShaped}
 use Rattle.lk_tables.specs.Reading.{refusal}
 use Rattle.lk_tables.specs.declared.error.TablesError.{TablesError}
 use Rattle.lk_tables.specs.declared.error.TablesError.TheVariants as error
+use Rattle.lk_translate.specs.Law.{IsMeant}
+use Rattle.lk_translate.specs.Translation.{AreTranslated, IsFirstFault}
+use Rattle.lk_translate.specs.declared.error.Size.{Size}
+use Rattle.lk_translate.specs.declared.error.Size.TheVariants as size
+use Rattle.lk_translate.specs.declared.error.TranslateError.{TranslateError}
+use Rattle.lk_translate.specs.declared.error.TranslateError.TheVariants as translate
+use Rattle.lk_translate.specs.declared.translated.Translated.{Translated}
+use Rattle.lk_types.specs.Each.{Each}
 use Rattle.lk_typing.specs.Programs.{ArePrincipal, IsWellTyped}
 use Rattle.lk_cli.specs.Loading.{AreLeft, AreLoaded, HasToldSession, IsOfTable}
-use Rattle.lk_cli.specs.Report.{IsReport, line, lines_of}
+use Rattle.lk_cli.specs.Report.{IsReport, line, lines_of, query_lines}
 use Rattle.lk_cli.specs.Seen.{CameBack, FilesSeen, HasText, StoresSeen}
 use Rattle.lk_parse.specs.Tokens.{text_limit}
 use Rattle.lk_cli.specs.declared.answer.Answer.{Answer}
-use Rattle.lk_cli.specs.declared.answer.Answer.TheVariants.{Schemes, Run}
+use Rattle.lk_cli.specs.declared.answer.Answer.TheVariants.{Schemes, Queries, Run}
 use Rattle.lk_cli.specs.declared.answer.Done.{Done}
 use Rattle.lk_cli.specs.declared.answer.Refusal.{Refusal}
-use Rattle.lk_cli.specs.declared.answer.Refusal.TheVariants.{Words, ReadFault, TextTooLong, NotUtf8, BadToken, TooNested, Unexpected, Unbound, Twice, NoMain, TypeTooLarge, IllTyped, Shape, TooManyInstances, NoStore, Tables as BadTables, StoreFault, NoMemory}
+use Rattle.lk_cli.specs.declared.answer.Refusal.TheVariants.{Words, ReadFault, TextTooLong, NotUtf8, BadToken, TooNested, Unexpected, Unbound, Twice, NoMain, TypeTooLarge, IllTyped, Shape, TooManyInstances, QueryTooLarge, NoStore, Tables as BadTables, StoreFault, NoMemory}
 use Rattle.lk_cli.specs.declared.command.Command.{Command}
-use Rattle.lk_cli.specs.declared.command.Command.TheVariants.{Check, Source}
+use Rattle.lk_cli.specs.declared.command.Command.TheVariants.{Check, Source, Sql}
 use Rattle.lk_cli.specs.declared.command.SourceCommand.{SourceCommand}
 
 -- the program that the text of that file is
@@ -62,19 +71,26 @@ IsProgram files name program = (text : List ℕ) × HasText files name text × I
 abbrev pub IsTyped : Program → Typed → Type 0
 IsTyped program typed = names.IsBound program × ArePrincipal program typed.schemes × HasTypes program typed.schemes typed.types
 
--- The program with these schemes and types has a ground program: its functions at the types at which sessions use them, in
+-- The ground program of a program with these schemes and types: its functions at the types at which sessions use them, in
 -- shapes that can be shown, compared and run by a database. Its sessions end as those of the program, with the same fuel, steps
 -- and events, and no function stands in what these show.
-abbrev pub HasGround : Program → Typed → Type 0
-HasGround program typed = (ground_program : GroundProgram) × IsGrounded program typed.schemes typed.types ground_program × Keeps program ground_program × ShowsPlain program × IsShaped program
+abbrev pub IsGround : Program → Typed → GroundProgram → Type 0
+IsGround program typed ground_program =
+    IsGrounded program typed.schemes typed.types ground_program × Keeps program ground_program × ShowsPlain program × IsShaped program × HasInstances program ground_program
 
--- nothing refuses the program: it is typed so, and has a ground program
-abbrev pub IsAccepted : Program → Typed → Type 0
-IsAccepted program typed = IsTyped program typed × HasGround program typed
+-- It has one, whose queries, readings of tables, updates and deletions are these as SQL, by their labels. What a database may answer
+-- them with is what the readings may be answered with, and they change rows as the text says.
+abbrev pub IsTranslated : Program → Typed → List Translated → Type 0
+IsTranslated program typed queries =
+    (ground_program : GroundProgram) × IsGround program typed ground_program × AreTranslated program ground_program queries × Each (IsMeant program ground_program) queries
+
+-- nothing refuses the program: it is typed so, and its ground program has this SQL
+abbrev pub IsAccepted : Program → Typed → List Translated → Type 0
+IsAccepted program typed queries = IsTyped program typed × IsTranslated program typed queries
 
 -- the program of the file of that name, which nothing refuses
 abbrev pub IsAcceptedOf : FilesSeen → List ℕ → Program → Type 0
-IsAcceptedOf files name program = IsProgram files name program × ((typed : Typed) × IsAccepted program typed)
+IsAcceptedOf files name program = IsProgram files name program × ((typed : Typed) × (queries : List Translated) × IsAccepted program typed queries)
 
 -- An answered session that began with these rows over the tables of a store before it: a run of the program with the argument and
 -- the fuel that are asked for, which doesn't end where the store failed, and the declared tables with rows that fit them, which
@@ -91,10 +107,11 @@ IsSession files stores command program done =
     (loaded : List TableRows) × AreLoaded files command.tables (table_defs program) loaded
     × CameBack stores (λ before after. IsSessionOver program command loaded done before.tables after.tables)
 
--- What a command comes to where nothing refuses it. `check`: the program of the file, accepted with its schemes and types; no
--- store comes back. `source`: a session of that program.
+-- What a command comes to where nothing refuses it. `check` and `sql`: the program of the file, accepted with its schemes and
+-- types and its SQL; no store comes back. `source`: a session of that program.
 abbrev pub Gives : FilesSeen → StoresSeen → Option Command → Answer → Type 0
-Gives files stores (Some (Check command)) (Schemes checked) = IsProgram files command.program checked.program × IsAccepted checked.program checked.typed × (stores.back ≡ None)
+Gives files stores (Some (Check command)) (Schemes checked) = IsProgram files command.program checked.program × IsAccepted checked.program checked.typed checked.queries × (stores.back ≡ None)
+Gives files stores (Some (Sql command)) (Queries checked) = IsProgram files command.program checked.program × IsAccepted checked.program checked.typed checked.queries × (stores.back ≡ None)
 Gives files stores (Some (Source command)) (Run done) = (program : Program) × IsAcceptedOf files command.program program × IsSession files stores command program done
 Gives files stores command answer = ⊥
 
@@ -146,6 +163,11 @@ refusal_of_ground mono.TooManyInstances = TooManyInstances
 refusal_of_ground (mono.Shape kind at) = Shape kind at
 refusal_of_ground mono.NoMemory = NoMemory
 
+-- a reason why queries have no SQL as a refusal
+abbrev pub refusal_of_queries : TranslateError → Refusal
+refusal_of_queries (translate.TooLarge kind at) = QueryTooLarge kind at
+refusal_of_queries translate.NoMemory = NoMemory
+
 -- a reason why a text isn't a tables file as a refusal
 abbrev pub refusal_of_tables : TablesError → Refusal
 refusal_of_tables error.NoMemory = NoMemory
@@ -172,15 +194,23 @@ IsNotGround program typed (Shape kind at) = HasFault program typed.schemes typed
 IsNotGround program typed NoMemory = Unit {0}
 IsNotGround program typed refusal = ⊥
 
+-- Why a program with these schemes and types isn't accepted although it has a ground program: of its queries, readings of
+-- tables, updates and deletions, in the order of their labels, this is the first that is too large, in this way.
+abbrev pub IsNotTranslated : Program → Typed → Refusal → Type 0
+IsNotTranslated program typed (QueryTooLarge kind at) = (ground_program : GroundProgram) × IsGround program typed ground_program × IsFirstFault program ground_program kind at
+IsNotTranslated program typed NoMemory = Unit {0}
+IsNotTranslated program typed refusal = ⊥
+
 -- what is printed for the answer has no function in it
 abbrev pub IsShown : Result Answer Refusal → Type 0
 IsShown (Ok (Run done)) = IsPlainRun done.run
 IsShown (Ok (Schemes checked)) = Unit {0}
+IsShown (Ok (Queries checked)) = Unit {0}
 IsShown (Err refusal) = Unit {0}
 
--- why a program isn't accepted: it isn't typed; or it is, and has no ground program
+-- why a program isn't accepted: it isn't typed; or it is, and has no ground program, or one with a query that is too large
 abbrev pub IsNotAccepted : Program → Refusal → Type 0
-IsNotAccepted program refusal = IsNotTyped program refusal ⊎ ((typed : Typed) × IsTyped program typed × IsNotGround program typed refusal)
+IsNotAccepted program refusal = IsNotTyped program refusal ⊎ ((typed : Typed) × IsTyped program typed × (IsNotGround program typed refusal ⊎ IsNotTranslated program typed refusal))
 
 -- why no program that is accepted comes of that file: no program comes of it, or it isn't accepted
 abbrev pub HasNoAccepted : FilesSeen → List ℕ → Refusal → Type 0
@@ -229,6 +259,7 @@ answer_of (Err outside.NoMemory) = Err NoMemory
 abbrev pub AnswersSession : FilesSeen → StoresSeen → SourceCommand → Program → Result Answer Refusal → Type 0
 AnswersSession files stores command program (Ok (Run done)) = IsSession files stores command program done
 AnswersSession files stores command program (Ok (Schemes checked)) = ⊥
+AnswersSession files stores command program (Ok (Queries checked)) = ⊥
 AnswersSession files stores command program (Err refusal) = IsUnanswered files stores command program refusal
 
 -- why there is no command: no form has the words
@@ -242,6 +273,7 @@ HasNoForm refusal = ⊥
 abbrev pub RefusedBy : FilesSeen → StoresSeen → Option Command → Refusal → Type 0
 RefusedBy files stores None refusal = (stores.back ≡ None) × HasNoForm refusal
 RefusedBy files stores (Some (Check command)) refusal = (stores.back ≡ None) × HasNoAccepted files command.program refusal
+RefusedBy files stores (Some (Sql command)) refusal = (stores.back ≡ None) × HasNoAccepted files command.program refusal
 RefusedBy files stores (Some (Source command)) refusal =
     ((stores.back ≡ None) × HasNoAccepted files command.program refusal)
     ⊎ ((program : Program) × IsAcceptedOf files command.program program × IsUnanswered files stores command program refusal)
@@ -264,6 +296,15 @@ shape_name QueryCapture = codes "QueryCapture"
 -- a refusal of a shape, with the kind of its reason
 abbrev pub refused_shape : ShapeKind → Span → List ℕ
 refused_shape kind at = line (codes "refused" ∷ codes "12" ∷ codes "Shape" ∷ shape_name kind ∷ decimal at.start ∷ decimal at.end ∷ [])
+
+abbrev pub size_name : Size → List ℕ
+size_name size.Nodes = codes "nodes"
+size_name size.Branches = codes "branches"
+size_name size.Text = codes "text"
+
+-- a refusal of a query's size
+abbrev pub refused_size : Size → Span → List ℕ
+refused_size kind at = line (codes "refused" ∷ codes "14" ∷ codes "QueryTooLarge" ∷ size_name kind ∷ decimal at.start ∷ decimal at.end ∷ [])
 
 -- why a text isn't a tables file
 abbrev pub tables_word : TablesError → List ℕ
@@ -291,14 +332,17 @@ refusal_text (TypeTooLarge at) = refused_at 10 (codes "TypeTooLarge") at
 refusal_text (IllTyped at) = refused_at 11 (codes "IllTyped") at
 refusal_text (Shape kind at) = refused_shape kind at
 refusal_text TooManyInstances = line (codes "refused" ∷ codes "13" ∷ codes "TooManyInstances" ∷ [])
+refusal_text (QueryTooLarge kind at) = refused_size kind at
 refusal_text (NoStore name) = line (codes "store" ∷ name ∷ [])
 refusal_text (BadTables kind) = line (codes "tables" ∷ tables_word kind ∷ [])
 refusal_text StoreFault = line (codes "store" ∷ codes "fault" ∷ [])
 refusal_text NoMemory = []
 
--- what is printed for an answer: a line for each function in text order, the report of a session, or the line of a refusal
+-- what is printed for an answer: a line for each function in text order, a line for each query in the order of labels, the report
+-- of a session, or the line of a refusal
 abbrev pub IsPrintedFor : Result Answer Refusal → List ℕ → Type 0
 IsPrintedFor (Ok (Schemes checked)) text = text ≡ lines_of (functions_of checked.program) checked.typed.schemes
+IsPrintedFor (Ok (Queries checked)) text = text ≡ query_lines checked.queries
 IsPrintedFor (Ok (Run done)) text = IsReport done text
 IsPrintedFor (Err refusal) text = text ≡ refusal_text refusal
 
@@ -311,6 +355,7 @@ end_status end.StoreFault = 13
 
 abbrev pub status_of : Result Answer Refusal → ℕ
 status_of (Ok (Schemes checked)) = 0
+status_of (Ok (Queries checked)) = 0
 status_of (Ok (Run done)) = end_status done.run.end
 status_of (Err (NotUtf8 at)) = 1
 status_of (Err (BadToken at)) = 1
@@ -324,6 +369,7 @@ status_of (Err (TypeTooLarge at)) = 1
 status_of (Err (IllTyped at)) = 1
 status_of (Err (Shape kind at)) = 1
 status_of (Err TooManyInstances) = 1
+status_of (Err (QueryTooLarge kind at)) = 1
 status_of (Err Words) = 2
 status_of (Err (ReadFault name)) = 3
 status_of (Err NoMemory) = 5

@@ -1,4 +1,5 @@
--- What commands print. `check`: a line for each function in text order. `source`: a line for each event in order, a line for the
+-- What commands print. `check`: a line for each function in text order. `sql`: a line for each query and each reading of a table, in
+-- the order of their labels. `source`: a line for each event in order, a line for the
 -- declared tables, and a last line for the end; values and tables are JSON texts.
 use Rattle.std.specs.Prelude.{◌≡◌, ℕ, List, [], ◌∷◌, ◌++◌, codes, decimal}
 use Rattle.std.specs.List.{flat_map}
@@ -14,7 +15,11 @@ use Rattle.lk_ast.specs.declared.value.Value.TheVariants as value
 use Rattle.lk_operators.specs.Values.{text}
 use Rattle.lk_sem.specs.declared.run.SourceEnd.{SourceEnd}
 use Rattle.lk_sem.specs.declared.run.SourceEnd.TheVariants as end
+use Rattle.lk_sql.specs.Text.{sql_text}
 use Rattle.lk_tables.specs.Printing.{IsPrinted}
+use Rattle.lk_translate.specs.declared.translated.Code.{Code}
+use Rattle.lk_translate.specs.declared.translated.Code.TheVariants as code
+use Rattle.lk_translate.specs.declared.translated.Translated.{Translated}
 use Rattle.lk_types.specs.TypeText.{type_text}
 use Rattle.lk_types.specs.declared.scheme.Scheme.{Scheme}
 use Rattle.serde_json.specs.Data.{Data}
@@ -38,6 +43,19 @@ abbrev pub lines_of : List FunDef → List Scheme → List ℕ
 lines_of [] schemes = []
 lines_of (f ∷ fs) [] = []
 lines_of (f ∷ fs) (scheme ∷ schemes) = scheme_line f scheme ++ lines_of fs schemes
+
+-- ---- what `sql` prints
+
+-- `LABEL SQL`; an update or a deletion has no line
+abbrev pub code_line : ℕ → Code → List ℕ
+code_line label (code.Select sql) = line (decimal label ∷ sql_text sql ∷ [])
+code_line label (code.Change change) = []
+
+abbrev pub query_line : Translated → List ℕ
+query_line query = code_line query.label query.code
+
+abbrev pub query_lines : List Translated → List ℕ
+query_lines queries = flat_map query_line queries
 
 -- ---- what `source` prints
 

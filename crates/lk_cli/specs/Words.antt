@@ -14,7 +14,7 @@ use Rattle.clap.specs.Simple.{App, new_app, new_rule, with_rule, with_subcommand
 use Rattle.clap.specs.Walk.{Row, Rule, first_of}
 use Rattle.clap.specs.declared.builder.action.ArgAction.TheVariants.{Set}
 use Rattle.lk_cli.specs.declared.command.Command.{Command}
-use Rattle.lk_cli.specs.declared.command.Command.TheVariants.{Check, Source}
+use Rattle.lk_cli.specs.declared.command.Command.TheVariants.{Check, Source, Sql}
 
 -- ---- the command line as data
 
@@ -29,6 +29,10 @@ optional name = record (new_rule name) { long = Some name; action = Some Set }
 -- `check PROGRAM`
 abbrev pub check_app : App
 check_app = with_rule (new_app (codes "check")) (needed (codes "program"))
+
+-- `sql PROGRAM`
+abbrev pub sql_app : App
+sql_app = with_rule (new_app (codes "sql")) (needed (codes "program"))
 
 -- `source PROGRAM ARG`
 abbrev pub bare_source_app : App
@@ -46,7 +50,7 @@ bare_app = on_top
 
 -- the command line
 abbrev pub links_app : App
-links_app = with_subcommand (with_subcommand bare_app check_app.top) source_app.top
+links_app = with_subcommand (with_subcommand (with_subcommand bare_app check_app.top) sql_app.top) source_app.top
 
 -- ---- what the values mean
 
@@ -85,6 +89,12 @@ check_of rows = do
   program ← first_of (codes "program") rows
   Some (Check (record { program = program }))
 
+-- `sql`, by the value of its argument: the program is any text
+unfoldable pub sql_of : List Row → Option Command
+sql_of rows = do
+  program ← first_of (codes "program") rows
+  Some (Sql (record { program = program }))
+
 -- `source`, by the values of its arguments: the fuel is a number, and all others are any texts
 unfoldable pub source_of : List Row → Option Command
 source_of rows = do
@@ -103,7 +113,8 @@ source_of rows = do
 
 -- the subcommand that was met, by its name and the values of its arguments
 abbrev pub command_of : List ℕ × List Row → Option Command
-command_of (name, rows) = if bytes_eq name (codes "check") then check_of rows else (if bytes_eq name (codes "source") then source_of rows else None)
+command_of (name, rows) =
+    if bytes_eq name (codes "check") then check_of rows else (if bytes_eq name (codes "sql") then sql_of rows else (if bytes_eq name (codes "source") then source_of rows else None))
 
 -- a command, where there is no kind of error
 abbrev pub unless : Kinds → Option Command → Option Command

@@ -2,8 +2,9 @@
 
 ghost use Rattle.std.specs.Prelude.{◌≡◌, [], ◌∷◌, IfOk};
 ghost use Rattle.lk_cli.specs.Report.{line};
-ghost use Rattle.lk_cli.specs.Answers.{IsPrintedFor, IsShown, end_status, refusal_text, refused_at, refused_shape, shape_name, status_of, tables_word};
+ghost use Rattle.lk_cli.specs.Answers.{IsPrintedFor, IsShown, end_status, refusal_text, refused_at, refused_shape, refused_size, shape_name, size_name, status_of, tables_word};
 
+use crate::queries::print_queries;
 use crate::report::report;
 use crate::schemes::print_schemes;
 use lk_ast::{List, NoMemory as OutOfMemory, Span, TableRows, Text};
@@ -13,6 +14,7 @@ use lk_names::{NameError, Scoped};
 use lk_parse::ParseError;
 use lk_sem::{SourceEnd, SourceRun};
 use lk_tables::TablesError;
+use lk_translate::{Size, TranslateError, Translated};
 use std::alloc::Global;
 use thiserror::Error;
 
@@ -21,15 +23,18 @@ use thiserror::Error;
 pub enum Answer {
     /// Of `check`: the schemes of a program.
     Schemes(Checked),
+    /// Of `sql`: the queries of a program.
+    Queries(Checked),
     /// Of `source`: a session.
     Run(Done),
 }
 
-/// A program whose names are bound, and what is inferred of it.
+/// A program whose names are bound, what is inferred of it, and what its queries, updates and deletions are as SQL.
 #[derive(Drop)]
 pub struct Checked {
     pub program: Scoped,
     pub typed: Typed,
+    pub queries: List<Translated>,
 }
 
 /// A session that has come to its end.
@@ -72,6 +77,8 @@ pub enum Refusal {
     Shape(ShapeKind, Span),
     #[error("functions are used at too many types")]
     TooManyInstances,
+    #[error("a query is too large")]
+    QueryTooLarge(Size, Span),
     #[error("no store has the name")]
     NoStore(Text),
     #[error("the text is not a tables file")]
@@ -153,6 +160,19 @@ impl From<MonoError> for Refusal {
     }
 }
 
+impl From<TranslateError> for Refusal {
+    ghost use Rattle.lk_cli.specs.Answers.{refusal_of_queries};
+
+    ghost from_gives = { λ error refusal. refusal ≡ refusal_of_queries error };
+
+    fn from(error: TranslateError) -> Self {
+        match error {
+            TranslateError::TooLarge(size, at) => Refusal::QueryTooLarge(size, at),
+            TranslateError::NoMemory => Refusal::NoMemory,
+        }
+    }
+}
+
 impl From<TablesError> for Refusal {
     ghost use Rattle.lk_cli.specs.Answers.{refusal_of_tables};
 
@@ -195,6 +215,28 @@ fn name_of_shape(kind: ShapeKind) -> &'static str
     }
 }
 
+/// The line of a refusal of a query's size.
+fn refused_size(alloc: Global, size: Size, at: Span) -> Result<Text, OutOfMemory>
+    ensures { IfOk result (λ text. text ≡ refused_size size at) }
+{
+    let name = name_of_size(size);
+    let line = format!(in alloc;
+        "refused 14 QueryTooLarge {} {} {}\n",
+        name, at.start, at.end
+    )?;
+    Ok(Text::from_string(line))
+}
+
+fn name_of_size(size: Size) -> &'static str
+    ensures { result.now ≡ size_name size }
+{
+    match size {
+        Size::Nodes => "nodes",
+        Size::Branches => "branches",
+        Size::Text => "text",
+    }
+}
+
 fn word_of_tables(kind: TablesError) -> &'static str
     ensures { result.now ≡ tables_word kind }
 {
@@ -219,6 +261,7 @@ pub fn print_answer(alloc: Global, answer: &Result<Answer, Refusal>) -> Result<T
             checked.program.program(),
             checked.typed.schemes.as_slice(),
         )?),
+        Ok(Answer::Queries(checked)) => Ok(print_queries(alloc, checked.queries.as_slice())?),
         Ok(Answer::Run(done)) => Ok(report(alloc, done)?),
         Err(refusal) => Ok(print_refusal(alloc, refusal)?),
     }
@@ -246,6 +289,7 @@ fn print_refusal(alloc: Global, refusal: &Refusal) -> Result<Text, OutOfMemory>
         Refusal::IllTyped(at) => refused_at(alloc, 11, "IllTyped", *at),
         Refusal::Shape(kind, at) => refused_shape(alloc, *kind, *at),
         Refusal::TooManyInstances => Ok(Text::from_str(alloc, "refused 13 TooManyInstances\n")?),
+        Refusal::QueryTooLarge(size, at) => refused_size(alloc, *size, *at),
         Refusal::NoStore(name) => line_with(alloc, "store", name.as_str()),
         Refusal::Tables(kind) => line_with(alloc, "tables", word_of_tables(*kind)),
         Refusal::StoreFault => Ok(Text::from_str(alloc, "store fault\n")?),
@@ -266,7 +310,7 @@ pub fn answer_status(answer: &Result<Answer, Refusal>) -> u8
     ensures { result ≡ status_of answer.now }
 {
     match answer {
-        Ok(Answer::Schemes(_)) => 0,
+        Ok(Answer::Schemes(_)) | Ok(Answer::Queries(_)) => 0,
         Ok(Answer::Run(done)) => status_of_end(&done.run.end),
         Err(Refusal::TextTooLong)
         | Err(Refusal::NotUtf8(_))
@@ -279,7 +323,8 @@ pub fn answer_status(answer: &Result<Answer, Refusal>) -> u8
         | Err(Refusal::TypeTooLarge(_))
         | Err(Refusal::IllTyped(_))
         | Err(Refusal::Shape(_, _))
-        | Err(Refusal::TooManyInstances) => 1,
+        | Err(Refusal::TooManyInstances)
+        | Err(Refusal::QueryTooLarge(_, _)) => 1,
         Err(Refusal::Words) => 2,
         Err(Refusal::ReadFault(_)) => 3,
         Err(Refusal::NoMemory) => 5,

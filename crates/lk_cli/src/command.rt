@@ -4,7 +4,7 @@ ghost use Rattle.std.specs.Prelude.{◌≡◌, false, IfOk, map, option_and_then
 ghost use Rattle.clap.specs.Walk.{first_of, rows_of, rule_of};
 ghost use Rattle.clap.specs.Words.{app_of, found_of, subcommand_rows_of};
 ghost use Rattle.clap.specs.declared.builder.command.Command.TheViews.{out-Command as fields_of};
-ghost use Rattle.lk_cli.specs.Words.{bare_app, bare_source_app, links_app, source_app, needed, optional, form_of, check_app, check_of, command_of, default_store, source_of, number_or, number_of};
+ghost use Rattle.lk_cli.specs.Words.{bare_app, bare_source_app, links_app, source_app, sql_app, needed, optional, form_of, check_app, check_of, command_of, sql_of, default_store, source_of, number_or, number_of};
 
 use clap::error::ErrorKind;
 use clap::{Arg, ArgAction, ArgMatches};
@@ -24,12 +24,20 @@ const MOST_FUEL: u64 = 1_000_000_000;
 #[derive(Debug, Drop)]
 pub enum Command {
     Check(CheckCommand),
+    Sql(SqlCommand),
     Source(SourceCommand),
 }
 
 /// `check PROGRAM`.
 #[derive(Debug, Drop)]
 pub struct CheckCommand {
+    /// The file of the program.
+    pub program: Text,
+}
+
+/// `sql PROGRAM`.
+#[derive(Debug, Drop)]
+pub struct SqlCommand {
     /// The file of the program.
     pub program: Text,
 }
@@ -69,6 +77,7 @@ fn command_of(alloc: Global, matches: &ArgMatches<'_>) -> Result<Option<Command>
 {
     match matches.subcommand() {
         Some(("check", matches)) => check_of(alloc, matches),
+        Some(("sql", matches)) => sql_of(alloc, matches),
         Some(("source", matches)) => source_of(alloc, matches),
         _ => Ok(None),
     }
@@ -84,6 +93,18 @@ fn check_of(alloc: Global, matches: &ArgMatches<'_>) -> Result<Option<Command>, 
     };
     let program = Text::from_str(alloc, program)?;
     Ok(Some(Command::Check(CheckCommand { program })))
+}
+
+/// `sql`, from the value of its argument.
+#[tactic(auto, unfolding(crate::specs::Words::sql_of))]
+fn sql_of(alloc: Global, matches: &ArgMatches<'_>) -> Result<Option<Command>, NoMemory>
+    ensures { IfOk result (λ command. command ≡ sql_of (rows_of (found_of matches.now))) }
+{
+    let Some(program) = value_of(matches, "program") else {
+        return Ok(None);
+    };
+    let program = Text::from_str(alloc, program)?;
+    Ok(Some(Command::Sql(SqlCommand { program })))
 }
 
 /// `source`, from the values of its arguments.
@@ -162,6 +183,7 @@ fn links_command<'a>(alloc: Global) -> Result<clap::Command<'a>, AllocError>
 {
     bare_command(alloc)
         .subcommand(check_command(alloc)?)?
+        .subcommand(sql_command(alloc)?)?
         .subcommand(source_command(alloc)?)
 }
 
@@ -182,6 +204,13 @@ fn check_command<'a>(alloc: Global) -> Result<clap::Command<'a>, AllocError>
     ensures { IfOk result (λ command. (app_of command ≡ check_app) × ((fields_of command).has_globals ≡ false)) }
 {
     clap::Command::new(alloc, "check").arg(needed(alloc, "program"))
+}
+
+/// `sql PROGRAM`.
+fn sql_command<'a>(alloc: Global) -> Result<clap::Command<'a>, AllocError>
+    ensures { IfOk result (λ command. (app_of command ≡ sql_app) × ((fields_of command).has_globals ≡ false)) }
+{
+    clap::Command::new(alloc, "sql").arg(needed(alloc, "program"))
 }
 
 /// `source PROGRAM ARG`, with `--tables FILE`, `--store NAME` and `--fuel N`.

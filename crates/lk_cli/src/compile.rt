@@ -1,21 +1,22 @@
-//! The program of a command: read, with its names bound, typed, and with a ground program.
+//! The program of a command: read, with its names bound, typed, with a ground program, and with its queries as SQL.
 
-ghost use Rattle.std.specs.Prelude.{◌≡◌, ◌≤◌, IfErr, IfOk};
+ghost use Rattle.std.specs.Prelude.{◌≡◌, ◌≤◌, ◌⊎◌, IfErr, IfOk};
 ghost use Rattle.lk_bag.specs.Blocks.{AreBlocksApart};
-ghost use Rattle.lk_cli.specs.Answers.{HasGround, HasNoProgram, IsAccepted, IsNotAccepted, IsNotGround, IsNotTyped, IsProgram, IsTyped};
+ghost use Rattle.lk_cli.specs.Answers.{HasNoProgram, IsAccepted, IsNotAccepted, IsNotGround, IsNotTranslated, IsNotTyped, IsProgram, IsTranslated, IsTyped};
 ghost use Rattle.lk_cli.specs.Seen.{seen};
 ghost use Rattle.lk_ground.specs.UsesApart.{AreUsesApart};
 ghost use Rattle.lk_index.specs.Places.{ArePlaced};
 
 use crate::READ_MAX;
 use crate::answer::{Checked, Refusal};
-use lk_ast::{Program, Text};
-use lk_infer::infer;
+use lk_ast::{List, Program, Text};
+use lk_infer::{Typed, infer};
 use lk_mono::ground;
-use lk_names::resolve;
+use lk_names::{Scoped, resolve};
 use lk_outside::{Files, OutFault};
 use lk_parse::parse;
 use lk_places::places_law;
+use lk_translate::{Translated, translate, translate_laws};
 use std::alloc::Global;
 
 /// The program of the file of that name. Its functions and lambdas begin at places of their own, and so do the uses of
@@ -40,37 +41,33 @@ pub fn read_program<F: Files>(alloc: Global, name: &str, files: &mut F) -> Resul
     Ok(parse(alloc, text.as_slice())?)
 }
 
-/// The program with its names bound, its schemes and its types, and with a ground program.
+/// The program with its names bound, its schemes and its types, and its queries, updates and deletions as SQL.
 pub fn check_program(alloc: Global, program: Program) -> Result<Checked, Refusal>
     ensures same { IfOk result (λ checked. checked.program ≡ program) }
-    ensures accepted { IfOk result (λ checked. IsAccepted checked.program checked.typed) }
+    ensures accepted { IfOk result (λ checked. IsAccepted checked.program checked.typed checked.queries) }
     ensures refused { IfErr result (IsNotAccepted program) }
-{
-    let checked = type_program(alloc, program)?;
-    make_ground(alloc, &checked)?;
-    Ok(checked)
-}
-
-/// The program with its names bound, its schemes and its types.
-fn type_program(alloc: Global, program: Program) -> Result<Checked, Refusal>
-    ensures same { IfOk result (λ checked. checked.program ≡ program) }
-    ensures typed { IfOk result (λ checked. IsTyped checked.program checked.typed) }
-    ensures refused { IfErr result (IsNotTyped program) }
 {
     let scoped = resolve(alloc, program)?;
     let typed = infer(alloc, &scoped)?;
+    let queries = translate_program(alloc, &scoped, &typed)?;
     Ok(Checked {
         program: scoped,
         typed,
+        queries,
     })
 }
 
-/// Makes the ground program of a typed program, only to see that there is one.
-fn make_ground(alloc: Global, checked: &Checked) -> Result<(), Refusal>
-    requires typed { IsTyped checked.now.program checked.now.typed }
-    ensures made { IfOk result (λ done. HasGround checked.now.program checked.now.typed) }
-    ensures refused { IfErr result (IsNotGround checked.now.program checked.now.typed) }
+/// The queries, updates and deletions of a typed program as SQL, those of its ground program.
+fn translate_program(
+    alloc: Global,
+    program: &Scoped,
+    typed: &Typed,
+) -> Result<List<Translated>, Refusal>
+    requires typed { IsTyped program.now typed.now }
+    ensures made { IfOk result (IsTranslated program.now typed.now) }
+    ensures refused { IfErr result (λ refusal. IsNotGround program.now typed.now refusal ⊎ IsNotTranslated program.now typed.now refusal) }
 {
-    ground(alloc, &checked.program, &checked.typed)?;
-    Ok(())
+    translate_laws();
+    let ground = ground(alloc, program, typed)?;
+    Ok(translate(alloc, &ground)?)
 }

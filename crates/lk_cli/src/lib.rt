@@ -6,13 +6,14 @@ mod answer;
 mod command;
 mod compile;
 mod load;
+mod queries;
 mod report;
 mod schemes;
 mod session;
 mod top;
 
 pub use answer::{Answer, Checked, Done, Refusal};
-pub use command::{CheckCommand, Command, SourceCommand};
+pub use command::{CheckCommand, Command, SourceCommand, SqlCommand};
 pub use top::{Ran, links_main};
 
 /// How many bytes of a program's file are read: one more than a program's text may have.

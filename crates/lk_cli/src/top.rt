@@ -10,13 +10,13 @@ ghost use Rattle.lk_cli.specs.Seen.{StoresSeen, seen, stores_seen};
 ghost use Rattle.lk_cli.specs.Words.{form_of, store_of};
 ghost use Rattle.lk_cli.specs.declared.answer.Answer.{Answer as TheAnswer};
 ghost use Rattle.lk_cli.specs.declared.answer.Refusal.{Refusal as TheRefusal};
-ghost use Rattle.lk_cli.specs.declared.command.Command.TheVariants.{Check, Source};
+ghost use Rattle.lk_cli.specs.declared.command.Command.TheVariants.{Check, Source, Sql};
 ghost use Rattle.lk_index.specs.Places.{ArePlaced};
 ghost use Rattle.lk_sound.specs.Instances.{IsShaped};
 ghost use Rattle.lk_sound.specs.Law.{AreBoundAndApart};
 
 use crate::answer::{Answer, Checked, Refusal, answer_status, print_answer};
-use crate::command::{CheckCommand, Command, SourceCommand, read_words};
+use crate::command::{CheckCommand, Command, SourceCommand, SqlCommand, read_words};
 use crate::compile::{check_program, read_program};
 use crate::load::rows_to_load;
 use crate::session::{Rows, Tried, run_in_box};
@@ -106,6 +106,10 @@ fn answer_words<F: Files>(
             answer: answer_check(alloc, &command, files),
             store: None,
         },
+        Ok(Some(Command::Sql(command))) => Answered {
+            answer: answer_sql(alloc, &command, files),
+            store: None,
+        },
         Ok(Some(Command::Source(command))) => answer_source(alloc, &command, files, stores),
     }
 }
@@ -120,6 +124,18 @@ fn answer_check<F: Files>(
     ensures answers { (stores : StoresSeen) → stores.back ≡ None → Answers (seen F.contents F.failed F.faults files.old files.new) stores (Some (Check command.now)) result }
 {
     Ok(Answer::Schemes(accepted_program(alloc, command.program.as_str(), files)?))
+}
+
+/// The answer to `sql`, which asks for no store.
+fn answer_sql<F: Files>(
+    alloc: Global,
+    command: &SqlCommand,
+    files: &mut F,
+) -> Result<Answer, Refusal>
+    ensures shown { IsShown result }
+    ensures answers { (stores : StoresSeen) → stores.back ≡ None → Answers (seen F.contents F.failed F.faults files.old files.new) stores (Some (Sql command.now)) result }
+{
+    Ok(Answer::Queries(accepted_program(alloc, command.program.as_str(), files)?))
 }
 
 /// The answer to `source`. Its program is read and accepted before a store is picked.
@@ -207,12 +223,12 @@ fn tell(tried: Tried) -> Answered
     }
 }
 
-/// The program of the file of that name, accepted with its schemes and types.
+/// The program of the file of that name, accepted with its schemes, its types and its queries as SQL.
 fn accepted_program<F: Files>(alloc: Global, file: &str, files: &mut F) -> Result<Checked, Refusal>
     ensures contents { F.contents files.new ≡ F.contents files.old }
     ensures later { F.faults files.old ≤ F.faults files.new }
     ensures program { IfOk result (λ checked. IsProgram (seen F.contents F.failed F.faults files.old files.new) file.now checked.program) }
-    ensures accepted { IfOk result (λ checked. IsAccepted checked.program checked.typed) }
+    ensures accepted { IfOk result (λ checked. IsAccepted checked.program checked.typed checked.queries) }
     ensures placed { IfOk result (λ checked. ArePlaced checked.program) }
     ensures blocks { IfOk result (λ checked. AreBlocksApart checked.program) }
     ensures refused { IfErr result (HasNoAccepted (seen F.contents F.failed F.faults files.old files.new) file.now) }
