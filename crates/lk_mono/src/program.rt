@@ -137,9 +137,9 @@ fn ground_source<'p>(alloc: Global, source: Source<'_, 'p>) -> Result<GroundProg
 /// instances in both lists together as `TooManyInstances`; and then what can't be shown, compared or run by a database as
 /// `Shape`, at the first place. `NoMemory` where memory runs out.
 ///
-/// Its instances are a closed set whose queries are flat, with the types of their nodes and what their uses call. So no function stands in what the sessions of a program that has one
-/// show, these have the same events as the sessions of the ground program, and no helper calls itself, directly or through
-/// others.
+/// Its instances are a closed set whose queries are flat, with the types of their nodes and what their uses call. So no
+/// function stands in what the sessions of a program that has one show, these have the same events as the sessions of the
+/// ground program, and no helper calls itself, directly or through others.
 pub fn ground<'p>(
     alloc: Global,
     program: &'p Scoped,
