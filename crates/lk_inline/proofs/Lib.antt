@@ -40,10 +40,13 @@ pub mod RecordRules
 pub mod RecordValues
 pub mod RowLabels
 pub mod SiteLabels
+pub mod SiteRests
 pub mod SiteTyping
+pub mod SitesFound
 pub mod SitesTyped
 pub mod Standing
 pub mod Takes
+pub mod Touring
 pub mod TypesOfInstances
 pub mod TypesOfRows
 pub mod TypesOfUses

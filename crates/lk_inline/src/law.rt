@@ -1,6 +1,6 @@
 //! The laws of inlining.
 
-ghost use Rattle.lk_inline.specs.Law.{BlockLaw, SitesLaw, TypesLaw};
+ghost use Rattle.lk_inline.specs.Law.{BlockLaw, SitesFoundLaw, SitesLaw, TypesLaw};
 
 /// The laws of inlining for those who inline blocks of a program, as facts. A call does nothing.
 ///
@@ -12,8 +12,11 @@ ghost use Rattle.lk_inline.specs.Law.{BlockLaw, SitesLaw, TypesLaw};
 /// `types`: in the functions of a ground program none has.
 ///
 /// `sites`: each site of a ground program is a block of the program's text, typed in an instance, and has its label.
+///
+/// `found`: each query, reading of a table, update and deletion that stands in an instance outside of others is one.
 pub fn inline_laws()
     ensures blocks { BlockLaw }
     ensures types { TypesLaw }
     ensures sites { SitesLaw }
+    ensures found { SitesFoundLaw }
 {}
