@@ -1,4 +1,4 @@
--- What a block captures has no label twice, where no type of its nodes has: each captured name stands in it.
+-- What a block captures has no label twice, where the types of its nodes have their labels in order: each captured name stands in it.
 use Rattle.std.proofs.Common.{◌≡◌, refl, sym, ◌∙◌, subst, Bool, true, false, List, [], ◌∷◌, drop, length, map, None, Some, if◌then◌else◌}
 use Rattle.lk_ast.specs.Functions.{functions_of}
 use Rattle.lk_ast.specs.Layers.{Layer, layer}
@@ -14,13 +14,14 @@ use Rattle.lk_inline.proofs.BlockForms.{IsChangeAlone, IsChangeBlock, IsQueryAlo
 use Rattle.lk_inline.proofs.BlockNames.{AreKept, captured_are, each_entry}
 use Rattle.lk_inline.proofs.BlockValues.{IsProper}
 use Rattle.lk_inline.proofs.FreeNodes.{AreOfNodes, change_there, each_taken, free_there, of_node}
+use Rattle.lk_inline.proofs.LabelOrder.{order_distinct}
 use Rattle.lk_inline.proofs.UsesOrder.{ordered_of}
 use Rattle.lk_inline.proofs.UsesTyped.{change_typed, uses_typed}
 use Rattle.lk_inline.specs.Blocks.{IsBlock}
 use Rattle.lk_inline.specs.Inlined.{captured_as, change_at, inlined_at, inlined_by, query_at}
 use Rattle.lk_inline.specs.Law.{IsProperType}
 use Rattle.lk_inline.specs.Pending.{pending}
-use Rattle.lk_inline.specs.Shapes.{columns_of, kind_of}
+use Rattle.lk_inline.specs.Shapes.{columns_of, kind_of, labels}
 use Rattle.lk_inline.specs.Sites.{Site}
 use Rattle.lk_inline.specs.Uses.{change_uses, query_uses}
 use Rattle.lk_mono.specs.Instanced.{HasInstances}
@@ -50,7 +51,7 @@ one_proper t proper = by_base (is_base t)
   where
     by_base : (b : Bool) → IsProper (if b then captured.Base (kind_of t) else captured.Row (columns_of t))
     by_base true = tt
-    by_base false = proper
+    by_base false = order_distinct (labels (columns_of t)) proper.columns
 
 each_proper : (kept : Named Ground) → Each (λ (e : Label × Ground). IsProperType e.1) kept → Each IsProper (map captured_as (types_of kept))
 each_proper [] all = tt

@@ -15,6 +15,7 @@ pub mod Counting
 pub mod Entering
 pub mod EqualRows
 pub mod Extensions
+pub mod FaultlessBodies
 pub mod Filling
 pub mod Following
 pub mod FreeNodes
@@ -22,6 +23,7 @@ pub mod Helpers
 pub mod Inducing
 pub mod Induction
 pub mod Inlining
+pub mod LabelOrder
 pub mod LawBlocks
 pub mod LawTypes
 pub mod Levels
@@ -32,6 +34,7 @@ pub mod NodeCounts
 pub mod Operating
 pub mod OperatorValues
 pub mod Ordered
+pub mod OwnLabels
 pub mod Passing
 pub mod PutFields
 pub mod QueryTypes

@@ -17,6 +17,7 @@ use Rattle.lk_ast.specs.declared.value.Value.TheVariants as value
 use Rattle.lk_ast.specs.declared.value.Value.{Value}
 use Rattle.lk_bag.specs.Bag.{value_of}
 use Rattle.lk_ground_types.specs.Shapes.{are_rows, is_base, is_flat_row, is_there, row_level}
+use Rattle.lk_inline.proofs.LabelOrder.{sorted_in_order}
 use Rattle.lk_inline.proofs.PutFields.{entry_labels, sorted_distinct}
 use Rattle.lk_inline.proofs.RowLabels.{at_own_labels, cell_labels, element_labels_are, field_labels, fields_fit_labels, labels_are}
 use Rattle.lk_inline.proofs.Standing.{base_stands, rows_stand}
@@ -35,6 +36,7 @@ use Rattle.lk_sound.proofs.TableRows.{cell_fields, rows_of_table}
 use Rattle.lk_sound.specs.Instances.{Instances}
 use Rattle.lk_sound.specs.Tables.{AreTables}
 use Rattle.lk_sound.specs.Values.{AllFit, Fits, more}
+use Rattle.lk_sql.specs.Good.{are_in_order}
 use Rattle.lk_sql.specs.Meaning.{cell_in}
 use Rattle.lk_types.specs.Each.{Each, OneOf}
 use Rattle.lk_types.specs.Rows as rows
@@ -101,6 +103,9 @@ entry_fields (e ∷ es) = ap (λ ls. e.0 ∷ ls) (entry_fields es)
 
 pub row_distinct : (row : rows.Row) → AreDistinct (field_labels (fields_of row))
 row_distinct row = subst AreDistinct (sym (entry_fields (fin.entries row))) (sorted_distinct (fin.entries row) (fin.entries_sorted row))
+
+pub row_in_order : (row : rows.Row) → are_in_order (field_labels (fields_of row)) ≡ true
+row_in_order row = ap are_in_order (entry_fields (fin.entries row)) ∙ sorted_in_order (fin.entries row) (fin.entries_sorted row)
 
 -- ---- tables
 

@@ -1,15 +1,15 @@
 -- In a ground program all nodes have types of rows: `main` has its least type, and what a body becomes at such a type has such types.
-use Rattle.std.proofs.Common.{◌≡◌, ℕ, zero, suc, refl, sym, ◌∙◌, subst, Bool, true, false, List, [], ◌∷◌, ◌++◌, None, Option, Some, slice_get}
+use Rattle.std.proofs.Common.{◌≡◌, ℕ, zero, suc, refl, sym, ◌∙◌, subst, Bool, true, false, List, [], ◌∷◌, ◌++◌, None, Option, Some, length, slice_get}
 use Rattle.lk_ast.specs.declared.declaration.Program.{Program}
 use Rattle.lk_ground.specs.declared.program.GroundFun.{GroundFun}
 use Rattle.lk_ground_types.specs.Least.{least}
 use Rattle.lk_inline.proofs.TypesOfRows.{OfRows, all_of_rows, becomes_of_rows, least_of_rows, proper_type}
 use Rattle.lk_inline.proofs.TypesOfUses.{HasRows, UsesRows, uses_rows}
-use Rattle.lk_inline.specs.Law.{IsProperType, TypesLaw}
+use Rattle.lk_inline.specs.Law.{AreProper, IsProperType, TypesLaw}
 use Rattle.lk_mono.proofs.NodeTypes.{types_of}
 use Rattle.lk_mono.specs.Grounded.{Are}
 use Rattle.lk_mono.specs.Held.{types_in}
-use Rattle.lk_mono.specs.Instances.{AreMains, Body, IsBody, IsMain, IsWalked, IsWith, Wanted, lacking, next, nothing, outside, own_turn, start, there, uses_among, uses_of, with_use}
+use Rattle.lk_mono.specs.Instances.{AreGathered, AreHelpers, AreMains, Body, IsBody, IsMain, IsWalked, IsWith, Turn, Wanted, everywhere, lacking, next, nothing, outside, own_turn, start, there, turn_of, uses_among, uses_of, with_use, within_blocks}
 use Rattle.lk_sound.specs.Nodes.{TypedNode, Use, nodes_of}
 use Rattle.lk_types.specs.Each.{Each}
 use Rattle.lk_types.specs.Grounding.{Grounding, under}
@@ -68,17 +68,26 @@ module _ (p : Program) (schemes : List Scheme) (types : List Ty) where
       let all : Each HasRows (nodes_of false function.body) = nodes_each (nodes_of false function.body) (subst (Each OfRows) (function.all ∙ sym (types_of false function.body)) each) in
       (subst (Each HasRows) (sym body.are) all, subst (Each UsesRows) (sym body.are) (uses_rows false function.body all))
 
-  walked_rows : (others : ℕ) (first : List Use) (n : ℕ) (list : List Use) → IsWalked p schemes types own_turn outside others first n list → Each HasUse first → Each HasUse list
-  walked_rows others first _ _ start all = all
-  walked_rows others first _ longer (next {n = n} {list = list} {u = u} {nodes = nodes} before turn body small added) all =
-      let listed : Each HasUse list = walked_rows others first n list before all in
-      with_all others list (uses_among outside nodes) longer added listed (used_among outside nodes (body_rows u nodes body (use_at list n u turn listed)).1)
+  -- what is walked where each instance whose turn it is has such a type
+  walked_rows : (turn : Turn) (wanted : Wanted) → ((list : List Use) (n : ℕ) (u : Use) → turn list n ≡ Some u → Each HasUse list → OfRows u.type)
+      → (others : ℕ) (first : List Use) (n : ℕ) (list : List Use) → IsWalked p schemes types turn wanted others first n list → Each HasUse first → Each HasUse list
+  walked_rows turn wanted in_turn others first _ _ start all = all
+  walked_rows turn wanted in_turn others first _ longer (next {n = n} {list = list} {u = u} {nodes = nodes} before turned body small added) all =
+      let listed : Each HasUse list = walked_rows turn wanted in_turn others first n list before all in
+      with_all others list (uses_among wanted nodes) longer added listed (used_among wanted nodes (body_rows u nodes body (in_turn list n u turned listed)).1)
 
   main_rows : (u : Use) → IsMain p schemes u → OfRows u.type
   main_rows u main = becomes_of_rows least least_of_rows main.scheme.body u.type main.instance.body
 
   mains_rows : (mains : List Use) → AreMains p schemes types mains → Each HasUse mains
-  mains_rows mains (u, main, done) = walked_rows 0 (u ∷ []) done.number mains done.walked (main_rows u main, tt)
+  mains_rows mains (u, main, done) = walked_rows own_turn outside use_at 0 (u ∷ []) done.number mains done.walked (main_rows u main, tt)
+
+  -- what they use inside of queries, updates and deletions, and what helpers use
+  gathered_rows : (mains gathered : List Use) → AreGathered p schemes types mains gathered → Each HasUse mains → Each HasUse gathered
+  gathered_rows mains gathered done all = walked_rows (turn_of mains) within_blocks (λ list n u turned listed. use_at mains n u turned all) (length mains) [] done.number gathered done.walked tt
+
+  helpers_rows : (mains gathered helpers : List Use) → AreHelpers p schemes types mains gathered helpers → Each HasUse gathered → Each HasUse helpers
+  helpers_rows mains gathered helpers done all = walked_rows own_turn everywhere use_at (length mains) gathered done.number helpers done.walked all
 
   -- ---- functions
 
@@ -87,11 +96,16 @@ module _ (p : Program) (schemes : List Scheme) (types : List Ty) where
   types_proper (node ∷ nodes) all = (proper_type node.part.type all.0, types_proper nodes all.1)
 
   functions_proper : (mains helpers : List Use) (in_helper : Bool) (fs : List GroundFun) (bodies : List Body) → Are p mains helpers in_helper fs bodies → Each (λ (body : Body). IsBody p schemes types body.use_of body.nodes) bodies → Each HasUse (uses_of bodies)
-      → Each (λ (f : GroundFun). Each IsProperType f.types) fs
+      → AreProper fs
   functions_proper mains helpers in_helper _ _ Are.none bodies uses = tt
   functions_proper mains helpers in_helper _ _ (Are.more {f = f} {fs = fs} {body = body} {bodies = others} one rest) bodies uses =
       (subst (Each IsProperType) (sym one.types) (types_proper body.nodes (body_rows body.use_of body.nodes bodies.0 uses.0).0), functions_proper mains helpers in_helper fs others rest bodies.1 uses.1)
 
 pub types-proper : TypesLaw
 types-proper p schemes types g grounded =
-    functions_proper p schemes types (uses_of grounded.mains) (uses_of grounded.helpers) false g.funs grounded.mains grounded.funs grounded.instances.main_bodies (mains_rows p schemes types (uses_of grounded.mains) grounded.instances.first)
+    let mains : List Use = uses_of grounded.mains in
+    let helpers : List Use = uses_of grounded.helpers in
+    let instances = grounded.instances in
+    let of_mains : Each HasUse mains = mains_rows p schemes types mains instances.first in
+    let of_helpers : Each HasUse helpers = helpers_rows p schemes types mains instances.gathered helpers instances.second (gathered_rows p schemes types mains instances.gathered instances.inside of_mains) in
+    (functions_proper p schemes types mains helpers false g.funs grounded.mains grounded.funs instances.main_bodies of_mains, functions_proper p schemes types mains helpers true g.helpers grounded.helpers grounded.others instances.helper_bodies of_helpers)

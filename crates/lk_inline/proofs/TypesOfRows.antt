@@ -1,4 +1,4 @@
--- Ground types whose records and variants are rows, so that no label is there twice: what a type becomes is such a type where all
+-- Ground types whose records and variants are rows, so that their labels stand in order: what a type becomes is such a type where all
 -- that stands for its variables is, and the other way round.
 use Rattle.std.proofs.Common.{◌≡◌, refl, sym, ap, ◌∙◌, subst, inl, inr, ◌⊎◌, List, [], ◌∷◌, ◌++◌, map, flat_map, Bool, true, false, bytes_eq, cond, Some, None}
 use Rattle.std.specs.Cmp.Lexicographic.{slice_cmp}
@@ -10,14 +10,14 @@ use Rattle.lk_ground_types.proofs.TypeInduction.{Hereditary, every_type}
 use Rattle.lk_ground_types.proofs.Variables.{among_each, among_or}
 use Rattle.lk_ground_types.specs.Least.{IsAmong, IsLeastBut, least, unit}
 use Rattle.lk_inline.proofs.RecordRules.{got}
-use Rattle.lk_inline.proofs.RecordValues.{row_distinct}
+use Rattle.lk_inline.proofs.RecordValues.{row_in_order}
 use Rattle.lk_inline.proofs.RowLabels.{bytes_itself, labels_are}
 use Rattle.lk_inline.specs.Law.{IsProperType}
-use Rattle.lk_inline.specs.Shapes.{columns_level, labels}
-use Rattle.lk_inline.specs.Stands.{AreDistinct}
+use Rattle.lk_inline.specs.Shapes.{columns_level, columns_of, element_columns, element_level, labels}
 use Rattle.lk_sound.proofs.Bindings.{same_bytes}
 use Rattle.lk_sound.proofs.FieldRows.{among_get, as_fields, get_among, no_entries}
 use Rattle.lk_sound.proofs.Members.{each_in, each_of_in}
+use Rattle.lk_sql.specs.Good.{are_in_order}
 use Rattle.lk_types.proofs.Unfold.{under_bool, under_fields, under_function, under_int, under_list, under_tags, under_text, under_variable, variables_bool, variables_field, variables_fields, variables_function, variables_int, variables_list, variables_tags, variables_text, variables_variable}
 use Rattle.lk_types.specs.Each.{Each}
 use Rattle.lk_types.specs.Grounding.{Grounding, all_of, before_row, effects_under, row_tail, row_under, under}
@@ -80,14 +80,25 @@ shape t (OfRows.fields m same inner) = shaped t (known.Fields (fields_of m)) (Gr
 shape t (OfRows.tags m same inner) = shaped t (known.Tags (fields_of m)) (Ground-F.Tags (fields_of m)) same (known.outs-Tags (fields_of m)) (m, refl, inner)
 shape t (OfRows.fun ts es a same inner answer) = shaped t (known.Fun ts es a) (Ground-F.Fun ts es a) same (known.outs-Fun ts es a) (inner, answer)
 
--- no label of a record is there twice
-pub proper_type : (t : Ground) → OfRows t → IsProperType t
-proper_type t of_rows = by_form (out-Ground t) (shape t of_rows)
+-- the labels of a record stand in order
+record_in_order : (t : Ground) → OfRows t → are_in_order (labels (columns_of t)) ≡ true
+record_in_order t of_rows = by_form (out-Ground t) (shape t of_rows)
   where
-    by_form : (l : Ground-F Ground GroundField) → Shape l → AreDistinct (labels (columns_level l))
+    by_form : (l : Ground-F Ground GroundField) → Shape l → are_in_order (labels (columns_level l)) ≡ true
     by_form (Ground-F.Fields gs) (m, same, inner) =
-        subst AreDistinct (sym (ap (λ hs. labels (columns_level (Ground-F.Fields hs))) same ∙ ap (λ l. labels (columns_level l)) (sym (known.outs-Fields (fields_of m))) ∙ labels_are (fields_of m))) (row_distinct m)
-    by_form other shape = tt
+        ap are_in_order (ap (λ hs. labels (columns_level (Ground-F.Fields hs))) same ∙ ap (λ l. labels (columns_level l)) (sym (known.outs-Fields (fields_of m))) ∙ labels_are (fields_of m)) ∙ row_in_order m
+    by_form other shape = refl
+
+-- and those of the records in a list
+elements_in_order : (t : Ground) → OfRows t → are_in_order (labels (element_columns t)) ≡ true
+elements_in_order t of_rows = by_form (out-Ground t) (shape t of_rows)
+  where
+    by_form : (l : Ground-F Ground GroundField) → Shape l → are_in_order (labels (element_level l)) ≡ true
+    by_form (Ground-F.List a) inner = record_in_order a inner
+    by_form other shape = refl
+
+pub proper_type : (t : Ground) → OfRows t → IsProperType t
+proper_type t of_rows = record { columns = record_in_order t of_rows; elements = elements_in_order t of_rows }
 
 -- ---- rows
 

@@ -23,10 +23,9 @@ use Rattle.lk_ground.specs.declared.program.GroundFun.{GroundFun}
 use Rattle.lk_ground.specs.declared.program.GroundProgram.{GroundProgram}
 use Rattle.lk_inline.specs.Blocks.{IsBlock}
 use Rattle.lk_inline.specs.Inlined.{inlined_at}
-use Rattle.lk_inline.specs.Shapes.{columns_of, labels}
+use Rattle.lk_inline.specs.Shapes.{columns_of, element_columns, labels}
 use Rattle.lk_inline.specs.SiteKinds.{is_site}
 use Rattle.lk_inline.specs.Sites.{Site, is_closed, sites_of}
-use Rattle.lk_inline.specs.Stands.{AreDistinct}
 use Rattle.lk_mono.specs.Grounded.{IsGrounded}
 use Rattle.lk_mono.specs.Instanced.{HasInstances}
 use Rattle.lk_names.specs.Programs.{IsBound}
@@ -38,6 +37,7 @@ use Rattle.lk_query.specs.declared.query.Inlined.TheVariants as inlined
 use Rattle.lk_query.specs.declared.query.InlinedChange.{InlinedChange}
 use Rattle.lk_query.specs.declared.query.Query.{Query}
 use Rattle.lk_sound.specs.Tables.{AreTables, table_at}
+use Rattle.lk_sql.specs.Good.{are_in_order}
 use Rattle.lk_types.specs.Each.{Each, OneOf}
 use Rattle.lk_types.specs.declared.ground.Ground.{Ground}
 use Rattle.lk_types.specs.declared.scheme.Scheme.{Scheme}
@@ -45,9 +45,14 @@ use Rattle.lk_types.specs.declared.ty.Ty.{Ty}
 
 -- ---- types
 
--- a type that isn't of records with a label twice
-abbrev pub IsProperType : Ground → Type 0
-IsProperType t = AreDistinct (labels (columns_of t))
+-- the labels of a record stand in byte order, so that none is there twice, and so do those of the records in a list
+pub record IsProperType (t : Ground) : Type 0 where
+  pub columns : are_in_order (labels (columns_of t)) ≡ true
+  pub elements : are_in_order (labels (element_columns t)) ≡ true
+
+-- each type of a node in these functions is so
+abbrev pub AreProper : List GroundFun → Type 0
+AreProper fs = Each (λ (f : GroundFun). Each IsProperType f.types) fs
 
 -- ---- what is kept
 
@@ -77,14 +82,14 @@ module _ (p : Program) (block : Expr) where
     delete : {l : Layer} {change : ChangeExpr} {c : InlinedChange} → l ≡ Node-F.Delete change → KeepsTest c change → Keeps l (inlined.Change c)
 
 -- Where the program's names are bound and its instances are a closed set, what is inlined of a block in them keeps its meaning, if
--- no type of a node from the block on is of records with a label twice.
+-- the types of the nodes from the block on have their labels in order.
 abbrev pub BlockLaw : Type 0
 BlockLaw = (p : Program) → IsBound p → (g : GroundProgram) → (has : HasInstances p g) → (site : Site) → IsBlock p has.instances site.block site.types site.calls → Each IsProperType site.types
     → (found : Inlined) → inlined_at p g.helpers site ≡ Some found → Keeps p site.block (layer site.block) found
 
--- In the functions of a ground program no type is.
+-- In the functions and the helpers of a ground program all types have.
 abbrev pub TypesLaw : Type 0
-TypesLaw = (p : Program) (schemes : List Scheme) (types : List Ty) (g : GroundProgram) → IsGrounded p schemes types g → Each (λ (f : GroundFun). Each IsProperType f.types) g.funs
+TypesLaw = (p : Program) (schemes : List Scheme) (types : List Ty) (g : GroundProgram) → IsGrounded p schemes types g → AreProper g.funs × AreProper g.helpers
 
 -- ---- sites
 

@@ -1,0 +1,132 @@
+-- In a program whose names are bound the keys of each query have distinct labels, and so has what each update sets.
+use Rattle.std.proofs.Common.{◌≡◌, refl, sym, ap, ap₂, subst, ◌∙◌, Bool, true, false, ◌&&◌, ◌||◌, not, List, [], ◌∷◌, map, Some, None, if◌then◌else◌, inl, inr}
+use Rattle.std.proofs.lemmas.Bool.{both_ways}
+use Rattle.std.proofs.lemmas.Cmp.{nat_list_cmp_total}
+use Rattle.std.specs.Cmp.{tied_itself}
+use Rattle.std.specs.Cmp.Lexicographic.{slice_cmp}
+use Rattle.std.specs.FinSet as set
+use Rattle.std.specs.Ordering.{nat_cmp, eq_by_cmp, is_eq}
+use Rattle.lk_ast.specs.Layers.{layer}
+use Rattle.lk_ast.specs.declared.declaration.Program.{Program}
+use Rattle.lk_ast.specs.declared.expression.ChangeExpr.{ChangeExpr, fold_out-ChangeExpr, out-ChangeExpr}
+use Rattle.lk_ast.specs.declared.expression.Expr.{Expr}
+use Rattle.lk_ast.specs.declared.expression.Node.TheOpen.{Node-F}
+use Rattle.lk_ast.specs.declared.expression.PartExpr.{PartExpr, fold_out-PartExpr}
+use Rattle.lk_ast.specs.declared.expression.SortKey.{SortKey}
+use Rattle.lk_ast.specs.declared.place.Span.{Span}
+use Rattle.lk_ast.specs.declared.place.Word.{Word}
+use Rattle.lk_bag.specs.Blocks.{blocks_of}
+use Rattle.lk_inline.proofs.FaultlessBodies.{HasNoFault, blocks_fine, level_fine}
+use Rattle.lk_inline.proofs.LabelOrder.{not_there}
+use Rattle.lk_names.specs.Expressions.{case_in, change_fault, change_in, expr_in, fault, global_fault, lambda_in, last_in, node_in, part_in, part_item}
+use Rattle.lk_names.specs.Faults.{Fault, first_of}
+use Rattle.lk_names.specs.Programs.{IsBound}
+use Rattle.lk_names.specs.Repeats.{Item, items_fault, key_item, keys_fault, twice_fault}
+use Rattle.lk_names.specs.declared.error.NameError.TheVariants.{Twice}
+use Rattle.lk_names.specs.declared.globals.Globals.{Globals}
+use Rattle.lk_scope.specs.Names.{Names, bind, is_local, no_names}
+use Rattle.lk_scope.specs.Scoped.{In, all_in}
+use Rattle.lk_sound.proofs.Faultless.{mapped, neither}
+use Rattle.lk_sound.proofs.Members.{each_in}
+use Rattle.lk_sql.specs.Good.{are_distinct, is_there}
+use Rattle.lk_types.specs.Each.{Each, OneOf}
+use Rattle.lk_types.specs.Rows.{Label}
+
+-- ---- names that were not met before
+
+abbrev AreNew : Names → List Label → Type 0
+AreNew met [] = Unit {0}
+AreNew met (x ∷ xs) = (is_local met x ≡ false) × AreNew (set.insert met x) xs
+
+itself_met : (met : Names) (x : Label) → is_local (set.insert met x) x ≡ true
+itself_met met x = set.contains-insert nat_list_cmp_total met x x ∙ ap (λ o. is_eq o || is_local met x) (tied_itself nat_list_cmp_total x)
+
+not_met : (met : Names) (x y : Label) → is_local (set.insert met x) y ≡ false → is_local met y ≡ false
+not_met met x y is = second (eq_by_cmp (slice_cmp nat_cmp) y x) (is_local met y) (sym (set.contains-insert nat_list_cmp_total met x y) ∙ is)
+  where
+    second : (a b : Bool) → a || b ≡ false → b ≡ false
+    second true b is = let wrong : true ≡ false = is in absurd cc
+    second false b is = is
+
+-- none of them is there twice, or was met
+new_apart : (met : Names) (xs : List Label) → AreNew met xs → (are_distinct xs ≡ true) × ((y : Label) → OneOf (λ other. other ≡ y) xs → is_local met y ≡ false)
+new_apart met [] new = (refl, λ y one. absurd one)
+new_apart met (x ∷ xs) new =
+    let rest = new_apart (set.insert met x) xs new.1 in
+    let apart : is_there xs x ≡ false = not_there x xs (λ one. both_ways (is_local (set.insert met x) x) (rest.1 x one) (itself_met met x)) in
+    (ap₂ (λ a b. not a && b) apart rest.0, either rest.1)
+  where
+    either : ((y : Label) → OneOf (λ other. other ≡ y) xs → is_local (set.insert met x) y ≡ false) → (y : Label) → OneOf (λ other. other ≡ y) (x ∷ xs) → is_local met y ≡ false
+    either later y (inl same) = subst (λ z. is_local met z ≡ false) same new.0
+    either later y (inr one) = not_met met x y (later y one)
+
+-- ---- lists without a fault
+
+once : (met : Names) (x : Word) → twice_fault met x ≡ None → is_local met x.text ≡ false
+once met x none = by_test (is_local met x.text) none
+  where
+    by_test : (b : Bool) → (if b then Some (Twice x.at) else None) ≡ None → b ≡ false
+    by_test true wrong = absurd cc
+    by_test false none = refl
+
+abbrev names_in : List Item → List Label
+names_in items = map (λ item. item.name.text) items
+
+items_new : (met : Names) (items : List Item) → items_fault met items ≡ None → AreNew met (names_in items)
+items_new met [] none = tt
+items_new met (item ∷ items) none =
+    let both = neither (twice_fault met item.name) (first_of item.behind (items_fault (bind item.name met) items)) none in
+    (once met item.name both.0, items_new (bind item.name met) items (neither item.behind (items_fault (bind item.name met) items) both.1).1)
+
+items_distinct : (items : List Item) → items_fault no_names items ≡ None → are_distinct (names_in items) ≡ true
+items_distinct items none = (new_apart no_names (names_in items) (items_new no_names items none)).0
+
+-- ---- keys
+
+keys_named : (keys : List SortKey) → names_in (map key_item keys) ≡ map (λ (key : SortKey). key.label.text) keys
+keys_named [] = refl
+keys_named (key ∷ keys) = ap (λ ls. key.label.text ∷ ls) (keys_named keys)
+
+-- ---- what is set
+
+module _ (globals : Globals) where
+  part_named : (part : PartExpr) (names : Names) → (part_item globals part names).name ≡ part.label
+  part_named part names = ap (λ f. (f names).name) (fold_out-PartExpr (Span → In Fault) (In Item) (In Fault) (In Fault) (In Fault) (In Fault) (In Item) (node_in globals) case_in (change_in globals) expr_in lambda_in last_in part_in part)
+
+  sets_named : (sets : List PartExpr) (names : Names) → names_in (all_in names (map (part_item globals) sets)) ≡ map (λ (set : PartExpr). set.label.text) sets
+  sets_named [] names = refl
+  sets_named (part ∷ sets) names = ap₂ (λ (l : Word) ls. l.text ∷ ls) (part_named part names) (sets_named sets names)
+
+  change_level : (change : ChangeExpr) (names : Names) → change_fault globals change names
+      ≡ first_of (global_fault globals.tables names (out-ChangeExpr change).table.at (out-ChangeExpr change).table.text)
+      (first_of (fault globals (out-ChangeExpr change).cond (bind (out-ChangeExpr change).name names)) (items_fault no_names (all_in (bind (out-ChangeExpr change).name names) (map (part_item globals) (out-ChangeExpr change).sets))))
+  change_level change names = ap (λ f. f names) (fold_out-ChangeExpr (Span → In Fault) (In Item) (In Fault) (In Fault) (In Fault) (In Fault) (In Item) (node_in globals) case_in (change_in globals) expr_in lambda_in last_in part_in change)
+
+  sets_distinct : (change : ChangeExpr) (names : Names) → change_fault globals change names ≡ None → are_distinct (map (λ (set : PartExpr). set.label.text) (out-ChangeExpr change).sets) ≡ true
+  sets_distinct change names none =
+      let inner : Names = bind (out-ChangeExpr change).name names in
+      let items : List Item = all_in inner (map (part_item globals) (out-ChangeExpr change).sets) in
+      let cond : Fault = fault globals (out-ChangeExpr change).cond inner in
+      let behind = (neither (global_fault globals.tables names (out-ChangeExpr change).table.at (out-ChangeExpr change).table.text) (first_of cond (items_fault no_names items)) (sym (change_level change names) ∙ none)).1 in
+      ap are_distinct (sym (sets_named (out-ChangeExpr change).sets inner)) ∙ items_distinct items (neither cond (items_fault no_names items) behind).1
+
+-- ---- what acts on tables in a program
+
+module _ (p : Program) (bound : IsBound p) (block : Expr) (of_text : OneOf (λ other. other ≡ block) (blocks_of p)) where
+  fine : HasNoFault block
+  fine = each_in HasNoFault (blocks_of p) block of_text (blocks_fine p bound)
+
+  pub keys_apart : (keys : List SortKey) (body : Expr) → layer block ≡ Node-F.Query keys body → are_distinct (map (λ (key : SortKey). key.label.text) keys) ≡ true
+  keys_apart keys body is =
+      let none : node_in fine.0 (mapped fine.0 (Node-F.Query keys body)) block.span fine.1.0 ≡ None = ap (λ l. node_in fine.0 (mapped fine.0 l) block.span fine.1.0) (sym is) ∙ level_fine block fine in
+      ap are_distinct (sym (keys_named keys)) ∙ items_distinct (map key_item keys) (neither (keys_fault keys) (fault fine.0 body fine.1.0) none).0
+
+  pub update_apart : (change : ChangeExpr) → layer block ≡ Node-F.Update change → are_distinct (map (λ (set : PartExpr). set.label.text) (out-ChangeExpr change).sets) ≡ true
+  update_apart change is =
+      let none : change_fault fine.0 change fine.1.0 ≡ None = ap (λ l. node_in fine.0 (mapped fine.0 l) block.span fine.1.0) (sym is) ∙ level_fine block fine in
+      sets_distinct fine.0 change fine.1.0 none
+
+  pub delete_apart : (change : ChangeExpr) → layer block ≡ Node-F.Delete change → are_distinct (map (λ (set : PartExpr). set.label.text) (out-ChangeExpr change).sets) ≡ true
+  delete_apart change is =
+      let none : change_fault fine.0 change fine.1.0 ≡ None = ap (λ l. node_in fine.0 (mapped fine.0 l) block.span fine.1.0) (sym is) ∙ level_fine block fine in
+      sets_distinct fine.0 change fine.1.0 none
