@@ -32,7 +32,7 @@ use Rattle.lk_typing.specs.Names.{Entry, HasRows, Named, named}
 use Rattle.lk_typing.specs.Rules.{Rule}
 use Rattle.lk_typing.specs.Rules as rule
 use Rattle.lk_typing.specs.Types.{only_scan, record_of}
-use Rattle.lk_typing.specs.Typing.{HasType, IsChange, label_of, expr_of, plain, lambda, var, switch, switch_open, for_list, for_table, query, update, delete}
+use Rattle.lk_typing.specs.Typing.{HasType, IsChange, IsKeyOf, label_of, expr_of, plain, lambda, var, switch, switch_open, for_list, for_table, query, update, delete}
 
 -- ---- what is taken for the first node
 
@@ -79,9 +79,12 @@ module _ (p : Program) (i : Instances) (functions : Named (Entry Ground)) where
 
   -- ---- queries
 
-  -- its body has a type with flat nodes, for which this is taken
-  pub record IsQueryBlock (locals : Named Ground) (body : Expr) (types : List Ground) (calls : List ℕ) (after : Pending) : Type 0 where
+  -- its body has a type with flat nodes, for which this is taken; its keys are labels of the rows that it gives
+  pub record IsQueryBlock (locals : Named Ground) (keys : List SortKey) (body : Expr) (types : List Ground) (calls : List ℕ) (after : Pending) : Type 0 where
     pub row : Ground
+    pub others : List Ground
+    pub own : types ≡ known.List row ∷ others
+    pub sorted : Each (IsKeyOf row) keys
     pub inside : List Ground
     pub typed : HasType functions (tables_of p) locals only_scan body (known.List row) inside
     pub rows : is_query_type (known.List row) ≡ true
@@ -90,7 +93,7 @@ module _ (p : Program) (i : Instances) (functions : Named (Entry Ground)) where
     pub takes : Takes i.helpers (nodes_of true typed) (pending (drop 1 types) calls) after
 
   pub query_block : {locals : Named Ground} {effects : EffectSet} {e : Expr} {t : Ground} {inside : List Ground} (d : HasType functions (tables_of p) locals effects e t inside) (keys : List SortKey) (body : Expr) → layer e ≡ Node-F.Query keys body
-      → Each (IsFine i) (nodes_of false d) → (types : List Ground) (calls : List ℕ) (after : Pending) → Takes i.helpers (nodes_of false d) (pending types calls) after → IsQueryBlock locals body types calls after
+      → Each (IsFine i) (nodes_of false d) → (types : List Ground) (calls : List ℕ) (after : Pending) → Takes i.helpers (nodes_of false d) (pending types calls) after → IsQueryBlock locals keys body types calls after
   unfolding nodes_of
   query_block (plain h ts is have by) keys body at fine types calls after takes = let wrong : Some h ≡ None = sym is ∙ ap (head label_of expr_of) at in absurd cc
   query_block (lambda l params own a is named moves inner local) keys body at fine types calls after takes = let wrong : Node-F.Lambda l ≡ Node-F.Query keys body = sym is ∙ at in absurd cc
@@ -104,36 +107,48 @@ module _ (p : Program) (i : Instances) (functions : Named (Entry Ground)) where
   query_block {locals = locals} (query other_keys inner a inside is one sorted scans own) keys body at fine types calls after takes =
       let layers : Node-F.Query other_keys inner ≡ Node-F.Query keys body = sym is ∙ at in
       let same : inner ≡ body = cc in
+      let same_keys : other_keys ≡ keys = cc in
       let block = fine.0.flat _ refl in
-      subst (λ b. IsQueryBlock locals b types calls after) same
+      let first = takes_first i.helpers _ (nodes_of true one) (pending types calls) after takes in
+      let own = own_type i.helpers _ (nodes_of true one) types calls after first in
+      subst (λ b. IsQueryBlock locals keys b types calls after) same
       (record {
         row = a;
+        others = own.0;
+        own = own.1;
+        sorted = subst (Each (IsKeyOf a)) same_keys sorted;
         inside = inside;
         typed = one;
         rows = block.parts.0.type;
         flat = block.parts.1;
         captured = block.captured;
-        takes = behind_own i.helpers _ (nodes_of true one) types calls after refl (takes_first i.helpers _ (nodes_of true one) (pending types calls) after takes);
+        takes = behind_own i.helpers _ (nodes_of true one) types calls after refl first;
       })
 
   -- the same under the names alone that it captures
-  pub record IsQueryAlone (locals : Named Ground) (body : Expr) (types : List Ground) (calls : List ℕ) (after : Pending) : Type 0 where
+  pub record IsQueryAlone (locals : Named Ground) (keys : List SortKey) (body : Expr) (types : List Ground) (calls : List ℕ) (after : Pending) : Type 0 where
     pub names : AreKept locals (captured_query body)
     pub row : Ground
+    pub others : List Ground
+    pub own : types ≡ known.List row ∷ others
+    pub sorted : Each (IsKeyOf row) keys
     pub inside : List Ground
     pub typed : HasType functions (tables_of p) names.kept only_scan body (known.List row) inside
     pub rows : is_query_type (known.List row) ≡ true
     pub flat : Each (IsFlatPart i.helpers) (parts_of (nodes_of true typed))
     pub takes : Takes i.helpers (nodes_of true typed) (pending (drop 1 types) calls) after
 
-  pub query_alone : (locals : Named Ground) (body : Expr) (types : List Ground) (calls : List ℕ) (after : Pending) → IsQueryBlock locals body types calls after → IsQueryAlone locals body types calls after
-  query_alone locals body types calls after block =
+  pub query_alone : (locals : Named Ground) (keys : List SortKey) (body : Expr) (types : List Ground) (calls : List ℕ) (after : Pending) → IsQueryBlock locals keys body types calls after → IsQueryAlone locals keys body types calls after
+  query_alone locals keys body types calls after block =
       let all : AreKept locals (captured_query body) = names_kept locals (free body no_names) (names_known block.typed no_names) block.captured in
       let inner = outermost {xs = free body no_names} (λ y among. all.same y (ordered_holds (free body no_names) y among)) in
       let nodes_are = retyped_nodes true block.typed no_names all.kept inner.used inner.round in
       record {
         names = all;
         row = block.row;
+        others = block.others;
+        own = block.own;
+        sorted = block.sorted;
         inside = block.inside;
         typed = retyped block.typed no_names all.kept inner.used inner.round;
         rows = block.rows;

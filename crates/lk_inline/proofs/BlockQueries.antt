@@ -54,7 +54,7 @@ use Rattle.lk_types.specs.declared.ground.Ground.TheVariants as known
 use Rattle.lk_typing.specs.Names.{Entry, Named, named, types_of}
 
 module _ (p : Program) (bound : IsBound p) (g : GroundProgram) (has : HasInstances p g) (functions : Named (Entry Ground)) (locals : Named Ground) (site : Site) (keys : List SortKey) (body : Expr) (after : Pending)
-    (alone : IsQueryAlone p has.instances functions locals body site.types site.calls after) where
+    (alone : IsQueryAlone p has.instances functions locals keys body site.types site.calls after) where
   abbrev i : Instances
   i = has.instances
 

@@ -76,7 +76,7 @@ module _ (p : Program) (i : Instances) where
   cells_base (cell ∷ cells) (g ∷ gs) (field same one fit) = (base_typed (value.Base cell.value) cell.value g.ty refl one, cells_base cells gs fit)
 
   -- a field of the type that a row has
-  field_base : (row : rows.Row) (r : Row) → Fits p i (row_value r) (record_of row) → (l : Label) (t : Ground) → HasField (record_of row) l t → is_base t ≡ true
+  pub field_base : (row : rows.Row) (r : Row) → Fits p i (row_value r) (record_of row) → (l : Label) (t : Ground) → HasField (record_of row) l t → is_base t ≡ true
   field_base row r fits l t (other, whole, same, made) =
       each_in (λ (g : GroundField). is_base g.ty ≡ true) (fields_of whole) (record { label = l; ty = t }) (get_among whole l t (get_first l t other whole made))
       (cells_base r.cells (fields_of whole) (cells_fit p i (fields_of whole) r (subst (Fits p i (row_value r)) same fits)))

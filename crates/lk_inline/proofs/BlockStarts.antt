@@ -30,7 +30,7 @@ bound_there [] k l = absurd (omega (arith, l))
 bound_there (x ∷ xs) zero l = refl
 bound_there (x ∷ xs) (suc k) l = bound_there xs k (omega (arith, l))
 
-bound_alone : (xs : List Label) (k : ℕ) (x : Part) → slice_get (bound_parts xs) k ≡ Some x → x ≡ part.Bound
+pub bound_alone : (xs : List Label) (k : ℕ) (x : Part) → slice_get (bound_parts xs) k ≡ Some x → x ≡ part.Bound
 bound_alone [] k x is = let wrong : None ≡ Some x = is in absurd cc
 bound_alone (y ∷ xs) zero x is = let same : Some part.Bound ≡ Some x = is in let it : part.Bound ≡ x = cc in sym it
 bound_alone (y ∷ xs) (suc k) x is = bound_alone xs k x is

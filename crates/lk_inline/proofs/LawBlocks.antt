@@ -40,8 +40,8 @@ module _ (p : Program) (bound : IsBound p) (g : GroundProgram) (has : HasInstanc
 
   query_kept : (keys : List SortKey) (body : Expr) → layer site.block ≡ Node-F.Query keys body → IsProperBlock (query_at p g.helpers site keys body) → Keeps p site.block (Node-F.Query keys body) (query_at p g.helpers site keys body)
   query_kept keys body is proper =
-      let alone : IsQueryAlone p i block.functions block.locals body site.types site.calls block.after =
-      query_alone p i block.functions block.locals body site.types site.calls block.after (query_block p i block.functions block.typed keys body is block.fine site.types site.calls block.after block.takes) in
+      let alone : IsQueryAlone p i block.functions block.locals keys body site.types site.calls block.after =
+      query_alone p i block.functions block.locals keys body site.types site.calls block.after (query_block p i block.functions block.typed keys body is block.fine site.types site.calls block.after block.takes) in
       keeps.query (query_keeps p bound g has block.functions block.locals site keys body block.after alone site.block is
       (λ x among. (uses_typed p i.helpers (length (functions_of p)) true alone.typed refl refl (all_early p i has.closed (nodes_of true alone.typed) alone.flat) (drop 1 site.types) site.calls block.after alone.takes x among).1) proper)
 

@@ -79,8 +79,8 @@ module _ (p : Program) (g : GroundProgram) (has : HasInstances p g) (site : Site
 
   query_proper : (keys : List SortKey) (body : Expr) → layer site.block ≡ Node-F.Query keys body → IsProperBlock (query_at p g.helpers site keys body)
   query_proper keys body is =
-      let alone : IsQueryAlone p i block.functions block.locals body site.types site.calls block.after =
-      query_alone p i block.functions block.locals body site.types site.calls block.after (query_block p i block.functions block.typed keys body is block.fine site.types site.calls block.after block.takes) in
+      let alone : IsQueryAlone p i block.functions block.locals keys body site.types site.calls block.after =
+      query_alone p i block.functions block.locals keys body site.types site.calls block.after (query_block p i block.functions block.typed keys body is block.fine site.types site.calls block.after block.takes) in
       let all : AreKept block.locals (captured_query body) = alone.names in
       subst (Each IsProper)
       (sym (captured_are block.locals (query_uses body (drop 1 site.types)) (captured_query body) all

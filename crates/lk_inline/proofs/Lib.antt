@@ -23,6 +23,9 @@ pub mod Helpers
 pub mod Inducing
 pub mod Induction
 pub mod Inlining
+pub mod KindNodes
+pub mod KindStarts
+pub mod KindsMade
 pub mod LabelOrder
 pub mod LawBlocks
 pub mod LawTypes
@@ -48,6 +51,7 @@ pub mod SiteTyping
 pub mod SitesFound
 pub mod SitesTyped
 pub mod Standing
+pub mod TableColumns
 pub mod Takes
 pub mod Touring
 pub mod TypesOfInstances

@@ -1,10 +1,11 @@
 -- The laws of inlining: what stands at a site gives what the program's text says (Cooper, The script-writer's dream, DBPL 2009).
-use Rattle.std.specs.Prelude.{◌≡◌, true, ℕ, List, [], ◌∷◌, drop, map, Some, slice_get, if◌then◌else◌}
+use Rattle.std.specs.Prelude.{◌≡◌, Bool, true, ℕ, List, [], ◌∷◌, drop, map, Some, slice_get, if◌then◌else◌}
 use Rattle.lk_ast.specs.Children.{children}
 use Rattle.lk_ast.specs.Layers.{Layer, layer}
 use Rattle.lk_ast.specs.Rows.{row_value}
-use Rattle.lk_ast.specs.Tables.{Tables, row_fits}
+use Rattle.lk_ast.specs.Tables.{Tables, row_fits, tables_of}
 use Rattle.lk_ast.specs.declared.declaration.Program.{Program}
+use Rattle.lk_ast.specs.declared.declaration.TableDecl.{TableDecl}
 use Rattle.lk_ast.specs.declared.expression.Case.{Case}
 use Rattle.lk_ast.specs.declared.expression.ChangeExpr.{ChangeExpr, out-ChangeExpr}
 use Rattle.lk_ast.specs.declared.expression.Expr.{Expr}
@@ -21,17 +22,21 @@ use Rattle.lk_bag.specs.Legal.{bag, names_in}
 use Rattle.lk_ground.specs.Language as language
 use Rattle.lk_ground.specs.declared.program.GroundFun.{GroundFun}
 use Rattle.lk_ground.specs.declared.program.GroundProgram.{GroundProgram}
+use Rattle.lk_ground_types.specs.Shapes.{is_there}
 use Rattle.lk_inline.specs.Blocks.{IsBlock}
 use Rattle.lk_inline.specs.Inlined.{inlined_at}
-use Rattle.lk_inline.specs.Shapes.{columns_of, element_columns, labels}
+use Rattle.lk_inline.specs.KindsOfTypes.{IsInOrder}
+use Rattle.lk_inline.specs.Shapes.{columns_of, labels}
 use Rattle.lk_inline.specs.SiteKinds.{is_site}
 use Rattle.lk_inline.specs.Sites.{Site, is_closed, sites_of}
 use Rattle.lk_mono.specs.Grounded.{IsGrounded}
 use Rattle.lk_mono.specs.Instanced.{HasInstances}
 use Rattle.lk_names.specs.Programs.{IsBound}
 use Rattle.lk_query.specs.Captured.{AreCaptured, leaves, query_values}
-use Rattle.lk_query.specs.Changed.{changed, is_changed}
+use Rattle.lk_query.specs.Changed.{ReadNoTable, changed, is_changed}
 use Rattle.lk_query.specs.Given.{gives}
+use Rattle.lk_query.specs.Kinds.{IsTyped, IsTypedChange, Kind}
+use Rattle.lk_query.specs.Order.{AreOrdered}
 use Rattle.lk_query.specs.declared.query.Inlined.{Inlined}
 use Rattle.lk_query.specs.declared.query.Inlined.TheVariants as inlined
 use Rattle.lk_query.specs.declared.query.InlinedChange.{InlinedChange}
@@ -48,7 +53,7 @@ use Rattle.lk_types.specs.declared.ty.Ty.{Ty}
 -- the labels of a record stand in byte order, so that none is there twice, and so do those of the records in a list
 pub record IsProperType (t : Ground) : Type 0 where
   pub columns : are_in_order (labels (columns_of t)) ≡ true
-  pub elements : are_in_order (labels (element_columns t)) ≡ true
+  pub elements : IsInOrder t
 
 -- each type of a node in these functions is so
 abbrev pub AreProper : List GroundFun → Type 0
@@ -90,6 +95,24 @@ BlockLaw = (p : Program) → IsBound p → (g : GroundProgram) → (has : HasIns
 -- In the functions and the helpers of a ground program all types have.
 abbrev pub TypesLaw : Type 0
 TypesLaw = (p : Program) (schemes : List Scheme) (types : List Ty) (g : GroundProgram) → IsGrounded p schemes types g → AreProper g.funs × AreProper g.helpers
+
+-- ---- kinds
+
+-- each table of the program has a column, as those of a text have
+abbrev pub HaveColumns : Program → Type 0
+HaveColumns p = Each (λ (table : TableDecl). is_there table.columns ≡ true) (tables_of p)
+
+-- each part of what is inlined stands behind its own parts and gives a thing of its kind, and a change reads no table
+pub data HasKinds : Inlined → Type 0 where
+  query : {q : Query} (kinds : ℕ → Kind) (scopes : ℕ → ℕ → Bool) → AreOrdered q.parts → IsTyped kinds scopes q → HasKinds (inlined.Query q)
+  change : {c : InlinedChange} (kinds : ℕ → Kind) (scopes : ℕ → ℕ → Bool) → AreOrdered c.parts → IsTypedChange kinds scopes c → ReadNoTable c.parts → HasKinds (inlined.Change c)
+
+-- So it is of what is inlined of a block of the program's text, where the types of the nodes from the block on have their labels in
+-- order, and so have those of the helpers.
+abbrev pub KindsLaw : Type 0
+KindsLaw = (p : Program) → IsBound p → HaveColumns p → (g : GroundProgram) → (has : HasInstances p g) → AreProper g.helpers
+    → (site : Site) → IsBlock p has.instances site.block site.types site.calls → OneOf (λ other. other ≡ site.block) (blocks_of p) → Each IsProperType site.types
+    → (found : Inlined) → inlined_at p g.helpers site ≡ Some found → HasKinds found
 
 -- ---- sites
 

@@ -121,9 +121,9 @@ module _ (p : Program) (bound : IsBound p) (g : GroundProgram) (has : HasInstanc
     abbrev all : List Captured
     all = captured_at (query_uses body (drop 1 site.types)) xs
 
-    alone : IsQueryAlone p i block.functions block.locals body site.types site.calls block.after
+    alone : IsQueryAlone p i block.functions block.locals keys body site.types site.calls block.after
     alone =
-        query_alone p i block.functions block.locals body site.types site.calls block.after
+        query_alone p i block.functions block.locals keys body site.types site.calls block.after
         (query_block p i block.functions block.typed keys body is block.fine site.types site.calls block.after block.takes)
 
     same : all ≡ map captured_as (types_of alone.names.kept)
