@@ -77,7 +77,7 @@ no_rows : (defs : List TableDef) → Each (λ (def : TableDef). all_fit def [] �
 no_rows [] = tt
 no_rows (def ∷ defs) = (refl, no_rows defs)
 
-walks_of : (of : Expr → Walk) (sets : List PartExpr) → map of (exprs_of sets) ≡ map (λ (set : PartExpr). of set.expr) sets
+pub walks_of : (of : Expr → Walk) (sets : List PartExpr) → map of (exprs_of sets) ≡ map (λ (set : PartExpr). of set.expr) sets
 walks_of of [] = refl
 walks_of of (set ∷ sets) = ap (λ ws. of set.expr ∷ ws) (walks_of of sets)
 

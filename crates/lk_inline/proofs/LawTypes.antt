@@ -67,7 +67,7 @@ names_proper locals words all nodes there proper =
     let here : IsAmong e.0 (in_byte_order words) = subst (IsAmong e.0) all.names among in
     of_node IsProperType nodes (named e.0 all.kept) e.1 (all.same e.0 here ∙ is) (there.of_nodes e.0 (ordered_of words e.0 here)).1 proper) all.entries)
 
-behind_first : (P : Ground → Type 0) (types : List Ground) → Each P types → Each P (drop 1 types)
+pub behind_first : (P : Ground → Type 0) (types : List Ground) → Each P types → Each P (drop 1 types)
 behind_first P [] all = tt
 behind_first P (t ∷ types) all = all.1
 

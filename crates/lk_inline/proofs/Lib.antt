@@ -9,6 +9,7 @@ pub mod BlockSets
 pub mod BlockStarts
 pub mod BlockValues
 pub mod CallArms
+pub mod ChangeKinds
 pub mod Choices
 pub mod Comparing
 pub mod Counting
@@ -28,6 +29,7 @@ pub mod KindStarts
 pub mod KindsMade
 pub mod LabelOrder
 pub mod LawBlocks
+pub mod LawKinds
 pub mod LawTypes
 pub mod Levels
 pub mod Looping
@@ -40,6 +42,7 @@ pub mod Ordered
 pub mod OwnLabels
 pub mod Passing
 pub mod PutFields
+pub mod QueryKinds
 pub mod QueryTypes
 pub mod RecordArms
 pub mod RecordRules
