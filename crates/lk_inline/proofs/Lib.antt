@@ -22,6 +22,13 @@ pub mod Helpers
 pub mod Inducing
 pub mod Induction
 pub mod Inlining
+pub mod KindArms
+pub mod KindComparing
+pub mod KindForms
+pub mod KindOperands
+pub mod KindRecords
+pub mod KindSteps
+pub mod KindsMade
 pub mod LawBlocks
 pub mod LawTypes
 pub mod Levels

@@ -1,6 +1,7 @@
 pub mod Blocks
 pub mod CapturedSeen
 pub mod Inlined
+pub mod KindsOfTypes
 pub mod Law
 pub mod Nodes
 pub mod NodesInside
