@@ -88,7 +88,7 @@ module _ (known : Descriptions) (n : ℕ) (kind : Kind) (looks : Scope) where
   abbrev pub with_part : Descriptions
   with_part = bind n (described kind looks) known
 
-  with_same : (k : ℕ) → k < n → with_part k ≡ known k
+  pub with_same : (k : ℕ) → k < n → with_part k ≡ known k
   with_same k l = bind-other n k (described kind looks) known (λ same. lt_irrefl n (subst (λ m. m < n) same l))
 
   -- it is of this kind, by what is known of its own parts

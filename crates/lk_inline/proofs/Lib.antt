@@ -23,9 +23,14 @@ pub mod Inducing
 pub mod Induction
 pub mod Inlining
 pub mod KindArms
+pub mod KindCalls
 pub mod KindComparing
 pub mod KindForms
+pub mod KindInduction
+pub mod KindLoops
+pub mod KindNodes
 pub mod KindOperands
+pub mod KindOperators
 pub mod KindRecords
 pub mod KindSteps
 pub mod KindsMade
