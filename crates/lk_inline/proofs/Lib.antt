@@ -26,6 +26,7 @@ pub mod KindArms
 pub mod KindCalls
 pub mod KindComparing
 pub mod KindForms
+pub mod KindHelpers
 pub mod KindInduction
 pub mod KindLoops
 pub mod KindNodes
