@@ -1,30 +1,26 @@
 -- The kinds of what a walk makes of operators: of bases, choices, lists, projections and tables.
-use Rattle.std.proofs.Common.{◌≡◌, ℕ, ℤ, ◌<◌, Bool, true, false, List, [], ◌∷◌, length, map, Some, None, refl, sym, ◌∙◌, ap, ap₂, subst, if◌then◌else◌}
-use Rattle.lk_ast.specs.Layers.{Layer, layer}
+use Rattle.std.proofs.Common.{◌≡◌, ℕ, Bool, true, List, [], ◌∷◌, refl, ◌∙◌, ap, ap₂, if◌then◌else◌}
+use Rattle.lk_ast.specs.Layers.{layer}
 use Rattle.lk_ast.specs.declared.declaration.TableDecl.{TableDecl}
 use Rattle.lk_ast.specs.declared.expression.Expr.{Expr}
 use Rattle.lk_ast.specs.declared.expression.Node.TheOpen.{Node-F}
 use Rattle.lk_ast.specs.declared.place.Word.{Word}
 use Rattle.lk_ast.specs.declared.table.Base.{Base}
-use Rattle.lk_ast.specs.declared.table.Base.TheVariants as base
 use Rattle.lk_ast.specs.declared.table.BaseKind.{BaseKind}
-use Rattle.lk_ast.specs.declared.table.BaseKind.TheVariants as kind
 use Rattle.lk_ground_types.specs.Shapes.{are_rows, is_base, is_flat_row, is_list, is_query_type}
 use Rattle.lk_inline.proofs.Inducing.{walk_form}
-use Rattle.lk_inline.proofs.KindForms.{base_columns, base_kind, is_list_kind, list_columns, list_kind, record_columns, row_kind, rows_kind, type_columns}
+use Rattle.lk_inline.proofs.KindForms.{base_columns, base_kind, is_list_kind, row_kind, rows_kind, type_columns}
 use Rattle.lk_inline.proofs.KindOperands.{Here, Own, leaf_kinded, one_kinded, own_part, three_kinded, two_kinded}
-use Rattle.lk_inline.proofs.KindsMade.{Descriptions, IsSeen, Scope}
-use Rattle.lk_inline.proofs.KindSteps.{IsNext}
-use Rattle.lk_inline.proofs.Levels.{with_walks}
+use Rattle.lk_inline.proofs.KindsMade.{Descriptions, Scope}
 use Rattle.lk_inline.proofs.QueryTypes.{QueryType, list_rows, query_type, record_row}
 use Rattle.lk_inline.proofs.QueryTypes as query
 use Rattle.lk_inline.proofs.RecordValues.{base_among, flat_fields}
 use Rattle.lk_inline.proofs.Standing.{bool_is, int_is, kind_is, text_is}
 use Rattle.lk_inline.specs.KindsOfTypes.{IsInOrder, kind_of_type}
 use Rattle.lk_inline.specs.Pending.{Pending}
-use Rattle.lk_inline.specs.Shapes.{columns_of, element_columns, element_level, labels}
-use Rattle.lk_inline.specs.Walk.{Calls, State, add, behind_type, choice, emptiness, node_level, one, table, three, two, walk}
-use Rattle.lk_query.specs.Kinds.{IsList, OfBase, OfList, OfRecord}
+use Rattle.lk_inline.specs.Shapes.{columns_of, element_columns, labels}
+use Rattle.lk_inline.specs.Walk.{Calls, State, add, behind_type, choice, emptiness, one, table, three, two, walk}
+use Rattle.lk_query.specs.Kinds.{OfBase, OfList, OfRecord}
 use Rattle.lk_query.specs.declared.part.Part.{Part}
 use Rattle.lk_query.specs.declared.part.Part.TheVariants as part
 use Rattle.lk_sound.proofs.FieldRows.{get_among, get_first}
@@ -33,7 +29,7 @@ use Rattle.lk_sql.specs.Good.{operand_count}
 use Rattle.lk_sql.specs.declared.tree.SqlOp.{SqlOp}
 use Rattle.lk_sql.specs.declared.tree.SqlOp.TheVariants as op
 use Rattle.lk_types.specs.Each.{Each}
-use Rattle.lk_types.specs.Rows.{EffectSet, Label, Row, fields_of}
+use Rattle.lk_types.specs.Rows.{EffectSet, fields_of}
 use Rattle.lk_types.specs.declared.ground.Ground.{Ground}
 use Rattle.lk_types.specs.declared.ground.Ground.TheVariants as known_type
 use Rattle.lk_types.specs.declared.ty.Effect.TheVariants as effect

@@ -1,24 +1,23 @@
 -- The kinds of what a walk makes of comparisons, by the type of what is compared, which is the next one behind the node's own.
-use Rattle.std.proofs.Common.{◌≡◌, ℕ, ◌<◌, Bool, true, false, List, [], ◌∷◌, ◌++◌, length, map, refl, sym, ◌∙◌, ap, subst, if◌then◌else◌}
+use Rattle.std.proofs.Common.{◌≡◌, ℕ, Bool, true, false, List, [], ◌∷◌, ◌++◌, length, refl, sym, ◌∙◌, ap, subst, if◌then◌else◌}
 use Rattle.lk_ast.specs.Layers.{layer}
 use Rattle.lk_ast.specs.declared.declaration.TableDecl.{TableDecl}
 use Rattle.lk_ast.specs.declared.expression.Expr.{Expr}
 use Rattle.lk_ast.specs.declared.expression.Node.TheOpen.{Node-F}
-use Rattle.lk_ground_types.specs.Shapes.{is_base, is_list, is_query_type}
+use Rattle.lk_ground_types.specs.Shapes.{is_list, is_query_type}
 use Rattle.lk_inline.proofs.Inducing.{walk_form}
 use Rattle.lk_inline.proofs.KindArms.{Makes, Parts, binary}
 use Rattle.lk_inline.proofs.KindForms.{base_columns, base_kind, row_kind}
 use Rattle.lk_inline.proofs.KindOperands.{own_part, two_kinded}
 use Rattle.lk_inline.proofs.KindSteps.{finished_kinded, from_behind_type, kind_added, kind_behind}
 use Rattle.lk_inline.proofs.KindsMade.{Descriptions, IsKinded, Scope}
-use Rattle.lk_inline.proofs.Levels.{with_walks}
 use Rattle.lk_inline.proofs.QueryTypes.{QueryType, query_type}
 use Rattle.lk_inline.proofs.QueryTypes as query
 use Rattle.lk_inline.proofs.Standing.{bool_is}
 use Rattle.lk_inline.specs.KindsOfTypes.{kind_of_type}
 use Rattle.lk_inline.specs.Pending.{Pending}
 use Rattle.lk_inline.specs.Shapes.{columns_of, labels}
-use Rattle.lk_inline.specs.Walk.{Calls, Made, State, add, all, behind_type, equality, inequality, node_level, two, walk}
+use Rattle.lk_inline.specs.Walk.{Calls, Made, State, add, all, behind_type, equality, inequality, two, walk}
 use Rattle.lk_query.specs.Kinds.{OfBase, OfRecord}
 use Rattle.lk_query.specs.declared.part.Part.{Part}
 use Rattle.lk_query.specs.declared.part.Part.TheVariants as part
@@ -107,8 +106,7 @@ module _ (functions : Named (Entry Ground)) (tables : List TableDecl) (locals : 
           subst (λ m. IsKinded scope scans known_type.Bool known s q m) (sym (walk_is ∙ ap (choose (add (part.Two op.Ne first.part second.part) second.state) differ) base_not))
           (from_behind_type scope scans known_type.Bool known s q differ
           (not_kinded scope scans known (behind_type s) q (add equal second.state)
-          (finished_kinded scope scans known_type.Bool (u ∷ u ∷ []) known (behind_type s) q (all (walk makes a ∷ walk makes b ∷ []) numbers (behind_type s)) equal are (are.within.0, are.within.1.0)
-          (
+          (finished_kinded scope scans known_type.Bool (u ∷ u ∷ []) known (behind_type s) q (all (walk makes a ∷ walk makes b ∷ []) numbers (behind_type s)) equal are (are.within.0, are.within.1.0) (
             base_kind known_type.Bool bool_is,
             own_part are.later n (kind_of_type known_type.Bool) scope u (OfRecord (labels (columns_of u))) first.part (row_kind u row_is) are.within.0 are.are.0,
             own_part are.later n (kind_of_type known_type.Bool) scope u (OfRecord (labels (columns_of u))) second.part (row_kind u row_is) are.within.1.0 are.are.1.0,

@@ -1,5 +1,5 @@
 -- The kinds of the types of a query: of bases, flat records and lists of these.
-use Rattle.std.proofs.Common.{◌≡◌, Bool, true, false, List, [], ◌∷◌, refl, sym, ◌∙◌, ap, subst}
+use Rattle.std.proofs.Common.{◌≡◌, true, [], ◌∷◌, refl, sym, ap, subst}
 use Rattle.lk_ground_types.specs.Shapes.{are_rows, base_level, is_base, is_flat_row, is_query_type, row_level, rows_level}
 use Rattle.lk_inline.proofs.QueryTypes.{QueryType, query_type}
 use Rattle.lk_inline.proofs.QueryTypes as query

@@ -1,5 +1,5 @@
 -- The kinds of what calls of helpers make: the parts of their bodies, under names that are bound to parts of the arguments' kinds.
-use Rattle.std.proofs.Common.{◌≡◌, ℕ, zero, suc, ◌+◌, ◌<◌, Bool, true, false, List, [], ◌∷◌, ◌++◌, append-nil, length, Some, slice_get, refl, sym, ◌∙◌, ap, subst, arith}
+use Rattle.std.proofs.Common.{◌≡◌, ℕ, zero, suc, ◌<◌, true, false, List, [], ◌∷◌, ◌++◌, append-nil, Some, slice_get, refl, sym, ◌∙◌, ap, subst, arith}
 use Rattle.lk_ast.specs.Tables.{Tables, all_fit, table_defs}
 use Rattle.lk_ast.specs.declared.declaration.Program.{Program}
 use Rattle.lk_ast.specs.declared.table.TableDef.{TableDef}
@@ -17,7 +17,7 @@ use Rattle.lk_inline.proofs.Levels.{called_more}
 use Rattle.lk_inline.proofs.Making.{AreWithin}
 use Rattle.lk_inline.specs.KindsOfTypes.{IsInOrder}
 use Rattle.lk_inline.specs.Pending.{pending}
-use Rattle.lk_inline.specs.Walk.{Calls, Made, bound, called, entered}
+use Rattle.lk_inline.specs.Walk.{Made, bound, called, entered}
 use Rattle.lk_mono.specs.Instanced.{HasInstances}
 use Rattle.lk_names.specs.Programs.{IsBound}
 use Rattle.lk_query.specs.Order.{AreOrdered}

@@ -1,32 +1,30 @@
 -- The kinds of what a walk makes of an expression of a query, by its typing.
-use Rattle.std.proofs.Common.{◌≡◌, ℕ, ◌<◌, Bool, true, false, List, [], ◌∷◌, ◌++◌, drop, length, map, Option, Some, None, slice_get, refl, sym, ◌∙◌, ap, subst}
+use Rattle.std.proofs.Common.{◌≡◌, ℕ, Bool, true, false, List, ◌∷◌, ◌++◌, drop, map, Some, None, refl, sym, ◌∙◌, ap, subst}
 use Rattle.lk_ast.specs.Layers.{layer}
 use Rattle.lk_ast.specs.Tables.{tables_of}
 use Rattle.lk_ast.specs.declared.declaration.Program.{Program}
 use Rattle.lk_ast.specs.declared.expression.Expr.{Expr}
 use Rattle.lk_ast.specs.declared.expression.Node.TheOpen.{Node-F}
 use Rattle.lk_ast.specs.declared.place.Word.{Word}
-use Rattle.lk_ground_types.specs.Shapes.{are_rows, is_query_type}
-use Rattle.lk_inline.proofs.Adding.{at_end, ordered_add}
+use Rattle.lk_ground_types.specs.Shapes.{is_query_type}
 use Rattle.lk_inline.proofs.CallArms.{TakesFirst, called, other, takes_behind, takes_first}
 use Rattle.lk_inline.proofs.Inducing.{walk_form}
 use Rattle.lk_inline.proofs.Induction.{CallLayer, UsesBy, call, call_layer, function, next_type, uses_by}
 use Rattle.lk_inline.proofs.KindCalls.{CallsKinded, call_kinded}
 use Rattle.lk_inline.proofs.KindForms.{type_columns}
-use Rattle.lk_inline.proofs.KindLoops.{loop_kinded, row_added, row_known, with_loop, with_row}
+use Rattle.lk_inline.proofs.KindLoops.{loop_form}
 use Rattle.lk_inline.proofs.KindNodes.{AreOrderedNodes}
 use Rattle.lk_inline.proofs.KindOperators.{operator_kinded}
-use Rattle.lk_inline.proofs.KindSteps.{adds_both, from_behind_type, kind_behind, known_bound, known_later, more_kinded, none_kinded}
+use Rattle.lk_inline.proofs.KindSteps.{kind_behind, known_bound, known_later, more_kinded, none_kinded}
 use Rattle.lk_inline.proofs.KindsMade.{AreDescribed, AreKinded, AreKnown, Descriptions, IsKinded, Scope}
 use Rattle.lk_inline.proofs.Making.{all_more, left}
 use Rattle.lk_inline.proofs.QueryTypes.{list_rows, rows_flat}
 use Rattle.lk_inline.proofs.Takes.{takes_split}
-use Rattle.lk_inline.specs.KindsOfTypes.{IsInOrder, kind_of_type}
+use Rattle.lk_inline.specs.KindsOfTypes.{IsInOrder}
 use Rattle.lk_inline.specs.Pending.{Pending, pending}
 use Rattle.lk_inline.specs.Takes.{Takes}
-use Rattle.lk_inline.specs.Walk.{Calls, Made, State, add, all, behind_type, loop, walk}
+use Rattle.lk_inline.specs.Walk.{Calls, Made, State, all, behind_type, walk}
 use Rattle.lk_query.specs.Order.{AreOrdered}
-use Rattle.lk_query.specs.declared.part.Part.TheVariants as part
 use Rattle.lk_sound.proofs.FlatTypes.{function_not_flat, unit_not_flat}
 use Rattle.lk_sound.proofs.Members.{each_in}
 use Rattle.lk_sound.proofs.QueryParts.{AreQueryNodes, IsEarly, IsQueryNode, node_type, part_types}
@@ -39,9 +37,8 @@ use Rattle.lk_types.specs.declared.ground.Ground.{Ground}
 use Rattle.lk_types.specs.declared.ground.Ground.TheVariants as known_type
 use Rattle.lk_types.specs.declared.ty.Effect.TheVariants as effect
 use Rattle.lk_typing.proofs.Lists.{each_back, each_front}
-use Rattle.lk_typing.specs.Heads.{Head, head, parts}
+use Rattle.lk_typing.specs.Heads.{parts}
 use Rattle.lk_typing.specs.Names.{Entry, Named, types_of}
-use Rattle.lk_typing.specs.Types.{function_of}
 use Rattle.lk_typing.specs.Typing.{HasType, HaveTypes, delete, expr_of, for_list, for_table, label_of, lambda, more, none, plain, query, switch, switch_open, update, var}
 
 -- ---- forms that bind names, and queries
@@ -161,37 +158,23 @@ module _ (p : Program) (i : Instances) (closed : AreClosed p i) (makes : Calls) 
     expr_kinded {effects = effects} {locals = locals} {e = e} flag (for_list x d body a b first inside is one next) own traps nodes order scope known numbers s q ordered typed have_known takes =
         let behind = taken_behind _ (nodes_of flag one ++ nodes_of flag next) s q refl (takes_first i.helpers _ (nodes_of flag one ++ nodes_of flag next) (left s) q takes) in
         let split = takes_split i.helpers (nodes_of flag one) (nodes_of flag next) (left (behind_type s)) q behind in
-        let m : Made = walk makes d numbers (behind_type s) in
-        let bound : State = (add part.Bound m.state).state in
-        let list_kinded =
-        expr_kinded flag one own traps (front_nodes (nodes_of flag one) (nodes_of flag next) nodes.1) (front_order (nodes_of flag one) (nodes_of flag next) order.1) scope known numbers (behind_type s) split.0 ordered typed have_known split.1 in
-        let flat = rows_flat a (list_rows a (node_type p i.helpers n flag one (front_nodes (nodes_of flag one) (nodes_of flag next) nodes.1))) in
-        let row = row_added scope (effects effect.Scan) a flat known locals numbers (behind_type s) split.0 m list_kinded in
-        subst (λ w. IsKinded scope (effects effect.Scan) (known_type.List b) known s q w) (sym (walk_form makes e (Node-F.ForList x d body) is numbers s))
-        (from_behind_type scope (effects effect.Scan) (known_type.List b) known s q _
-        (loop_kinded scope (effects effect.Scan) a flat known locals numbers (behind_type s) split.0 m list_kinded b q (walk makes body ((x.text, length m.state.parts) ∷ numbers) bound) (list_rows b nodes.0.type)
-        (type_columns (known_type.List b) nodes.0.type order.0)
-        (expr_kinded flag next own traps (back_nodes (nodes_of flag one) (nodes_of flag next) nodes.1) (back_order (nodes_of flag one) (nodes_of flag next) order.1) (with_row (length m.state.parts) scope)
-        (with_loop scope (effects effect.Scan) a flat known locals numbers (behind_type s) split.0 m list_kinded) ((x.text, length m.state.parts) ∷ numbers) bound q row.ordered row.typed
-        (row_known scope (effects effect.Scan) a flat known locals numbers (behind_type s) split.0 m list_kinded x.text have_known)
-        (subst (λ l. Takes i.helpers (nodes_of flag next) l q) (sym list_kinded.left) split.2))))
+        let list_nodes = front_nodes (nodes_of flag one) (nodes_of flag next) nodes.1 in
+        loop_form scope (effects effect.Scan) makes e numbers known s locals x d body a b split.0 q (walk_form makes e (Node-F.ForList x d body) is numbers s) (rows_flat a (list_rows a (node_type p i.helpers n flag one list_nodes)))
+        (list_rows b nodes.0.type) (type_columns (known_type.List b) nodes.0.type order.0) have_known
+        (expr_kinded flag one own traps list_nodes (front_order (nodes_of flag one) (nodes_of flag next) order.1) scope known numbers (behind_type s) split.0 ordered typed have_known split.1)
+        (λ inside_it with_it names bound left_is ordered typed have_known.
+        expr_kinded flag next own traps (back_nodes (nodes_of flag one) (nodes_of flag next) nodes.1) (back_order (nodes_of flag one) (nodes_of flag next) order.1) inside_it with_it names bound q ordered typed have_known
+        (subst (λ l. Takes i.helpers (nodes_of flag next) l q) (sym left_is) split.2))
     expr_kinded {effects = effects} {locals = locals} {e = e} flag (for_table x d body a b first inside is one next) own traps nodes order scope known numbers s q ordered typed have_known takes =
         let behind = taken_behind _ (nodes_of flag one ++ nodes_of flag next) s q refl (takes_first i.helpers _ (nodes_of flag one ++ nodes_of flag next) (left s) q takes) in
         let split = takes_split i.helpers (nodes_of flag one) (nodes_of flag next) (left (behind_type s)) q behind in
-        let m : Made = walk makes d numbers (behind_type s) in
-        let bound : State = (add part.Bound m.state).state in
-        let list_kinded =
-        expr_kinded flag one own traps (front_nodes (nodes_of flag one) (nodes_of flag next) nodes.1) (front_order (nodes_of flag one) (nodes_of flag next) order.1) scope known numbers (behind_type s) split.0 ordered typed have_known split.1 in
-        let flat = rows_flat a (list_rows a (node_type p i.helpers n flag one (front_nodes (nodes_of flag one) (nodes_of flag next) nodes.1))) in
-        let row = row_added scope (effects effect.Scan) a flat known locals numbers (behind_type s) split.0 m list_kinded in
-        subst (λ w. IsKinded scope (effects effect.Scan) (known_type.List b) known s q w) (sym (walk_form makes e (Node-F.ForTable x d body) is numbers s))
-        (from_behind_type scope (effects effect.Scan) (known_type.List b) known s q _
-        (loop_kinded scope (effects effect.Scan) a flat known locals numbers (behind_type s) split.0 m list_kinded b q (walk makes body ((x.text, length m.state.parts) ∷ numbers) bound) (list_rows b nodes.0.type)
-        (type_columns (known_type.List b) nodes.0.type order.0)
-        (expr_kinded flag next own traps (back_nodes (nodes_of flag one) (nodes_of flag next) nodes.1) (back_order (nodes_of flag one) (nodes_of flag next) order.1) (with_row (length m.state.parts) scope)
-        (with_loop scope (effects effect.Scan) a flat known locals numbers (behind_type s) split.0 m list_kinded) ((x.text, length m.state.parts) ∷ numbers) bound q row.ordered row.typed
-        (row_known scope (effects effect.Scan) a flat known locals numbers (behind_type s) split.0 m list_kinded x.text have_known)
-        (subst (λ l. Takes i.helpers (nodes_of flag next) l q) (sym list_kinded.left) split.2))))
+        let list_nodes = front_nodes (nodes_of flag one) (nodes_of flag next) nodes.1 in
+        loop_form scope (effects effect.Scan) makes e numbers known s locals x d body a b split.0 q (walk_form makes e (Node-F.ForTable x d body) is numbers s) (rows_flat a (list_rows a (node_type p i.helpers n flag one list_nodes)))
+        (list_rows b nodes.0.type) (type_columns (known_type.List b) nodes.0.type order.0) have_known
+        (expr_kinded flag one own traps list_nodes (front_order (nodes_of flag one) (nodes_of flag next) order.1) scope known numbers (behind_type s) split.0 ordered typed have_known split.1)
+        (λ inside_it with_it names bound left_is ordered typed have_known.
+        expr_kinded flag next own traps (back_nodes (nodes_of flag one) (nodes_of flag next) nodes.1) (back_order (nodes_of flag one) (nodes_of flag next) order.1) inside_it with_it names bound q ordered typed have_known
+        (subst (λ l. Takes i.helpers (nodes_of flag next) l q) (sym left_is) split.2))
     expr_kinded {effects = effects} {locals = locals} {e = e} flag (query keys body a inside is one sorted scans marked) own traps nodes order scope known numbers s q ordered typed have_known takes =
         subst (λ w. IsKinded scope (effects effect.Scan) (known_type.List a) known s q w) (sym (walk_form makes e (Node-F.Query keys body) is numbers s))
         (query_quiet scope (effects effect.Scan) makes e numbers known s true (known_type.List a) q (walk makes body numbers (behind_type s)) scans

@@ -1,19 +1,21 @@
 -- The kinds of what a walk makes of loops: the row of a loop looks at itself, and the body may look at it, too.
-use Rattle.std.proofs.Common.{◌≡◌, ◌≢◌, ℕ, ◌<◌, ◌==◌, Bool, true, false, List, [], ◌∷◌, ◌++◌, length, if◌then◌else◌, refl, sym, ◌∙◌, ap, subst}
+use Rattle.std.proofs.Common.{◌≡◌, ℕ, ◌<◌, ◌==◌, Bool, true, false, [], ◌∷◌, ◌++◌, length, if◌then◌else◌, refl, sym, ◌∙◌, ap, subst}
+use Rattle.lk_ast.specs.declared.expression.Expr.{Expr}
+use Rattle.lk_ast.specs.declared.place.Word.{Word}
 use Rattle.lk_ground_types.specs.Shapes.{are_rows, is_flat_row}
 use Rattle.lk_inline.proofs.Adding.{at_end, still_within}
 use Rattle.lk_inline.proofs.KindForms.{is_list_kind, list_kind, record_columns, row_kind}
 use Rattle.lk_inline.proofs.KindOperands.{own_part}
-use Rattle.lk_inline.proofs.KindSteps.{adds_both, adds_one, kind_added, kind_behind, known_bound, known_later, known_wider, next_seen, seen_later, with_part, with_same}
-use Rattle.lk_inline.proofs.KindsMade.{Adds, AreKnown, Described, Descriptions, IsKinded, IsSeen, Scope, described}
+use Rattle.lk_inline.proofs.KindSteps.{adds_both, adds_one, from_behind_type, kind_added, kind_behind, known_bound, known_later, known_wider, next_seen, seen_later, with_part, with_same}
+use Rattle.lk_inline.proofs.KindsMade.{Adds, AreDescribed, AreKnown, Described, Descriptions, IsKinded, IsSeen, Scope, described}
+use Rattle.lk_inline.proofs.Making.{left}
 use Rattle.lk_inline.specs.KindsOfTypes.{kind_of_type}
 use Rattle.lk_inline.specs.Pending.{Pending}
 use Rattle.lk_inline.specs.Shapes.{columns_of, labels}
-use Rattle.lk_inline.specs.Walk.{Made, State, add}
+use Rattle.lk_inline.specs.Walk.{Calls, Made, State, add, behind_type, loop, walk}
 use Rattle.lk_query.proofs.Parts.{bind-here, bind-other}
-use Rattle.lk_query.specs.Kinds.{HasColumns, HasUnder, IsNoList, Kind, OfList, OfRecord}
-use Rattle.lk_query.specs.Order.{bind}
-use Rattle.lk_query.specs.declared.part.Part.{Part}
+use Rattle.lk_query.specs.Kinds.{HasColumns, HasUnder, IsNoList, OfList, OfRecord}
+use Rattle.lk_query.specs.Order.{AreOrdered, bind}
 use Rattle.lk_query.specs.declared.part.Part.TheVariants as part
 use Rattle.lk_types.specs.Rows.{Label}
 use Rattle.lk_types.specs.declared.ground.Ground.{Ground}
@@ -59,8 +61,7 @@ module _ (scope : Scope) (scans : Bool) (a : Ground) (flat : is_flat_row a ≡ t
     left = next.left;
     has =
         kind_behind scope scans t known later s.parts inner.state.parts end (inner.state.parts ++ part.ForList m.part n inner.part ∷ []) (adds_both (adds_both one.has.adds row_added) next.has.adds)
-        (kind_added scope scans t later inner.state.parts (part.ForList m.part n inner.part) next.has.adds.ordered next.has.adds.typed (list_there, row_there, next.has.within)
-        (
+        (kind_added scope scans t later inner.state.parts (part.ForList m.part n inner.part) next.has.adds.ordered next.has.adds.typed (list_there, row_there, next.has.within) (
           is_list_kind t rows,
           (
             labels (columns_of a),
@@ -104,3 +105,21 @@ module _ (scope : Scope) (scans : Bool) (a : Ground) (flat : is_flat_row a ≡ t
             ∙ sym (bind-other n j true scope other)
             ∙ next.has.is.1 j (ap (λ (d : Described). d.looks j) (sym (with_same later end (kind_of_type t) scope inner.part next.has.within)) ∙ looked),
       )
+
+-- a walk of such a form, with what it makes of the body, whatever is known there
+pub loop_form : (scope : Scope) (scans : Bool) (makes : Calls) (e : Expr) (numbers : Named ℕ) (known : Descriptions) (s : State) (locals : Named Ground) (x : Word) (d body : Expr) (a b : Ground) (q r : Pending)
+    → walk makes e numbers s ≡ loop x (walk makes d) (walk makes body) numbers (behind_type s) → is_flat_row a ≡ true → are_rows (known_type.List b) ≡ true → HasColumns (kind_of_type (known_type.List b)) → AreKnown scope known locals numbers s.parts
+    → IsKinded scope scans (known_type.List a) known (behind_type s) q (walk makes d numbers (behind_type s))
+    → ((inside : Scope) (later : Descriptions) (names : Named ℕ) (bound : State) → left bound ≡ q → AreOrdered bound.parts → AreDescribed later bound.parts → AreKnown inside later ((x.text, a) ∷ locals) names bound.parts
+    → IsKinded inside scans (known_type.List b) later bound r (walk makes body names bound))
+    → IsKinded scope scans (known_type.List b) known s r (walk makes e numbers s)
+loop_form scope scans makes e numbers known s locals x d body a b q r walk_is flat rows columns have one next =
+    let m : Made = walk makes d numbers (behind_type s) in
+    let n : ℕ = length m.state.parts in
+    let bound : State = (add part.Bound m.state).state in
+    let names : Named ℕ = (x.text, n) ∷ numbers in
+    let row = row_added scope scans a flat known locals numbers (behind_type s) q m one in
+    subst (λ w. IsKinded scope scans (known_type.List b) known s r w) (sym walk_is)
+    (from_behind_type scope scans (known_type.List b) known s r (add (part.ForList m.part n (walk makes body names bound).part) (walk makes body names bound).state)
+    (loop_kinded scope scans a flat known locals numbers (behind_type s) q m one b r (walk makes body names bound) rows columns
+    (next (with_row n scope) (with_loop scope scans a flat known locals numbers (behind_type s) q m one) names bound one.left row.ordered row.typed (row_known scope scans a flat known locals numbers (behind_type s) q m one x.text have))))

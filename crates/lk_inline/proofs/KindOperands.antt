@@ -1,5 +1,5 @@
 -- The kind of a part over one, two or three others, by theirs.
-use Rattle.std.proofs.Common.{◌≡◌, ℕ, ◌<◌, Bool, true, false, List, [], ◌∷◌, length, map, refl, sym, ◌∙◌, ap, subst}
+use Rattle.std.proofs.Common.{◌≡◌, ℕ, ◌<◌, Bool, false, List, [], ◌∷◌, length, map, sym, ◌∙◌, subst}
 use Rattle.lk_ast.specs.declared.expression.Expr.{Expr}
 use Rattle.lk_inline.proofs.KindSteps.{IsNext, finished_kinded, from_behind_type, next_has, with_part}
 use Rattle.lk_inline.proofs.KindsMade.{AreKinded, Descriptions, IsKinded, IsSeen, Scope, kinds_of, scopes_of}

@@ -1,5 +1,5 @@
 -- The kinds of what a walk makes of an operator of a query, by its rule.
-use Rattle.std.proofs.Common.{◌≡◌, ℕ, ◌<◌, Bool, true, false, not, List, [], ◌∷◌, ◌++◌, length, map, Option, Some, None, refl, sym, ◌∙◌, ap, subst}
+use Rattle.std.proofs.Common.{◌≡◌, ℕ, Bool, true, false, not, List, [], ◌∷◌, map, Some, None, refl, sym, ◌∙◌, ap, subst}
 use Rattle.lk_ast.specs.Layers.{Layer, layer}
 use Rattle.lk_ast.specs.declared.declaration.TableDecl.{TableDecl}
 use Rattle.lk_ast.specs.declared.expression.Expr.{Expr}
@@ -18,11 +18,11 @@ use Rattle.lk_inline.proofs.QueryTypes.{list_rows, variant_not_flat}
 use Rattle.lk_inline.proofs.Standing.{bool_is}
 use Rattle.lk_inline.specs.KindsOfTypes.{IsInOrder}
 use Rattle.lk_inline.specs.Pending.{Pending}
-use Rattle.lk_inline.specs.Walk.{Calls, Made, State, behind_type, local, walk}
+use Rattle.lk_inline.specs.Walk.{Calls, State, behind_type, local, walk}
 use Rattle.lk_query.specs.Order.{AreOrdered}
 use Rattle.lk_sound.proofs.FlatTypes.{unit_not_flat}
 use Rattle.lk_sound.proofs.QueryValues.{never_both}
-use Rattle.lk_sound.specs.Nodes.{Comparison, Equality, Order, compared_by, comparison, may_compare, used_by}
+use Rattle.lk_sound.specs.Nodes.{Equality, Order, compared_by, comparison, may_compare, used_by}
 use Rattle.lk_sql.specs.declared.tree.SqlOp.TheVariants as op
 use Rattle.lk_types.specs.Each.{Each}
 use Rattle.lk_types.specs.Rows.{EffectSet, Label}

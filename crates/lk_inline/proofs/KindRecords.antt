@@ -1,5 +1,5 @@
 -- The kinds of what a walk makes of records and lists of records.
-use Rattle.std.proofs.Common.{◌≡◌, ℕ, ◌<◌, Bool, true, false, List, [], ◌∷◌, ◌++◌, append-nil, length, map, refl, sym, ◌∙◌, ap, ap₂, subst}
+use Rattle.std.proofs.Common.{◌≡◌, ℕ, ◌<◌, Bool, true, List, [], ◌∷◌, ◌++◌, append-nil, length, map, refl, sym, ◌∙◌, ap, ap₂, subst}
 use Rattle.lk_ast.specs.Layers.{layer}
 use Rattle.lk_ast.specs.declared.declaration.TableDecl.{TableDecl}
 use Rattle.lk_ast.specs.declared.expression.Expr.{Expr}
@@ -14,7 +14,6 @@ use Rattle.lk_inline.proofs.KindOperands.{own_part}
 use Rattle.lk_inline.proofs.KindSteps.{adds_both, adds_one, all_seen_later, finished_kinded, from_behind_type, kind_added, kind_behind, next_has, next_seen, with_part, within_later}
 use Rattle.lk_inline.proofs.KindsMade.{Adds, AreKinded, AreSeen, Descriptions, IsKinded, IsSeen, Scope, kinds_of, scopes_of}
 use Rattle.lk_inline.proofs.Levels.{labels_are, walks_are}
-use Rattle.lk_inline.proofs.Making.{AreWithin}
 use Rattle.lk_inline.proofs.QueryTypes.{list_rows, record_row, rows_flat}
 use Rattle.lk_inline.proofs.RecordArms.{all_below, all_labelled, all_last, below_front, last_map, rest_each, walks_of_fields}
 use Rattle.lk_inline.proofs.RecordRules.{bases_in, flat_bases, labelled_types}
@@ -22,7 +21,7 @@ use Rattle.lk_inline.specs.KindsOfTypes.{IsInOrder, kind_of_type}
 use Rattle.lk_inline.specs.Pending.{Pending}
 use Rattle.lk_inline.specs.Shapes.{columns_of, labels}
 use Rattle.lk_inline.specs.Walk.{Calls, Made, Several, State, add, all, behind_type, extension, fields, labelled, walk}
-use Rattle.lk_query.specs.Kinds.{AllHave, AreBases, Kind, OfBase, OfList, OfRecord}
+use Rattle.lk_query.specs.Kinds.{AllHave, AreBases, Kind, OfBase, OfRecord}
 use Rattle.lk_query.specs.Order.{AllBelow}
 use Rattle.lk_query.specs.declared.part.Part.{Part}
 use Rattle.lk_query.specs.declared.part.Part.TheVariants as part
@@ -122,9 +121,11 @@ module _ (functions : Named (Entry Ground)) (tables : List TableDecl) (locals : 
         left = are.left;
         has =
             kind_behind scope scans t known then s.parts last.parts (length last.parts) (last.parts ++ x ∷ []) (adds_both are.adds empty)
-            (kind_added scope scans t then last.parts x empty.ordered empty.typed (all_labelled ls (length last.parts) m.numbers below, at_end m.state.parts (part.Record []))
-            (row_kind t row_is, labelled_bases then (length last.parts) (kind_of_type t) scope ls ts m.numbers bases below seen,
-            ([], next_has then (length last.parts) (kind_of_type t) scope scope (OfRecord []) rest (λ j looked. looked) (at_end m.state.parts (part.Record [])) (next_seen are.later rest (OfRecord []) scope scope (λ j looked. looked))))
+            (kind_added scope scans t then last.parts x empty.ordered empty.typed (all_labelled ls (length last.parts) m.numbers below, at_end m.state.parts (part.Record [])) (
+              row_kind t row_is,
+              labelled_bases then (length last.parts) (kind_of_type t) scope ls ts m.numbers bases below seen,
+              ([], next_has then (length last.parts) (kind_of_type t) scope scope (OfRecord []) rest (λ j looked. looked) (at_end m.state.parts (part.Record [])) (next_seen are.later rest (OfRecord []) scope scope (λ j looked. looked))),
+            )
             (record_columns t row_is) (λ off. refl));
       })
 
@@ -155,7 +156,9 @@ module _ (functions : Named (Entry Ground)) (tables : List TableDecl) (locals : 
       ∙ ap (λ types. extension types ls (map (walk makes) es) (walk makes d) numbers (behind_type s)) own in
       subst (λ w. IsKinded scope scans t known s q w) (sym walk_is)
       (from_behind_type scope scans t known s q (add x rest.state)
-      (finished_kinded scope scans t ts known (behind_type s) q both x made_so (all_labelled ls n m.numbers below.0, below.1)
-      (row_kind t row_is, labelled_bases made_so.later n (kind_of_type t) scope ls (types_of found) m.numbers (base_types found (bases_in found other row made (flat_bases row row_is))) below.0 seen.0,
-      (labels (columns_of (record_of other)), own_part made_so.later n (kind_of_type t) scope (record_of other) (OfRecord (labels (columns_of (record_of other)))) rest.part (row_kind (record_of other) other_row) below.1 seen.1))
+      (finished_kinded scope scans t ts known (behind_type s) q both x made_so (all_labelled ls n m.numbers below.0, below.1) (
+        row_kind t row_is,
+        labelled_bases made_so.later n (kind_of_type t) scope ls (types_of found) m.numbers (base_types found (bases_in found other row made (flat_bases row row_is))) below.0 seen.0,
+        (labels (columns_of (record_of other)), own_part made_so.later n (kind_of_type t) scope (record_of other) (OfRecord (labels (columns_of (record_of other)))) rest.part (row_kind (record_of other) other_row) below.1 seen.1),
+      )
       (record_columns t row_is) (λ off. refl)))
