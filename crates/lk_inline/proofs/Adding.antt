@@ -21,7 +21,7 @@ append_none [] = refl
 append_none (x ∷ xs) = ap (λ rest. x ∷ rest) (append_none xs)
 
 -- what stands behind a list is one more, or it stands in the list
-behind_list : {A : Type 0} (xs : List A) (x y : A) (n : ℕ) → slice_get (xs ++ x ∷ []) n ≡ Some y → (slice_get xs n ≡ Some y) ⊎ ((n ≡ length xs) × (x ≡ y))
+pub behind_list : {A : Type 0} (xs : List A) (x y : A) (n : ℕ) → slice_get (xs ++ x ∷ []) n ≡ Some y → (slice_get xs n ≡ Some y) ⊎ ((n ≡ length xs) × (x ≡ y))
 behind_list [] x y zero is = inr (refl, let same : Some x ≡ Some y = is in cc)
 behind_list [] x y (suc n) is = let wrong : None ≡ Some y = is in absurd cc
 behind_list (z ∷ xs) x y zero is = inl is

@@ -49,12 +49,12 @@ use Rattle.lk_typing.specs.Types.{function_of as function_type}
 -- ---- names of parameters
 
 -- parts under names
-abbrev bound_labels : Named ℕ → List Label → List ℕ → Named ℕ
+abbrev pub bound_labels : Named ℕ → List Label → List ℕ → Named ℕ
 bound_labels names [] numbers = names
 bound_labels names (x ∷ xs) [] = names
 bound_labels names (x ∷ xs) (n ∷ numbers) = bound_labels ((x, n) ∷ names) xs numbers
 
-bound_is : (names : Named ℕ) (params : List Word) (numbers : List ℕ) → bound names params numbers ≡ bound_labels names (texts params) numbers
+pub bound_is : (names : Named ℕ) (params : List Word) (numbers : List ℕ) → bound names params numbers ≡ bound_labels names (texts params) numbers
 bound_is names [] numbers = refl
 bound_is names (x ∷ params) [] = refl
 bound_is names (x ∷ params) (n ∷ numbers) = bound_is ((x.text, n) ∷ names) params numbers

@@ -74,7 +74,7 @@ module _ {functions : Named (Entry Ground)} {tables : List TableDecl} where
   first_node b (delete change is changes writes) = record { node = _; rest = _; are = refl; type = refl }
 
   -- the type of the first of several is the next one
-  next_type : {names : Named Ground} {effects : EffectSet} {es : List Expr} {ts inside : List Ground} (helpers : List Use) (b : Bool) (d : HaveTypes functions tables names effects es ts inside) (p q : Pending) → Takes helpers (each_nodes b d) p q
+  pub next_type : {names : Named Ground} {effects : EffectSet} {es : List Expr} {ts inside : List Ground} (helpers : List Use) (b : Bool) (d : HaveTypes functions tables names effects es ts inside) (p q : Pending) → Takes helpers (each_nodes b d) p q
       → (u : Ground) (us : List Ground) → ts ≡ u ∷ us → (others : List Ground) × (p.types ≡ u ∷ others)
   unfolding nodes_of
   next_type helpers b none p q takes u us same = let wrong : [] ≡ u ∷ us = same in absurd cc
@@ -89,22 +89,22 @@ module _ {functions : Named (Entry Ground)} {tables : List TableDecl} where
 
 -- ---- which rules use functions
 
-data UsesBy (h : Head) (ts : List Ground) (effects : EffectSet) (t : Ground) (u : Use) : Type 0 where
+pub data UsesBy (h : Head) (ts : List Ground) (effects : EffectSet) (t : Ground) (u : Use) : Type 0 where
   function : (g : Label) → h ≡ operator.Function g → u ≡ record { name = g; type = t } → UsesBy h ts effects t u
   call : (g : Label) → h ≡ operator.Call g → u ≡ record { name = g; type = function_of ts effects t } → UsesBy h ts effects t u
 
-uses_by : (functions : Named (Entry Ground)) (tables : List TableDecl) (names : Named Ground) (effects : EffectSet) (h : Head) (ts : List Ground) (t : Ground) (u : Use) (r : Rule functions tables names effects h ts t) → used_by r ≡ Some u → UsesBy h ts effects t u
+pub uses_by : (functions : Named (Entry Ground)) (tables : List TableDecl) (names : Named Ground) (effects : EffectSet) (h : Head) (ts : List Ground) (t : Ground) (u : Use) (r : Rule functions tables names effects h ts t) → used_by r ≡ Some u → UsesBy h ts effects t u
 uses_by functions tables names effects _ _ t u (rule.function {g = g} may) is = function g refl (let same : record { name = g; type = t } ≡ u = cc in sym same)
 uses_by functions tables names effects _ ts t u (rule.call {g = g} may) is = call g refl (let same : record { name = g; type = function_of ts effects t } ≡ u = cc in sym same)
 uses_by functions tables names effects h ts t u by is = absurd cc
 
-record CallLayer (l : Layer) (g : Label) : Type 0 where
-  word : Word
-  args : List Expr
-  is : l ≡ Node-F.Call word args
-  named : word.text ≡ g
+pub record CallLayer (l : Layer) (g : Label) : Type 0 where
+  pub word : Word
+  pub args : List Expr
+  pub is : l ≡ Node-F.Call word args
+  pub named : word.text ≡ g
 
-call_layer : (l : Layer) (h : Head) (g : Label) → head label_of expr_of l ≡ Some h → h ≡ operator.Call g → CallLayer l g
+pub call_layer : (l : Layer) (h : Head) (g : Label) → head label_of expr_of l ≡ Some h → h ≡ operator.Call g → CallLayer l g
 call_layer (Node-F.Call word args) h g is call_is = let same : operator.Call word.text ≡ operator.Call g = cc in record { word = word; args = args; is = refl; named = let it : word.text ≡ g = cc in it }
 call_layer l h g is call_is = absurd cc
 

@@ -55,13 +55,13 @@ none_some is = cc
 
 -- ---- numbers of several parts
 
-all_below : (ts : List Ground) (numbers : List ℕ) (parts : List Part) → AreWithin ts numbers parts → AllBelow (length parts) numbers
+pub all_below : (ts : List Ground) (numbers : List ℕ) (parts : List Part) → AreWithin ts numbers parts → AllBelow (length parts) numbers
 all_below [] [] parts within = tt
 all_below [] (k ∷ numbers) parts within = absurd within
 all_below (t ∷ ts) [] parts within = absurd within
 all_below (t ∷ ts) (k ∷ numbers) parts within = (within.0, all_below ts numbers parts within.1)
 
-all_labelled : (ls : List Label) (n : ℕ) (numbers : List ℕ) → AllBelow n numbers → LabelledBelow n (labelled ls numbers)
+pub all_labelled : (ls : List Label) (n : ℕ) (numbers : List ℕ) → AllBelow n numbers → LabelledBelow n (labelled ls numbers)
 all_labelled [] n numbers below = tt
 all_labelled (l ∷ ls) n [] below = tt
 all_labelled (l ∷ ls) n (k ∷ numbers) below = (below.0, all_labelled ls n numbers below.1)
@@ -71,7 +71,7 @@ rows_given own [] values = refl
 rows_given own (k ∷ numbers) values = ap (λ rows. (own k values).row ∷ rows) (rows_given own numbers values)
 
 -- the walks of fields, one by one
-walks_of_fields : (makes : Calls) (items : List PartExpr) → map (λ item. walk makes item.expr) items ≡ map (walk makes) (map expr_of items)
+pub walks_of_fields : (makes : Calls) (items : List PartExpr) → map (λ item. walk makes item.expr) items ≡ map (walk makes) (map expr_of items)
 walks_of_fields makes [] = refl
 walks_of_fields makes (item ∷ items) = ap (λ walks. walk makes item.expr ∷ walks) (walks_of_fields makes items)
 
@@ -79,7 +79,7 @@ walks_of_fields makes (item ∷ items) = ap (λ walks. walk makes item.expr ∷ 
 with_last : Several → Walk → Named ℕ → Several
 with_last m w names = record { numbers = m.numbers ++ (w names m.state).part ∷ []; state = (w names m.state).state }
 
-all_last : (walks : List Walk) (w : Walk) (names : Named ℕ) (s : State) → all (walks ++ w ∷ []) names s ≡ record { numbers = (all walks names s).numbers ++ (w names (all walks names s).state).part ∷ []; state = (w names (all walks names s).state).state }
+pub all_last : (walks : List Walk) (w : Walk) (names : Named ℕ) (s : State) → all (walks ++ w ∷ []) names s ≡ record { numbers = (all walks names s).numbers ++ (w names (all walks names s).state).part ∷ []; state = (w names (all walks names s).state).state }
 all_last [] w names s = refl
 all_last (v ∷ walks) w names s =
     let m : Made = v names s in
@@ -87,16 +87,16 @@ all_last (v ∷ walks) w names s =
     ∙ ap (λ (n : Several). record { numbers = m.part ∷ n.numbers; state = n.state }) (all_last walks w names m.state)
     ∙ ap (λ (n : Several). record { numbers = n.numbers ++ (w names n.state).part ∷ []; state = (w names n.state).state }) (sym (all_more v walks names s))
 
-last_map : {A B : Type 0} (f : A → B) (xs : List A) (y : A) → map f (xs ++ y ∷ []) ≡ map f xs ++ f y ∷ []
+pub last_map : {A B : Type 0} (f : A → B) (xs : List A) (y : A) → map f (xs ++ y ∷ []) ≡ map f xs ++ f y ∷ []
 last_map f [] y = refl
 last_map f (x ∷ xs) y = ap (λ rest. f x ∷ rest) (last_map f xs y)
 
-below_front : (n : ℕ) (numbers : List ℕ) (k : ℕ) → AllBelow n (numbers ++ k ∷ []) → AllBelow n numbers × (k < n)
+pub below_front : (n : ℕ) (numbers : List ℕ) (k : ℕ) → AllBelow n (numbers ++ k ∷ []) → AllBelow n numbers × (k < n)
 below_front n [] k below = (tt, below.0)
 below_front n (j ∷ numbers) k below = let rest = below_front n numbers k below.1 in ((below.0, rest.0), rest.1)
 
 -- what holds of each type holds of those behind the fields'
-rest_each : (P : Ground → Type 0) (labels : List Label) (ts : List Ground) (found : Named Ground) (rest : List Ground) → types.labelled labels ts ≡ Some (found, rest) → Each P ts → Each P rest
+pub rest_each : (P : Ground → Type 0) (labels : List Label) (ts : List Ground) (found : Named Ground) (rest : List Ground) → types.labelled labels ts ≡ Some (found, rest) → Each P ts → Each P rest
 rest_each P [] ts found rest is each = subst (Each P) (ap (λ pair. pair.1) (just is)) each
 rest_each P (l ∷ ls) [] found rest is each = absurd (none_some is)
 rest_each P (l ∷ ls) (t ∷ ts) found rest is each = by (types.labelled ls ts) refl is (rest_each P ls ts)

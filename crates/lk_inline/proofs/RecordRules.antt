@@ -91,10 +91,10 @@ items_by_rule es a flat ts vs gs same stand = items_stand es a flat vs gs (all_s
 
 -- ---- fields of a flat record are bases
 
-abbrev AllBase : Row → Type 0
+abbrev pub AllBase : Row → Type 0
 AllBase row = (q : Label) (t : Ground) → fin.get row q ≡ Some t → is_base t ≡ true
 
-flat_bases : (row : Row) → is_flat_row (record_of row) ≡ true → AllBase row
+pub flat_bases : (row : Row) → is_flat_row (record_of row) ≡ true → AllBase row
 flat_bases row flat q t is = base_among q t (fields_of row) (flat_fields (fields_of row) flat) (get_among row q t is)
 
 -- the row behind the first field
@@ -122,7 +122,7 @@ bases_behind rest l t lacks all q u is = by_test (bytes_eq l q) refl (got rest l
     by_test true same there = let wrong : false ≡ true = sym lacks ∙ ap (has_label rest) ((bytes_eq-Decides l q).0 same) ∙ ap is_some is in absurd cc
     by_test false other there = all q u (there ∙ is)
 
-bases_in : (fields : Named Ground) (other row : Row) → with_fields fields other ≡ Some row → AllBase row → Each (λ (f : Label × Ground). is_base f.1 ≡ true) fields
+pub bases_in : (fields : Named Ground) (other row : Row) → with_fields fields other ≡ Some row → AllBase row → Each (λ (f : Label × Ground). is_base f.1 ≡ true) fields
 bases_in [] other row is all = tt
 bases_in (f ∷ fields) other row is all =
     let behind : Behind f.0 f.1 (with_fields fields other) row = behind_first f.0 f.1 (with_fields fields other) row is in
@@ -132,7 +132,7 @@ bases_in (f ∷ fields) other row is all =
     )
 
 -- the types of what is labelled, and those behind them
-labelled_types : (ls : List Label) (ts : List Ground) (fields : Named Ground) (left : List Ground) → types.labelled ls ts ≡ Some (fields, left) → ts ≡ types_of fields ++ left
+pub labelled_types : (ls : List Label) (ts : List Ground) (fields : Named Ground) (left : List Ground) → types.labelled ls ts ≡ Some (fields, left) → ts ≡ types_of fields ++ left
 labelled_types [] ts fields left is =
     let same : ◌≡◌ {A = Named Ground × List Ground} ([], ts) (fields, left) = just is in
     subst (λ (x : Named Ground × List Ground). ts ≡ types_of x.0 ++ x.1) same refl
