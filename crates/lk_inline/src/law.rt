@@ -1,21 +1,25 @@
 //! The laws of inlining.
 
-ghost use Rattle.lk_inline.specs.Law.{BlockLaw, SitesFoundLaw, SitesLaw, TypesLaw};
+ghost use Rattle.lk_inline.specs.Law.{BlockLaw, KindsLaw, SitesFoundLaw, SitesLaw, TypesLaw};
 
 /// The laws of inlining for those who inline blocks of a program, as facts. A call does nothing.
 ///
 /// `blocks`: where the names of a program are bound and its instances are a closed set, what is inlined at a site keeps the
 /// meaning that the text has there. The parts of a query, and of a reading of a table, give its rows over tables that fit; those
 /// of an update or a deletion say which rows change, and what becomes of them. All this holds for all values of what the block
-/// captures, if no record type among those of the nodes from the block on has a label twice.
+/// captures, if the types of the nodes from the block on have their labels in order, those of records and those of lists of them.
 ///
-/// `types`: in the functions of a ground program none has.
+/// `kinds`: each part that is inlined there gives a thing of its kind, so that SQL can say it, and those of an update or a
+/// deletion read no table, if the types in helpers have their labels in order, too, and each table of the program has a column.
+///
+/// `types`: in the functions and the helpers of a ground program all types have them in order.
 ///
 /// `sites`: each site of a ground program is a block of the program's text, typed in an instance, and has its label.
 ///
 /// `found`: each query, reading of a table, update and deletion that stands in an instance outside of others is one.
 pub fn inline_laws()
     ensures blocks { BlockLaw }
+    ensures kinds { KindsLaw }
     ensures types { TypesLaw }
     ensures sites { SitesLaw }
     ensures found { SitesFoundLaw }
