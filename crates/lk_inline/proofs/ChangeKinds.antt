@@ -258,7 +258,7 @@ module _ (p : Program) (bound : IsBound p) (g : GroundProgram) (has : HasInstanc
         let all_bases : Each (λ (set : Label × Ground). is_base set.1 ≡ true) ((l, t) ∷ found.0.0) = subst (λ (x : Named Ground × List Ground). Each (λ (set : Label × Ground). is_base set.1 ≡ true) x.0) found.2 bases in
         (base_in t k all_bases.0 within.0 seen.0, bases_in labels ts ns found.0.0 found.0.1 found.1 all_bases.1 within.1 seen.1)
 
-    pub change_kinds : are_distinct (map (λ (set : PartExpr). set.label.text) sets) ≡ true → HasKinds (inlined.Change change_of)
+    pub change_kinds : are_distinct (map (λ (set : PartExpr). set.label.text) sets) ≡ true → HasKinds p (inlined.Change change_of)
     change_kinds distinct =
         let it : IsChangeKinded = kinded_so in
         kinded.change (kinds_of later) (scopes_of later) it.made.adds.ordered

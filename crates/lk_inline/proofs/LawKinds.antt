@@ -22,7 +22,7 @@ use Rattle.lk_inline.proofs.UsesTyped.{change_typed, uses_typed}
 use Rattle.lk_inline.specs.Blocks.{IsBlock}
 use Rattle.lk_inline.specs.Inlined.{change_at, inlined_by, query_at, reading_at}
 use Rattle.lk_inline.specs.KindsOfTypes.{IsInOrder}
-use Rattle.lk_inline.specs.Law.{AreProper, HasKinds, HaveColumns, IsProperType, KindsLaw}
+use Rattle.lk_inline.specs.Law.{AreProper, HasKinds, IsProperType, KindsLaw}
 use Rattle.lk_inline.specs.Sites.{Site}
 use Rattle.lk_inline.specs.Uses.{change_uses, query_uses}
 use Rattle.lk_mono.specs.Instanced.{HasInstances}
@@ -42,7 +42,7 @@ use Rattle.lk_typing.proofs.Values.{just}
 lists_in_order : (types : List Ground) → Each IsProperType types → Each IsInOrder types
 lists_in_order types proper = each_weaker IsProperType IsInOrder (λ t proper. proper.elements) types proper
 
-module _ (p : Program) (bound : IsBound p) (columns : HaveColumns p) (g : GroundProgram) (has : HasInstances p g) (helpers : AreProper g.helpers) (site : Site) (block : IsBlock p has.instances site.block site.types site.calls)
+module _ (p : Program) (bound : IsBound p) (g : GroundProgram) (has : HasInstances p g) (helpers : AreProper g.helpers) (site : Site) (block : IsBlock p has.instances site.block site.types site.calls)
     (of_text : OneOf (λ other. other ≡ site.block) (blocks_of p)) (proper : Each IsProperType site.types) where
   abbrev i : Instances
   i = has.instances
@@ -53,7 +53,7 @@ module _ (p : Program) (bound : IsBound p) (columns : HaveColumns p) (g : Ground
   types_ordered : Each IsInOrder site.types
   types_ordered = lists_in_order site.types proper
 
-  query_kinded : (keys : List SortKey) (body : Expr) → layer site.block ≡ Node-F.Query keys body → HasKinds (query_at p g.helpers site keys body)
+  query_kinded : (keys : List SortKey) (body : Expr) → layer site.block ≡ Node-F.Query keys body → HasKinds p (query_at p g.helpers site keys body)
   query_kinded keys body is =
       let alone : IsQueryAlone p i block.functions block.locals keys body site.types site.calls block.after =
       query_alone p i block.functions block.locals keys body site.types site.calls block.after (query_block p i block.functions block.typed keys body is block.fine site.types site.calls block.after block.takes) in
@@ -62,11 +62,11 @@ module _ (p : Program) (bound : IsBound p) (columns : HaveColumns p) (g : Ground
       (λ x among. (uses_typed p i.helpers (length (functions_of p)) true alone.typed refl refl (all_early p i has.closed (nodes_of true alone.typed) alone.flat) (drop 1 site.types) site.calls block.after alone.takes x among).1))
       (keys_apart p bound site.block of_text keys body is)
 
-  reading_kinded : (name : Word) → layer site.block ≡ Node-F.Table name → HasKinds (reading_at p g.helpers site name)
-  reading_kinded name is = reading_kinds p columns i block.functions name site.types types_ordered (table_block p i block.functions block.typed name is site.types site.calls block.after block.takes)
+  reading_kinded : (name : Word) → layer site.block ≡ Node-F.Table name → HasKinds p (reading_at p g.helpers site name)
+  reading_kinded name is = reading_kinds p i block.functions name site.types types_ordered (table_block p i block.functions block.typed name is site.types site.calls block.after block.takes)
 
   change_kinded : (change : ChangeExpr) → IsChangeBlock p i block.functions block.locals change site.types site.calls block.after → are_distinct (map (λ (set : PartExpr). set.label.text) (out-ChangeExpr change).sets) ≡ true
-      → HasKinds (change_at p g.helpers site change)
+      → HasKinds p (change_at p g.helpers site change)
   change_kinded change whole distinct =
       let alone : IsChangeAlone p i block.functions block.locals change site.types site.calls block.after = change_alone p i block.functions block.locals change site.types site.calls block.after whole in
       change_kinds p bound g has ordered block.functions block.locals site types_ordered change block.after alone
@@ -74,14 +74,14 @@ module _ (p : Program) (bound : IsBound p) (columns : HaveColumns p) (g : Ground
       (λ x among. (change_typed p i.helpers (length (functions_of p)) alone.typed (all_early p i has.closed (change_nodes alone.typed) alone.flat) (drop 1 site.types) site.calls block.after alone.takes x among).1))
       distinct
 
-  by_form : (l : Layer) → layer site.block ≡ l → (found : Inlined) → inlined_by p g.helpers site l ≡ Some found → HasKinds found
-  by_form (Node-F.Query keys body) is found at = subst HasKinds (just at) (query_kinded keys body is)
-  by_form (Node-F.Table name) is found at = subst HasKinds (just at) (reading_kinded name is)
+  by_form : (l : Layer) → layer site.block ≡ l → (found : Inlined) → inlined_by p g.helpers site l ≡ Some found → HasKinds p found
+  by_form (Node-F.Query keys body) is found at = subst (HasKinds p) (just at) (query_kinded keys body is)
+  by_form (Node-F.Table name) is found at = subst (HasKinds p) (just at) (reading_kinded name is)
   by_form (Node-F.Update change) is found at =
-      subst HasKinds (just at) (change_kinded change (update_block p i block.functions block.typed change is block.fine site.types site.calls block.after block.takes) (update_apart p bound site.block of_text change is))
+      subst (HasKinds p) (just at) (change_kinded change (update_block p i block.functions block.typed change is block.fine site.types site.calls block.after block.takes) (update_apart p bound site.block of_text change is))
   by_form (Node-F.Delete change) is found at =
-      subst HasKinds (just at) (change_kinded change (delete_block p i block.functions block.typed change is block.fine site.types site.calls block.after block.takes) (delete_apart p bound site.block of_text change is))
+      subst (HasKinds p) (just at) (change_kinded change (delete_block p i block.functions block.typed change is block.fine site.types site.calls block.after block.takes) (delete_apart p bound site.block of_text change is))
   by_form other is found at = let wrong : None ≡ Some found = at in absurd cc
 
 pub kinds-had : KindsLaw
-kinds-had p bound columns g has helpers site block of_text proper found at = by_form p bound columns g has helpers site block of_text proper (layer site.block) refl found at
+kinds-had p bound g has helpers site block of_text proper found at = by_form p bound g has helpers site block of_text proper (layer site.block) refl found at

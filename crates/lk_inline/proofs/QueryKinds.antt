@@ -138,11 +138,11 @@ module _ (p : Program) (bound : IsBound p) (g : GroundProgram) (has : HasInstanc
   columns_are : columns_of alone.row ≡ first_columns site.types
   columns_are = sym (ap first_columns alone.own ∙ element_labels_are alone.row)
 
-  pub query_kinds : all ≡ map captured_as (types_of kept) → are_distinct (map (λ (key : SortKey). key.label.text) keys) ≡ true → HasKinds (inlined.Query query_of)
+  pub query_kinds : all ≡ map captured_as (types_of kept) → are_distinct (map (λ (key : SortKey). key.label.text) keys) ≡ true → HasKinds p (inlined.Query query_of)
   query_kinds same distinct =
       let made : HasKind (begun_scope given) true (known.List alone.row) (begun given) (bound_parts xs) walked.part walked.state.parts = body_kinded.has in
       kinded.query (kinds_of made.later) (scopes_of made.later) made.adds.ordered
-      (record {
+      (λ columns. record {
         typed = made.adds.typed;
         root_there = made.within;
         root_is = made.is.0 ∙ list_kind alone.row ∙ ap (λ columns. OfList (labels columns)) columns_are;
@@ -161,26 +161,26 @@ some_label : (gs : List GroundField) → has_some gs ≡ true → has_some (fiel
 some_label [] some = some
 some_label (g ∷ gs) some = refl
 
-module _ (p : Program) (all : HaveColumns p) (i : Instances) (functions : Named (Entry Ground)) (name : Word) where
+module _ (p : Program) (i : Instances) (functions : Named (Entry Ground)) (name : Word) where
   -- the one part of a reading
   one_part : (ls : List Label) (n : ℕ) (x : Part) → slice_get (part.Table name.text ls ∷ []) n ≡ Some x → part.Table name.text ls ≡ x
   one_part ls zero x is = let same : Some (part.Table name.text ls) ≡ Some x = is in cc
   one_part ls (suc n) x is = let wrong : None ≡ Some x = is in absurd cc
 
-  reading_columns : (row : Row) → HasRows (tables_of p) name.text row → IsInOrder (known.List (record_of row)) → AreColumns (labels (element_columns (known.List (record_of row))))
-  reading_columns row has order =
+  reading_columns : HaveColumns p → (row : Row) → HasRows (tables_of p) name.text row → IsInOrder (known.List (record_of row)) → AreColumns (labels (element_columns (known.List (record_of row))))
+  reading_columns all row has order =
       let are : labels (element_columns (known.List (record_of row))) ≡ field_labels (fields_of row) = ap labels (element_labels_are (record_of row)) ∙ labels_are (fields_of row) in
       columns_by (labels (element_columns (known.List (record_of row)))) (ap has_some are ∙ some_label (fields_of row) (row_there p all name.text row has)) order
 
   abbrev pub reading_of : List Ground → Query
   reading_of types = record { parts = table types name.text ∷ []; root = 0; captured = []; columns = first_columns types; keys = [] }
 
-  own_kinds : (row : Row) (others : List Ground) → HasRows (tables_of p) name.text row → IsInOrder (known.List (record_of row)) → HasKinds (inlined.Query (reading_of (known.List (record_of row) ∷ others)))
+  own_kinds : (row : Row) (others : List Ground) → HasRows (tables_of p) name.text row → IsInOrder (known.List (record_of row)) → HasKinds p (inlined.Query (reading_of (known.List (record_of row) ∷ others)))
   own_kinds row others has order =
       let ls : List Label = labels (element_columns (known.List (record_of row))) in
       kinded.query (λ k. OfList ls) (λ k j. false) (λ n x is. subst (Below n) (one_part ls n x is) tt)
-      (record {
-        typed = record { columns = λ n. reading_columns row has order; each = λ n x is. subst (λ x. Is (λ k. OfList ls) (λ k j. false) n x (OfList ls)) (one_part ls n x is) refl };
+      (λ all. record {
+        typed = record { columns = λ n. reading_columns all row has order; each = λ n x is. subst (λ x. Is (λ k. OfList ls) (λ k j. false) n x (OfList ls)) (one_part ls n x is) refl };
         root_there = omega arith;
         root_is = refl;
         captures = λ k looks. absurd (true≢false (sym looks));
@@ -188,7 +188,7 @@ module _ (p : Program) (all : HaveColumns p) (i : Instances) (functions : Named 
         sorted_by = refl;
       })
 
-  pub reading_kinds : (types : List Ground) → Each IsInOrder types → IsTableBlock p i functions name types → HasKinds (inlined.Query (reading_of types))
+  pub reading_kinds : (types : List Ground) → Each IsInOrder types → IsTableBlock p i functions name types → HasKinds p (inlined.Query (reading_of types))
   reading_kinds types proper block =
       let order : Each IsInOrder (known.List (record_of block.row) ∷ block.others) = subst (Each IsInOrder) block.own proper in
-      subst (λ ts. HasKinds (inlined.Query (reading_of ts))) (sym block.own) (own_kinds block.row block.others block.has order.0)
+      subst (λ ts. HasKinds p (inlined.Query (reading_of ts))) (sym block.own) (own_kinds block.row block.others block.has order.0)

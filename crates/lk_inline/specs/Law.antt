@@ -102,17 +102,18 @@ TypesLaw = (p : Program) (schemes : List Scheme) (types : List Ty) (g : GroundPr
 abbrev pub HaveColumns : Program → Type 0
 HaveColumns p = Each (λ (table : TableDecl). is_there table.columns ≡ true) (tables_of p)
 
--- each part of what is inlined stands behind its own parts and gives a thing of its kind, and a change reads no table
-pub data HasKinds : Inlined → Type 0 where
-  query : {q : Query} (kinds : ℕ → Kind) (scopes : ℕ → ℕ → Bool) → AreOrdered q.parts → IsTyped kinds scopes q → HasKinds (inlined.Query q)
-  change : {c : InlinedChange} (kinds : ℕ → Kind) (scopes : ℕ → ℕ → Bool) → AreOrdered c.parts → IsTypedChange kinds scopes c → ReadNoTable c.parts → HasKinds (inlined.Change c)
+-- Each part of what is inlined stands behind its own parts and gives a thing of its kind, that of a query where tables have columns,
+-- since a reading gives all columns of its table. A change reads no table.
+pub data HasKinds (p : Program) : Inlined → Type 0 where
+  query : {q : Query} (kinds : ℕ → Kind) (scopes : ℕ → ℕ → Bool) → AreOrdered q.parts → (HaveColumns p → IsTyped kinds scopes q) → HasKinds p (inlined.Query q)
+  change : {c : InlinedChange} (kinds : ℕ → Kind) (scopes : ℕ → ℕ → Bool) → AreOrdered c.parts → IsTypedChange kinds scopes c → ReadNoTable c.parts → HasKinds p (inlined.Change c)
 
 -- So it is of what is inlined of a block of the program's text, where the types of the nodes from the block on have their labels in
--- order, and so have those of the helpers.
+-- order, and those in the helpers have, too.
 abbrev pub KindsLaw : Type 0
-KindsLaw = (p : Program) → IsBound p → HaveColumns p → (g : GroundProgram) → (has : HasInstances p g) → AreProper g.helpers
+KindsLaw = (p : Program) → IsBound p → (g : GroundProgram) → (has : HasInstances p g) → AreProper g.helpers
     → (site : Site) → IsBlock p has.instances site.block site.types site.calls → OneOf (λ other. other ≡ site.block) (blocks_of p) → Each IsProperType site.types
-    → (found : Inlined) → inlined_at p g.helpers site ≡ Some found → HasKinds found
+    → (found : Inlined) → inlined_at p g.helpers site ≡ Some found → HasKinds p found
 
 -- ---- sites
 

@@ -10,7 +10,8 @@ ghost use Rattle.lk_inline.specs.Law.{BlockLaw, KindsLaw, SitesFoundLaw, SitesLa
 /// captures, if the types of the nodes from the block on have their labels in order, those of records and those of lists of them.
 ///
 /// `kinds`: each part that is inlined there gives a thing of its kind, so that SQL can say it, and those of an update or a
-/// deletion read no table, if the types in helpers have their labels in order, too, and each table of the program has a column.
+/// deletion read no table, if the types in helpers have their labels in order, too. Of a query it is said where each table of the
+/// program has a column.
 ///
 /// `types`: in the functions and the helpers of a ground program all types have them in order.
 ///
