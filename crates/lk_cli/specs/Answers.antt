@@ -79,7 +79,7 @@ IsGround program typed ground_program =
     IsGrounded program typed.schemes typed.types ground_program × Keeps program ground_program × ShowsPlain program × IsShaped program × HasInstances program ground_program
 
 -- It has one, whose queries, readings of tables, updates and deletions are these as SQL, by their labels. What a database may answer
--- them with is what the readings may be answered with, and they change rows as the text says.
+-- them with is what the readings may be answered with, they change rows as the text says, and they are well formed.
 abbrev pub IsTranslated : Program → Typed → List Translated → Type 0
 IsTranslated program typed queries =
     (ground_program : GroundProgram) × IsGround program typed ground_program × AreTranslated program ground_program queries × Each (IsMeant program ground_program) queries

@@ -9,12 +9,14 @@ use Rattle.lk_ast.specs.declared.table.Row.{Row}
 use Rattle.lk_ast.specs.declared.table.TableDef.{TableDef}
 use Rattle.lk_ground.specs.declared.program.GroundProgram.{GroundProgram}
 use Rattle.lk_inline.specs.Inlined.{change_at, inlined_at, inlined_by, table_labels}
-use Rattle.lk_inline.specs.Law.{BlockLaw, Keeps, KeepsRows, KeepsTest}
+use Rattle.lk_inline.specs.Law.{BlockLaw, HasKinds, Keeps, KeepsRows, KeepsTest, KindsLaw}
 use Rattle.lk_inline.specs.Law as keeps
+use Rattle.lk_inline.specs.Law as kinded
 use Rattle.lk_inline.specs.Sites.{Site}
 use Rattle.lk_norm.specs.Law.{HasColumns}
 use Rattle.lk_norm.specs.Law as norm
 use Rattle.lk_query.specs.Captured.{leaves}
+use Rattle.lk_query.specs.Changed.{ReadNoTable}
 use Rattle.lk_query.specs.declared.query.Inlined.{Inlined}
 use Rattle.lk_query.specs.declared.query.Inlined.TheVariants as inlined
 use Rattle.lk_query.specs.declared.query.InlinedChange.{InlinedChange}
@@ -33,7 +35,12 @@ abbrev is_change : Inlined → Bool
 is_change (inlined.Query query) = false
 is_change (inlined.Change change) = true
 
-module _ (law : norm.ChangeLaw) (p : Program) (g : GroundProgram) (site : Site) (change : InlinedChange) (at : inlined_at p g.helpers site ≡ Some (inlined.Change change)) where
+-- what is inlined of a change reads no table
+reads_none : (p : Program) (change : InlinedChange) (found : Inlined) → found ≡ inlined.Change change → HasKinds p found → ReadNoTable change.parts
+reads_none p change _ is (kinded.query kinds scopes ordered typed) = let wrong : false ≡ true = ap is_change is in absurd cc
+reads_none p change _ is (kinded.change {c = made} kinds scopes ordered typed none) = subst (λ (c : InlinedChange). ReadNoTable c.parts) (ap (change_or made) is) none
+
+module _ (law : norm.ChangeOverLaw) (p : Program) (g : GroundProgram) (site : Site) (change : InlinedChange) (at : inlined_at p g.helpers site ≡ Some (inlined.Change change)) (none : ReadNoTable change.parts) where
   -- its labels are those of the table that the text names
   labels_by : (l : Layer) (of : ChangeExpr) → layer site.block ≡ l → inlined_by p g.helpers site l ≡ Some (change_at p g.helpers site of) → change.labels ≡ table_labels (table_at p (out-ChangeExpr of).table.text)
   labels_by l of is made =
@@ -45,10 +52,10 @@ module _ (law : norm.ChangeLaw) (p : Program) (g : GroundProgram) (site : Site) 
   row_has of are def there row fits = subst (λ ls. HasColumns ls row) (sym (are ∙ ap table_labels there)) (has_columns p (out-ChangeExpr of).table.text def there row fits)
 
   where_kept : (of : ChangeExpr) → change.labels ≡ table_labels (table_at p (out-ChangeExpr of).table.text) → KeepsTest p site.block change of → ChangesWhere p site change of
-  where_kept of are kept def there args so row fits = (law change (leaves args) row (row_has of are def there row fits)).0 ∙ kept.test def there args so row fits
+  where_kept of are kept def there tables args so row fits = (law change tables none (leaves args) row (row_has of are def there row fits)).0 ∙ kept.test def there args so row fits
 
   to_kept : (of : ChangeExpr) → change.labels ≡ table_labels (table_at p (out-ChangeExpr of).table.text) → KeepsRows p site.block change of → ChangesTo p site change of
-  to_kept of are kept def there args so row fits = (law change (leaves args) row (row_has of are def there row fits)).1 ∙ kept.rows def there args so row fits
+  to_kept of are kept def there tables args so row fits = (law change tables none (leaves args) row (row_has of are def there row fits)).1 ∙ kept.rows def there args so row fits
 
   by_kept : (l : Layer) (found : Inlined) → layer site.block ≡ l → found ≡ inlined.Change change → Keeps p site.block l found → ChangesLegally p site change l
   by_kept l _ is same (keeps.query kept) = let wrong : false ≡ true = ap is_change same in absurd cc
@@ -60,6 +67,7 @@ module _ (law : norm.ChangeLaw) (p : Program) (g : GroundProgram) (site : Site) 
       let are : change.labels ≡ table_labels (table_at p (out-ChangeExpr of).table.text) = labels_by (Node-F.Delete of) of (is ∙ layers) refl in
       subst (ChangesLegally p site change) (sym layers) (where_kept of are (subst (λ c. KeepsTest p site.block c of) (ap (change_or change) same) test))
 
-pub changed-legally : BlockLaw → norm.ChangeLaw → ChangeLaw
-changed-legally blocks law p bound g has site block proper change at =
-    by_kept law p g site change at (layer site.block) (inlined.Change change) refl refl (blocks p bound g has site block proper (inlined.Change change) at)
+pub changed-legally : BlockLaw → KindsLaw → norm.ChangeOverLaw → ChangeLaw
+changed-legally blocks kinds law p bound g has helpers site block of_text proper change at =
+    let none : ReadNoTable change.parts = reads_none p change (inlined.Change change) refl (kinds p bound g has helpers site block of_text proper (inlined.Change change) at) in
+    by_kept law p g site change at none (layer site.block) (inlined.Change change) refl refl (blocks p bound g has site block proper (inlined.Change change) at)

@@ -9,6 +9,7 @@ use Rattle.lk_ast.specs.declared.table.Cell.{Cell}
 use Rattle.lk_ast.specs.declared.table.Column.{Column}
 use Rattle.lk_ast.specs.declared.table.Row.{Row}
 use Rattle.lk_ast.specs.declared.table.TableDef.{TableDef}
+use Rattle.lk_inline.proofs.LabelOrder.{distinct_test}
 use Rattle.lk_inline.proofs.PutFields.{entry_labels, sorted_distinct}
 use Rattle.lk_inline.specs.Shapes.{labels}
 use Rattle.lk_inline.specs.Stands.{AreDistinct, row_labels}
@@ -17,24 +18,8 @@ use Rattle.lk_sound.proofs.Bindings.{same_bytes}
 use Rattle.lk_sound.proofs.FlatTypes.{first_holds, second_holds}
 use Rattle.lk_sound.proofs.TableRows.{as_columns}
 use Rattle.lk_sound.specs.Tables.{table_at}
-use Rattle.lk_sql.specs.Good.{are_distinct, is_there}
-use Rattle.lk_types.specs.Each.{OneOf}
 use Rattle.lk_types.specs.Rows.{Label}
 use Rattle.lk_typing.proofs.Values.{just}
-
--- ---- labels that differ
-
-not_there : (l : Label) (ls : List Label) → (OneOf (λ other. other ≡ l) ls → ⊥) → is_there ls l ≡ false
-not_there l [] none = refl
-not_there l (m ∷ ls) none = by_test (bytes_eq l m) refl (not_there l ls (λ one. none (inr one)))
-  where
-    by_test : (b : Bool) → bytes_eq l m ≡ b → is_there ls l ≡ false → (b || is_there ls l) ≡ false
-    by_test true is behind = absurd (none (inl (sym (same_bytes l m is))))
-    by_test false is behind = behind
-
-distinct_is : (ls : List Label) → AreDistinct ls → are_distinct ls ≡ true
-distinct_is [] distinct = refl
-distinct_is (l ∷ ls) distinct = ap₂ (λ a b. not a && b) (not_there l ls distinct.0) (distinct_is ls distinct.1)
 
 -- ---- tables of a program
 
@@ -65,4 +50,4 @@ cells_have (column ∷ columns) (cell ∷ cells) fit =
     ap₂ (λ l ls. l ∷ ls) (sym (same_bytes column.label cell.label (first_holds _ _ both))) (cells_have columns cells (second_holds (bytes_eq column.label cell.label && is_of_kind column.kind cell.value) _ fit))
 
 pub has_columns : (p : Program) (x : Label) (def : TableDef) → table_at p x ≡ Some def → (row : Row) → row_fits def row ≡ true → HasColumns (labels def.columns) row
-has_columns p x def at row fits = (cells_have def.columns row.cells fits, distinct_is (labels def.columns) (found_distinct x (tables_of p) def at))
+has_columns p x def at row fits = (cells_have def.columns row.cells fits, distinct_test (labels def.columns) (found_distinct x (tables_of p) def at))

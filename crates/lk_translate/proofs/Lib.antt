@@ -6,3 +6,4 @@ pub mod Meaning
 pub mod Ordering
 pub mod Reading
 pub mod SiteTypes
+pub mod WellFormed

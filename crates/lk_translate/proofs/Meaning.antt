@@ -2,26 +2,25 @@
 use Rattle.std.proofs.Common.{◌≡◌, refl, ap, inl, inr, List, [], ◌∷◌, Option, Some, None, map, option_map}
 use Rattle.lk_ast.specs.declared.declaration.Program.{Program}
 use Rattle.lk_ground.specs.declared.program.GroundProgram.{GroundProgram}
-use Rattle.lk_inline.specs.Blocks.{IsBlock}
 use Rattle.lk_inline.specs.Inlined.{inlined_at}
-use Rattle.lk_inline.specs.Law.{IsProperType, IsSiteOf, SitesLaw, TypesLaw}
+use Rattle.lk_inline.specs.Law.{AreProper, IsProperType, IsSiteOf, SitesLaw, TypesLaw}
 use Rattle.lk_inline.specs.Sites.{Site, sites_of}
 use Rattle.lk_mono.specs.Instanced.{HasInstances}
 use Rattle.lk_names.specs.Programs.{IsBound}
 use Rattle.lk_query.specs.declared.query.Inlined.{Inlined}
 use Rattle.lk_query.specs.declared.query.Inlined.TheVariants as inlined
 use Rattle.lk_translate.proofs.SiteTypes.{HaveTypes, sites_have}
-use Rattle.lk_translate.specs.Law.{AnswerLaw, ChangeLaw, IsLegal, IsMeant, TranslationLaw}
+use Rattle.lk_translate.specs.Law.{AnswerLaw, ChangeLaw, GoodLaw, IsLegal, IsMeant, TranslationLaw}
 use Rattle.lk_translate.specs.Translation.{code_of, inlined_code, translated_at}
 use Rattle.lk_translate.specs.declared.translated.Code.{Code}
 use Rattle.lk_translate.specs.declared.translated.Translated.{Translated}
 use Rattle.lk_types.specs.Each.{Each, OneOf}
 use Rattle.lk_typing.proofs.Values.{just}
 
-module _ (answers : AnswerLaw) (changes : ChangeLaw) (p : Program) (bound : IsBound p) (g : GroundProgram) (has : HasInstances p g) where
-  is_legal : (site : Site) → IsBlock p has.instances site.block site.types site.calls → Each IsProperType site.types → (found : Inlined) → inlined_at p g.helpers site ≡ Some found → IsLegal p site found
-  is_legal site block proper (inlined.Query query) at = answers p bound g has site block proper query at
-  is_legal site block proper (inlined.Change change) at = changes p bound g has site block proper change at
+module _ (answers : AnswerLaw) (changes : ChangeLaw) (good : GoodLaw) (p : Program) (bound : IsBound p) (g : GroundProgram) (has : HasInstances p g) (helpers : AreProper g.helpers) where
+  is_legal : (site : Site) → IsSiteOf p g has site → Each IsProperType site.types → (found : Inlined) → inlined_at p g.helpers site ≡ Some found → IsLegal p site found
+  is_legal site is proper (inlined.Query query) at = answers p bound g has site is.block proper query at
+  is_legal site is proper (inlined.Change change) at = changes p bound g has helpers site is.block is.of_text proper change at
 
   abbrev at_site : Site → Code → Translated
   at_site site code = record { label = site.label; span = site.block.span; code = code }
@@ -42,7 +41,8 @@ module _ (answers : AnswerLaw) (changes : ChangeLaw) (p : Program) (bound : IsBo
             found = found;
             there = at;
             code = ap (λ (one : Translated). one.code) same;
-            legal = is_legal site is.block proper found at;
+            legal = is_legal site is proper found at;
+            good = good p bound g has helpers site is.block is.of_text proper found at;
           }
 
   -- site by site
@@ -56,6 +56,7 @@ module _ (answers : AnswerLaw) (changes : ChangeLaw) (p : Program) (bound : IsBo
       let rest : map Some all ≡ map (translated_at p g.helpers) sites = cc in
       (one_meant site are.0 proper.0 (among site (inl refl)) one first, all_meant sites are.1 proper.1 (λ other one. among other (inr one)) all rest)
 
-pub translated-meant : AnswerLaw → ChangeLaw → SitesLaw → TypesLaw → TranslationLaw
-translated-meant answers changes sites proper p bound schemes types g grounded has all are =
-    all_meant answers changes p bound g has (sites_of g) (sites p g has) (sites_have IsProperType g (proper p schemes types g grounded)) (λ site one. one) all are.each
+pub translated-meant : AnswerLaw → ChangeLaw → GoodLaw → SitesLaw → TypesLaw → TranslationLaw
+translated-meant answers changes good sites types p bound schemes tys g grounded has all are =
+    let proper : AreProper g.funs × AreProper g.helpers = types p schemes tys g grounded in
+    all_meant answers changes good p bound g has proper.1 (sites_of g) (sites p g has) (sites_have IsProperType g proper.0) (λ site one. one) all are.each

@@ -1,5 +1,5 @@
--- The laws of translations: what a database that follows SQL answers is a legal answer of the program, and what it changes is what
--- the program changes.
+-- The laws of translations: what a database that follows SQL answers is a legal answer of the program, what it changes is what the
+-- program changes, and the SQL is well formed.
 use Rattle.std.specs.Prelude.{◌≡◌, true, List, [], Some}
 use Rattle.lk_ast.specs.Layers.{Layer, layer}
 use Rattle.lk_ast.specs.Tables.{Tables, row_fits}
@@ -9,13 +9,14 @@ use Rattle.lk_ast.specs.declared.expression.Node.TheOpen.{Node-F}
 use Rattle.lk_ast.specs.declared.table.Row.{Row}
 use Rattle.lk_ast.specs.declared.table.TableDef.{TableDef}
 use Rattle.lk_ast.specs.declared.value.Value.{Value}
+use Rattle.lk_bag.specs.Blocks.{blocks_of}
 use Rattle.lk_bag.specs.Change.{is_met, updated}
 use Rattle.lk_bag.specs.Legal as legal
 use Rattle.lk_bag.specs.Legal.{names_in}
 use Rattle.lk_ground.specs.declared.program.GroundProgram.{GroundProgram}
 use Rattle.lk_inline.specs.Blocks.{IsBlock}
 use Rattle.lk_inline.specs.Inlined.{inlined_at}
-use Rattle.lk_inline.specs.Law.{IsProperType}
+use Rattle.lk_inline.specs.Law.{AreProper, HaveColumns, IsProperType}
 use Rattle.lk_inline.specs.Sites.{Site, sites_of}
 use Rattle.lk_mono.specs.Grounded.{IsGrounded}
 use Rattle.lk_mono.specs.Instanced.{HasInstances}
@@ -28,6 +29,7 @@ use Rattle.lk_query.specs.declared.query.InlinedChange.{InlinedChange}
 use Rattle.lk_query.specs.declared.query.Query.{Query}
 use Rattle.lk_sound.specs.Tables.{AreTables, table_at}
 use Rattle.lk_sql.specs.Change as sql
+use Rattle.lk_sql.specs.Good.{is_good_change, is_good_sql}
 use Rattle.lk_sql.specs.Keys.{IsAnswer}
 use Rattle.lk_translate.specs.Translation.{AreTranslated, inlined_code}
 use Rattle.lk_translate.specs.declared.translated.Translated.{Translated}
@@ -44,7 +46,7 @@ AnswersLegally p site query =
     (tables : Tables) → AreTables p tables → (args : List Value) → AreCaptured query.captured args → (answer : List Row) → IsAnswer tables (leaves args) (query_sql query) answer → legal.IsAnswer p tables site.block args answer
 
 -- So it is where the program's names are bound, its instances are a closed set, and what stands at the site is typed in one of them,
--- if no type of a node from there on is of records with a label twice.
+-- if the types of the nodes from there on have their labels in order.
 abbrev pub AnswerLaw : Type 0
 AnswerLaw = (p : Program) → IsBound p → (g : GroundProgram) → (has : HasInstances p g) → (site : Site) → IsBlock p has.instances site.block site.types site.calls → Each IsProperType site.types
     → (query : Query) → inlined_at p g.helpers site ≡ Some (inlined.Query query) → AnswersLegally p site query
@@ -52,17 +54,17 @@ AnswerLaw = (p : Program) → IsBound p → (g : GroundProgram) → (has : HasIn
 -- ---- changes
 
 module _ (p : Program) (site : Site) (change : InlinedChange) where
-  -- so it is of each row that the table may hold, for all values of what is captured
-  abbrev OfEachRow : ChangeExpr → (List Value → Row → Type 0) → Type 0
-  OfEachRow of P = (def : TableDef) → table_at p (out-ChangeExpr of).table.text ≡ Some def → (args : List Value) → AreCaptured change.captured args → (row : Row) → row_fits def row ≡ true → P args row
+  -- so it is of each row that the table may hold, whatever rows tables have, and for all values of what is captured
+  abbrev OfEachRow : ChangeExpr → (Tables → List Value → Row → Type 0) → Type 0
+  OfEachRow of P = (def : TableDef) → table_at p (out-ChangeExpr of).table.text ≡ Some def → (tables : Tables) (args : List Value) → AreCaptured change.captured args → (row : Row) → row_fits def row ≡ true → P tables args row
 
   -- the SQL changes the row where the text says so
   abbrev pub ChangesWhere : ChangeExpr → Type 0
-  ChangesWhere of = OfEachRow of (λ args row. sql.is_changed (λ name. []) (leaves args) (change_sql change) row ≡ is_met p (names_in site.block args) of row)
+  ChangesWhere of = OfEachRow of (λ tables args row. sql.is_changed tables (leaves args) (change_sql change) row ≡ is_met p (names_in site.block args) of row)
 
   -- and makes of it what the text says
   abbrev pub ChangesTo : ChangeExpr → Type 0
-  ChangesTo of = OfEachRow of (λ args row. sql.changed (λ name. []) (leaves args) (change_sql change) row ≡ updated p (names_in site.block args) of row)
+  ChangesTo of = OfEachRow of (λ tables args row. sql.changed tables (leaves args) (change_sql change) row ≡ updated p (names_in site.block args) of row)
 
   -- an update or a deletion; nothing else changes rows
   abbrev pub ChangesLegally : Layer → Type 0
@@ -70,9 +72,23 @@ module _ (p : Program) (site : Site) (change : InlinedChange) where
   ChangesLegally (Node-F.Delete of) = ChangesWhere of
   ChangesLegally other = ⊥
 
+-- So it is of a block of the program's text, if the types in the helpers have their labels in order, too.
 abbrev pub ChangeLaw : Type 0
-ChangeLaw = (p : Program) → IsBound p → (g : GroundProgram) → (has : HasInstances p g) → (site : Site) → IsBlock p has.instances site.block site.types site.calls → Each IsProperType site.types
+ChangeLaw = (p : Program) → IsBound p → (g : GroundProgram) → (has : HasInstances p g) → AreProper g.helpers
+    → (site : Site) → IsBlock p has.instances site.block site.types site.calls → OneOf (λ other. other ≡ site.block) (blocks_of p) → Each IsProperType site.types
     → (change : InlinedChange) → inlined_at p g.helpers site ≡ Some (inlined.Change change) → ChangesLegally p site change (layer site.block)
+
+-- ---- well-formed SQL
+
+-- the SQL is well formed, that of a query where each table of the program has a column
+abbrev pub IsGood : Program → Inlined → Type 0
+IsGood p (inlined.Query query) = HaveColumns p → is_good_sql (query_sql query) ≡ true
+IsGood p (inlined.Change change) = is_good_change (change_sql change) ≡ true
+
+abbrev pub GoodLaw : Type 0
+GoodLaw = (p : Program) → IsBound p → (g : GroundProgram) → (has : HasInstances p g) → AreProper g.helpers
+    → (site : Site) → IsBlock p has.instances site.block site.types site.calls → OneOf (λ other. other ≡ site.block) (blocks_of p) → Each IsProperType site.types
+    → (found : Inlined) → inlined_at p g.helpers site ≡ Some found → IsGood p found
 
 -- ---- programs
 
@@ -81,7 +97,7 @@ abbrev pub IsLegal : Program → Site → Inlined → Type 0
 IsLegal p site (inlined.Query query) = AnswersLegally p site query
 IsLegal p site (inlined.Change change) = ChangesLegally p site change (layer site.block)
 
--- it is what is inlined at one of the sites, in SQL, and means what stands there
+-- it is what is inlined at one of the sites, in SQL that is well formed and means what stands there
 pub record IsMeant (p : Program) (g : GroundProgram) (one : Translated) : Type 0 where
   pub site : Site
   pub listed : OneOf (λ other. other ≡ site) (sites_of g)
@@ -91,6 +107,7 @@ pub record IsMeant (p : Program) (g : GroundProgram) (one : Translated) : Type 0
   pub there : inlined_at p g.helpers site ≡ Some found
   pub code : one.code ≡ inlined_code found
   pub legal : IsLegal p site found
+  pub good : IsGood p found
 
 -- so is all that is translated of a ground program
 abbrev pub TranslationLaw : Type 0

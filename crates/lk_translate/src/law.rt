@@ -1,6 +1,6 @@
 //! The law of translations.
 
-ghost use Rattle.lk_translate.specs.Law.{AnswerLaw, ChangeLaw, TranslationLaw};
+ghost use Rattle.lk_translate.specs.Law.{AnswerLaw, ChangeLaw, GoodLaw, TranslationLaw};
 
 use lk_inline::inline_laws;
 use lk_norm::normal_form_laws;
@@ -9,12 +9,14 @@ use lk_norm::normal_form_laws;
 ///
 /// Where the names of a program are bound and its instances are a closed set, whatever the SQL of a query or of a reading
 /// may be answered with, over tables that fit and for all values of what it captures, is a legal answer of the program
-/// (`answers`); and the SQL of an update or a deletion changes the rows that the program changes, to what it makes of them
-/// (`changes`). This is said of a site from which on no type of a node is of records with a label twice. In a ground program
-/// there is no other, so that all that `translate` makes of it means what stands at its sites (`translated`).
+/// (`answers`); the SQL of an update or a deletion changes the rows that the program changes, to what it makes of them, whatever
+/// rows its tables have (`changes`); and the SQL is well formed, that of a query where each table of the program has a column
+/// (`good`). This is said of sites where the labels of records stand in order in the types from there on and, of changes and of
+/// good SQL, in those of helpers. In a ground program they do, so that all that `translate` makes of it is so (`translated`).
 pub fn translate_laws()
     ensures answers { AnswerLaw }
     ensures changes { ChangeLaw }
+    ensures good { GoodLaw }
     ensures translated { TranslationLaw }
 {
     inline_laws();

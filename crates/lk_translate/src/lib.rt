@@ -1,8 +1,8 @@
 //! Ground programs in SQL: their queries, readings of tables, updates and deletions, or the refusal of the first that is too
 //! large.
 //!
-//! `specs/Translation` says what each of them is in SQL, and which one is refused and for what; `translate_laws` says that what a
-//! database answers to it is a legal answer of the program.
+//! `specs/Translation` says what each of them is in SQL, and which one is refused and for what; `translate_laws` says that this is
+//! well formed, and that what a database answers to it is a legal answer of the program.
 #![tactic(auto)]
 
 mod block;
