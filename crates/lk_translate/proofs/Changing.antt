@@ -10,8 +10,7 @@ use Rattle.lk_ast.specs.declared.table.TableDef.{TableDef}
 use Rattle.lk_ground.specs.declared.program.GroundProgram.{GroundProgram}
 use Rattle.lk_inline.specs.Inlined.{change_at, inlined_at, inlined_by, table_labels}
 use Rattle.lk_inline.specs.Law.{BlockLaw, HasKinds, Keeps, KeepsRows, KeepsTest, KindsLaw}
-use Rattle.lk_inline.specs.Law as keeps
-use Rattle.lk_inline.specs.Law as kinded
+use Rattle.lk_inline.specs.Law as inline
 use Rattle.lk_inline.specs.Sites.{Site}
 use Rattle.lk_norm.specs.Law.{HasColumns}
 use Rattle.lk_norm.specs.Law as norm
@@ -37,8 +36,8 @@ is_change (inlined.Change change) = true
 
 -- what is inlined of a change reads no table
 reads_none : (p : Program) (change : InlinedChange) (found : Inlined) → found ≡ inlined.Change change → HasKinds p found → ReadNoTable change.parts
-reads_none p change _ is (kinded.query kinds scopes ordered typed) = let wrong : false ≡ true = ap is_change is in absurd cc
-reads_none p change _ is (kinded.change {c = made} kinds scopes ordered typed none) = subst (λ (c : InlinedChange). ReadNoTable c.parts) (ap (change_or made) is) none
+reads_none p change _ is (inline.query kinds scopes ordered typed) = let wrong : false ≡ true = ap is_change is in absurd cc
+reads_none p change _ is (inline.change {c = made} kinds scopes ordered typed none) = subst (λ (c : InlinedChange). ReadNoTable c.parts) (ap (change_or made) is) none
 
 module _ (law : norm.ChangeOverLaw) (p : Program) (g : GroundProgram) (site : Site) (change : InlinedChange) (at : inlined_at p g.helpers site ≡ Some (inlined.Change change)) (none : ReadNoTable change.parts) where
   -- its labels are those of the table that the text names
@@ -58,12 +57,12 @@ module _ (law : norm.ChangeOverLaw) (p : Program) (g : GroundProgram) (site : Si
   to_kept of are kept def there tables args so row fits = (law change tables none (leaves args) row (row_has of are def there row fits)).1 ∙ kept.rows def there args so row fits
 
   by_kept : (l : Layer) (found : Inlined) → layer site.block ≡ l → found ≡ inlined.Change change → Keeps p site.block l found → ChangesLegally p site change l
-  by_kept l _ is same (keeps.query kept) = let wrong : false ≡ true = ap is_change same in absurd cc
-  by_kept l _ is same (keeps.update {change = of} layers test rows) =
+  by_kept l _ is same (inline.query kept) = let wrong : false ≡ true = ap is_change same in absurd cc
+  by_kept l _ is same (inline.update {change = of} layers test rows) =
       let are : change.labels ≡ table_labels (table_at p (out-ChangeExpr of).table.text) = labels_by (Node-F.Update of) of (is ∙ layers) refl in
       subst (ChangesLegally p site change) (sym layers)
       (where_kept of are (subst (λ c. KeepsTest p site.block c of) (ap (change_or change) same) test), to_kept of are (subst (λ c. KeepsRows p site.block c of) (ap (change_or change) same) rows))
-  by_kept l _ is same (keeps.delete {change = of} layers test) =
+  by_kept l _ is same (inline.delete {change = of} layers test) =
       let are : change.labels ≡ table_labels (table_at p (out-ChangeExpr of).table.text) = labels_by (Node-F.Delete of) of (is ∙ layers) refl in
       subst (ChangesLegally p site change) (sym layers) (where_kept of are (subst (λ c. KeepsTest p site.block c of) (ap (change_or change) same) test))
 
