@@ -1,7 +1,5 @@
 -- The parts of an update or a deletion have kinds, and none of them reads a table.
-use Rattle.std.proofs.Common.{◌≡◌, refl, sym, ap, ap₂, ◌∙◌, subst, arith, ℕ, zero, suc, ◌+◌, ◌≤◌, ◌<◌, ◌==◌, Bool, true, false, List, [], ◌∷◌, drop, length, map, Option, Some, None, is_some, if◌then◌else◌, bytes_eq}
-use Rattle.std.proofs.lemmas.Bool.{eqb-false, eqb-true}
-use Rattle.std.specs.List.{list_any}
+use Rattle.std.proofs.Common.{◌≡◌, refl, sym, ap, ◌∙◌, subst, arith, ℕ, zero, suc, ◌+◌, ◌≤◌, ◌<◌, Bool, true, false, List, [], ◌∷◌, drop, length, map, Option, Some, None, is_some, if◌then◌else◌, bytes_eq}
 use Rattle.lk_ast.specs.Functions.{functions_of}
 use Rattle.lk_ast.specs.Tables.{tables_of}
 use Rattle.lk_ast.specs.declared.declaration.Program.{Program}
@@ -25,18 +23,18 @@ use Rattle.lk_inline.proofs.Making.{AreWithin, all_more}
 use Rattle.lk_inline.proofs.TableColumns.{HasTable, has_table}
 use Rattle.lk_inline.specs.Inlined.{bound_parts, calls_of, captured_as, captured_at, numbered, state_at, table_labels}
 use Rattle.lk_inline.specs.KindsOfTypes.{IsInOrder, kind_level, kind_of_type}
-use Rattle.lk_inline.specs.Law.{HasKinds}
 use Rattle.lk_inline.specs.Law as kinded
+use Rattle.lk_inline.specs.Law.{HasKinds}
 use Rattle.lk_inline.specs.Pending.{Pending, pending}
 use Rattle.lk_inline.specs.Shapes.{columns_level, columns_of, labels}
 use Rattle.lk_inline.specs.Sites.{Site}
 use Rattle.lk_inline.specs.Takes.{Takes}
 use Rattle.lk_inline.specs.Uses.{change_uses}
-use Rattle.lk_inline.specs.Walk.{Made, Several, State, Walk, all, called, labelled, walk}
+use Rattle.lk_inline.specs.Walk.{Made, Several, State, all, called, labelled, walk}
 use Rattle.lk_mono.specs.Instanced.{HasInstances}
 use Rattle.lk_names.specs.Programs.{IsBound}
 use Rattle.lk_query.proofs.Parts.{bind-other}
-use Rattle.lk_query.specs.Changed.{ReadNoTable, reads_table}
+use Rattle.lk_query.specs.Changed.{ReadNoTable}
 use Rattle.lk_query.specs.Kinds.{AreBasesIn, IsBaseIn, IsNoList, Kind, OfBase, OfRecord, kinds_from}
 use Rattle.lk_query.specs.Order.{bind}
 use Rattle.lk_query.specs.declared.part.Labelled.{Labelled}
@@ -47,7 +45,7 @@ use Rattle.lk_query.specs.declared.query.InlinedChange.{InlinedChange}
 use Rattle.lk_sound.proofs.Bags.{all_early}
 use Rattle.lk_sound.proofs.QueryParts.{AreQueryNodes}
 use Rattle.lk_sound.specs.Instances.{Instances}
-use Rattle.lk_sound.specs.Nodes.{change_nodes, each_nodes, nodes_of}
+use Rattle.lk_sound.specs.Nodes.{change_nodes, nodes_of}
 use Rattle.lk_sound.specs.Tables.{table_at}
 use Rattle.lk_sql.specs.Good.{are_distinct}
 use Rattle.lk_types.specs.Each.{Each}

@@ -1,5 +1,5 @@
 -- In a program whose names are bound no function's body has a fault in its names, and neither has what acts on tables in it.
-use Rattle.std.proofs.Common.{◌≡◌, refl, sym, ap, subst, ◌∙◌, Bool, true, false, List, [], ◌∷◌, ◌++◌, map, flat_map, None}
+use Rattle.std.proofs.Common.{◌≡◌, refl, sym, ap, subst, ◌∙◌, Bool, true, false, List, [], ◌∷◌, ◌++◌, flat_map, None}
 use Rattle.lk_ast.specs.Functions.{functions_in, functions_of, main_of}
 use Rattle.lk_ast.specs.Layers.{Layer, layer}
 use Rattle.lk_ast.specs.declared.declaration.Decl.{Decl}
@@ -12,7 +12,7 @@ use Rattle.lk_bag.proofs.Levels.{blocks_level, inside, itself}
 use Rattle.lk_bag.specs.Blocks.{acts_on_tables, blocks_in, blocks_of}
 use Rattle.lk_names.specs.Expressions.{fault, node_in}
 use Rattle.lk_names.specs.Faults.{Fault, first_of}
-use Rattle.lk_names.specs.Programs.{IsBound, decl_fault, decls_fault, function_fault, functions_fault, main_fault, names_fault, names_of, no_globals, sig_fault, table_fault, with_decl}
+use Rattle.lk_names.specs.Programs.{IsBound, decl_fault, decls_fault, function_fault, functions_fault, main_fault, names_fault, names_of, no_globals, sig_fault, with_decl}
 use Rattle.lk_names.specs.Repeats.{twice_fault, words_fault}
 use Rattle.lk_names.specs.declared.globals.Globals.{Globals}
 use Rattle.lk_scope.specs.Names.{Names, bind, bind_all, no_names}

@@ -1,21 +1,18 @@
 -- Where the walk of a block begins: a part for each name, of the kind of what is captured under it.
-use Rattle.std.proofs.Common.{◌≡◌, refl, sym, ap, ◌∙◌, subst, arith, ℕ, zero, suc, ◌+◌, ◌≤◌, ◌<◌, ◌==◌, Bool, true, false, ◌||◌, List, [], ◌∷◌, length, map, Option, Some, None, is_some, slice_get, if◌then◌else◌, bytes_eq}
+use Rattle.std.proofs.Common.{◌≡◌, refl, sym, ap, ◌∙◌, subst, arith, ℕ, suc, ◌+◌, ◌≤◌, ◌<◌, ◌==◌, Bool, true, false, ◌||◌, List, [], ◌∷◌, length, map, Option, Some, None, is_some, slice_get, if◌then◌else◌, bytes_eq}
 use Rattle.std.proofs.lemmas.Bool.{eqb-false, eqb-true}
 use Rattle.std.proofs.lemmas.Option.{slice_get_within}
 use Rattle.std.specs.Prelude.{unwrap_or}
 use Rattle.lk_ground_types.specs.Shapes.{base_level, is_flat, row_level}
 use Rattle.lk_inline.proofs.BlockStarts.{bound_alone, bound_length}
-use Rattle.lk_inline.proofs.KindsMade.{AreDescribed, AreKnown, Described, Descriptions, IsSeen, Scope, described, kinds_of, scopes_of}
+use Rattle.lk_inline.proofs.KindsMade.{AreDescribed, Described, Descriptions, IsSeen, Scope, described, kinds_of, scopes_of}
 use Rattle.lk_inline.specs.Inlined.{bound_parts, captured_as, numbered}
 use Rattle.lk_inline.specs.KindsOfTypes as kinds
 use Rattle.lk_inline.specs.KindsOfTypes.{kind_of_type}
 use Rattle.lk_inline.specs.Shapes.{columns_level, kind_level}
 use Rattle.lk_query.proofs.Parts.{bind-here, bind-other}
 use Rattle.lk_query.specs.Kinds.{HasColumns, Is, IsNoList, Kind, OfBase, OfList, OfRecord, kind_of, kinds_from}
-use Rattle.lk_query.specs.Order.{bind}
 use Rattle.lk_query.specs.declared.part.Part.{Part}
-use Rattle.lk_query.specs.declared.part.Part.TheVariants as part
-use Rattle.lk_query.specs.declared.query.Captured.{Captured}
 use Rattle.lk_query.specs.declared.query.Captured.TheVariants as captured
 use Rattle.lk_types.specs.Each.{Each}
 use Rattle.lk_types.specs.Rows.{Label}

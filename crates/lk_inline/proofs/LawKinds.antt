@@ -1,5 +1,5 @@
 -- The law of kinds, by the form of the expression at the site.
-use Rattle.std.proofs.Common.{◌≡◌, refl, ◌∙◌, subst, true, List, drop, length, None, Some, map}
+use Rattle.std.proofs.Common.{◌≡◌, refl, subst, true, List, drop, length, None, Some, map}
 use Rattle.lk_ast.specs.Functions.{functions_of}
 use Rattle.lk_ast.specs.Layers.{Layer, layer}
 use Rattle.lk_ast.specs.declared.declaration.Program.{Program}
@@ -28,7 +28,6 @@ use Rattle.lk_inline.specs.Uses.{change_uses, query_uses}
 use Rattle.lk_mono.specs.Instanced.{HasInstances}
 use Rattle.lk_names.specs.Programs.{IsBound}
 use Rattle.lk_query.specs.declared.query.Inlined.{Inlined}
-use Rattle.lk_query.specs.declared.query.Inlined.TheVariants as inlined
 use Rattle.lk_sound.proofs.Bags.{all_early}
 use Rattle.lk_sound.proofs.Members.{each_weaker}
 use Rattle.lk_sound.specs.Instances.{Instances}

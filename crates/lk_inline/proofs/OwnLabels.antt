@@ -29,7 +29,7 @@ use Rattle.lk_scope.specs.Scoped.{In, all_in}
 use Rattle.lk_sound.proofs.Faultless.{mapped, neither}
 use Rattle.lk_sound.proofs.Members.{each_in}
 use Rattle.lk_sql.specs.Good.{are_distinct, is_there}
-use Rattle.lk_types.specs.Each.{Each, OneOf}
+use Rattle.lk_types.specs.Each.{OneOf}
 use Rattle.lk_types.specs.Rows.{Label}
 
 -- ---- names that were not met before

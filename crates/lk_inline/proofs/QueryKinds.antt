@@ -1,5 +1,5 @@
 -- The parts of a query have kinds, and so has the part of a reading.
-use Rattle.std.proofs.Common.{◌≡◌, refl, sym, ap, ap₂, ◌∙◌, subst, arith, ℕ, zero, suc, ◌+◌, ◌≤◌, ◌<◌, Bool, true, false, ◌&&◌, List, [], ◌∷◌, drop, length, map, Option, Some, None, is_some, slice_get, true≢false, inl, inr}
+use Rattle.std.proofs.Common.{◌≡◌, refl, sym, ap, ap₂, ◌∙◌, subst, arith, ℕ, zero, suc, ◌+◌, ◌<◌, true, false, ◌&&◌, List, [], ◌∷◌, drop, length, map, Option, Some, None, slice_get, true≢false, inl, inr}
 use Rattle.std.specs.List.{list_all}
 use Rattle.lk_ast.specs.Functions.{functions_of}
 use Rattle.lk_ast.specs.Tables.{tables_of}
@@ -7,8 +7,9 @@ use Rattle.lk_ast.specs.declared.declaration.Program.{Program}
 use Rattle.lk_ast.specs.declared.expression.Expr.{Expr}
 use Rattle.lk_ast.specs.declared.expression.SortKey.{SortKey}
 use Rattle.lk_ast.specs.declared.place.Word.{Word}
+use Rattle.lk_ground.specs.declared.program.GroundFun.{GroundFun}
 use Rattle.lk_ground.specs.declared.program.GroundProgram.{GroundProgram}
-use Rattle.lk_ground_types.specs.Shapes.{is_flat, is_there as has_some}
+use Rattle.lk_ground_types.specs.Shapes.{is_there as has_some}
 use Rattle.lk_index.specs.Free.{captured_query}
 use Rattle.lk_inline.proofs.BlockForms.{IsQueryAlone, IsTableBlock}
 use Rattle.lk_inline.proofs.BlockStarts.{bound_length, bound_ordered}
@@ -16,15 +17,15 @@ use Rattle.lk_inline.proofs.KindHelpers.{helpers_kinded}
 use Rattle.lk_inline.proofs.KindInduction.{expr_kinded}
 use Rattle.lk_inline.proofs.KindNodes.{taken_in_order}
 use Rattle.lk_inline.proofs.KindStarts.{AreBound, begun, begun_described, begun_scope, begun_still, kept_each, kept_named, kept_only, kinds_kept, seen_begun}
-use Rattle.lk_inline.proofs.KindsMade.{AreKnown, Descriptions, HasKind, IsKinded, kinds_of, scopes_of}
+use Rattle.lk_inline.proofs.KindsMade.{AreKnown, HasKind, IsKinded, kinds_of, scopes_of}
 use Rattle.lk_inline.proofs.LabelOrder.{one_there}
 use Rattle.lk_inline.proofs.LawTypes.{behind_first}
 use Rattle.lk_inline.proofs.RowLabels.{element_labels_are, field_labels, labels_are}
 use Rattle.lk_inline.proofs.TableColumns.{row_there}
 use Rattle.lk_inline.specs.Inlined.{bound_parts, calls_of, captured_as, captured_at, first_columns, key_of, numbered, state_at}
 use Rattle.lk_inline.specs.KindsOfTypes.{IsInOrder, kind_level, kind_of_type}
-use Rattle.lk_inline.specs.Law.{HasKinds, HaveColumns}
 use Rattle.lk_inline.specs.Law as kinded
+use Rattle.lk_inline.specs.Law.{HasKinds, HaveColumns}
 use Rattle.lk_inline.specs.Pending.{Pending}
 use Rattle.lk_inline.specs.Shapes.{columns_of, element_columns, labels}
 use Rattle.lk_inline.specs.Sites.{Site}
@@ -32,8 +33,8 @@ use Rattle.lk_inline.specs.Uses.{query_uses}
 use Rattle.lk_inline.specs.Walk.{Made, table, walk}
 use Rattle.lk_mono.specs.Instanced.{HasInstances}
 use Rattle.lk_names.specs.Programs.{IsBound}
-use Rattle.lk_query.specs.Kinds.{AreColumns, AreTyped, Is, IsTyped, Kind, OfBase, OfList, kinds_from, labels_of}
-use Rattle.lk_query.specs.Order.{AreOrdered, Below}
+use Rattle.lk_query.specs.Kinds.{AreColumns, Is, Kind, OfList, kinds_from}
+use Rattle.lk_query.specs.Order.{Below}
 use Rattle.lk_query.specs.declared.part.Part.{Part}
 use Rattle.lk_query.specs.declared.part.Part.TheVariants as part
 use Rattle.lk_query.specs.declared.query.Captured.{Captured}
@@ -45,7 +46,6 @@ use Rattle.lk_sound.specs.Instances.{Instances}
 use Rattle.lk_sound.specs.Nodes.{nodes_of}
 use Rattle.lk_sql.specs.Good.{are_distinct, are_in_order, is_there}
 use Rattle.lk_sql.specs.declared.tree.Key.{Key}
-use Rattle.lk_ground.specs.declared.program.GroundFun.{GroundFun}
 use Rattle.lk_types.specs.Each.{Each, OneOf}
 use Rattle.lk_types.specs.Rows.{Label, Row, fields_of}
 use Rattle.lk_types.specs.declared.ground.Ground.{Ground}

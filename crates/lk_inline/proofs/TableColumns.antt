@@ -2,6 +2,7 @@
 -- table has a column, they have a field.
 use Rattle.std.proofs.Common.{◌≡◌, refl, sym, ap, ap₂, ◌∙◌, Bool, true, false, ◌&&◌, List, [], ◌∷◌, map, find, Option, Some, None, is_some, cond, bytes_eq, if◌then◌else◌, pos}
 use Rattle.std.specs.FinMap as fin
+use Rattle.lk_ast.specs.Rows.{row_value}
 use Rattle.lk_ast.specs.Tables.{cells_fit, is_of_kind, tables_of}
 use Rattle.lk_ast.specs.declared.declaration.ColumnDecl.{ColumnDecl}
 use Rattle.lk_ast.specs.declared.declaration.Program.{Program}
@@ -14,7 +15,6 @@ use Rattle.lk_ast.specs.declared.table.Cell.{Cell}
 use Rattle.lk_ast.specs.declared.table.Column.{Column}
 use Rattle.lk_ast.specs.declared.table.Row.{Row}
 use Rattle.lk_ast.specs.declared.table.TableDef.{TableDef}
-use Rattle.lk_ast.specs.Rows.{row_value}
 use Rattle.lk_ground_types.proofs.Parts.{with_one}
 use Rattle.lk_ground_types.specs.Shapes.{is_base, is_there}
 use Rattle.lk_inline.proofs.BlockSets.{field_base}

@@ -22,7 +22,6 @@ use Rattle.lk_query.specs.declared.query.InlinedChange.{InlinedChange}
 use Rattle.lk_sound.specs.Tables.{table_at}
 use Rattle.lk_translate.proofs.Columns.{has_columns}
 use Rattle.lk_translate.specs.Law.{ChangeLaw, ChangesLegally, ChangesTo, ChangesWhere}
-use Rattle.lk_types.specs.Rows.{Label}
 use Rattle.lk_typing.proofs.Values.{just}
 
 -- the change of what is inlined, if it is one

@@ -1,5 +1,5 @@
 -- Rows that a table may hold have its columns, none of them twice.
-use Rattle.std.proofs.Common.{◌≡◌, refl, sym, ap, ap₂, ◌∙◌, subst, Bool, true, false, not, ◌&&◌, ◌||◌, List, [], ◌∷◌, map, find, inl, inr, Option, Some, None, bytes_eq, if◌then◌else◌}
+use Rattle.std.proofs.Common.{◌≡◌, refl, sym, ap, ap₂, subst, Bool, true, false, ◌&&◌, List, [], ◌∷◌, map, find, Some, None, bytes_eq, if◌then◌else◌}
 use Rattle.std.specs.FinMap as fin
 use Rattle.lk_ast.specs.Tables.{cells_fit, is_of_kind, kinds, row_fits, table_def, tables_of}
 use Rattle.lk_ast.specs.declared.declaration.Program.{Program}
@@ -12,7 +12,7 @@ use Rattle.lk_ast.specs.declared.table.TableDef.{TableDef}
 use Rattle.lk_inline.proofs.LabelOrder.{distinct_test}
 use Rattle.lk_inline.proofs.PutFields.{entry_labels, sorted_distinct}
 use Rattle.lk_inline.specs.Shapes.{labels}
-use Rattle.lk_inline.specs.Stands.{AreDistinct, row_labels}
+use Rattle.lk_inline.specs.Stands.{AreDistinct}
 use Rattle.lk_norm.specs.Law.{HasColumns}
 use Rattle.lk_sound.proofs.Bindings.{same_bytes}
 use Rattle.lk_sound.proofs.FlatTypes.{first_holds, second_holds}

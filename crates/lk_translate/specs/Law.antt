@@ -1,6 +1,6 @@
 -- The laws of translations: what a database that follows SQL answers is a legal answer of the program, what it changes is what the
 -- program changes, and the SQL is well formed.
-use Rattle.std.specs.Prelude.{◌≡◌, true, List, [], Some}
+use Rattle.std.specs.Prelude.{◌≡◌, true, List, Some}
 use Rattle.lk_ast.specs.Layers.{Layer, layer}
 use Rattle.lk_ast.specs.Tables.{Tables, row_fits}
 use Rattle.lk_ast.specs.declared.declaration.Program.{Program}
