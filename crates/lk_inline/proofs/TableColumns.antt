@@ -1,7 +1,8 @@
 -- The columns of a table and the fields of the rows that they make: these have the same labels, and each is of a base type. Where the
 -- table has a column, they have a field.
-use Rattle.std.proofs.Common.{◌≡◌, refl, sym, ap, ap₂, ◌∙◌, Bool, true, false, ◌&&◌, List, [], ◌∷◌, map, find, Option, Some, None, is_some, cond, bytes_eq, if◌then◌else◌, pos}
+use Rattle.std.proofs.Common.{◌≡◌, refl, sym, ap, ap₂, ◌∙◌, subst, Bool, true, false, ◌&&◌, List, [], ◌∷◌, map, find, Option, Some, None, is_some, cond, bytes_eq, if◌then◌else◌, pos}
 use Rattle.std.specs.FinMap as fin
+use Rattle.std.specs.Prelude.{◌≢◌}
 use Rattle.lk_ast.specs.Rows.{row_value}
 use Rattle.lk_ast.specs.Tables.{cells_fit, is_of_kind, tables_of}
 use Rattle.lk_ast.specs.declared.declaration.ColumnDecl.{ColumnDecl}
@@ -84,15 +85,15 @@ some_there : {A : Type 0} (P : A → Type 0) (xs : List A) → OneOf P xs → is
 some_there P [] one = absurd one
 some_there P (x ∷ xs) one = refl
 
-known_there : (columns : List ColumnDecl) → is_there columns ≡ true → (row : rows.Row) → with_fields (map column columns) no_fields ≡ Some row → is_there (fields_of row) ≡ true
-known_there [] there row is = let wrong : false ≡ true = there in absurd cc
-known_there (c ∷ columns) there row is =
+known_there : (columns : List ColumnDecl) → columns ≢ [] → (row : rows.Row) → with_fields (map column columns) no_fields ≡ Some row → is_there (fields_of row) ≡ true
+known_there [] some row is = absurd (some refl)
+known_there (c ∷ columns) some row is =
     let x = with_one c.label.text (Some (base c.kind)) (with_fields (map column columns) no_fields) row is in
     some_there _ (fields_of row)
     (get_among row c.label.text x.0 (ap (λ r. fin.get r c.label.text) x.5 ∙ got x.1 c.label.text x.0 c.label.text ∙ ap (λ b. cond b (Some x.0) (fin.get x.1 c.label.text)) (bytes_itself c.label.text)))
 
 -- a table whose columns make a row
-proper_there : (o : Option TableDecl) → ((table : TableDecl) → o ≡ Some table → is_there table.columns ≡ true) → (row : rows.Row) → IsRowOf (proper o) row → is_there (fields_of row) ≡ true
+proper_there : (o : Option TableDecl) → ((table : TableDecl) → o ≡ Some table → table.columns ≢ []) → (row : rows.Row) → IsRowOf (proper o) row → is_there (fields_of row) ≡ true
 proper_there None all row has = absurd has
 proper_there (Some table) all row has = by_known (is_some (row_known table)) has
   where
@@ -100,13 +101,13 @@ proper_there (Some table) all row has = by_known (is_some (row_known table)) has
     by_known true known = known_there table.columns (all table refl) row known
     by_known false known = absurd known
 
-found_there : (x : Label) (tables : List TableDecl) → Each (λ (table : TableDecl). is_there table.columns ≡ true) tables → (table : TableDecl) → find (λ (table : TableDecl). bytes_eq table.name.text x) tables ≡ Some table → is_there table.columns ≡ true
+found_there : (x : Label) (tables : List TableDecl) → Each (λ (table : TableDecl). table.columns ≢ []) tables → (table : TableDecl) → find (λ (table : TableDecl). bytes_eq table.name.text x) tables ≡ Some table → table.columns ≢ []
 found_there x [] all table is = let wrong : None ≡ Some table = is in absurd cc
 found_there x (t ∷ tables) all table is = by_test (bytes_eq t.name.text x) is (found_there x tables all.1 table)
   where
     by_test : (b : Bool) → (if b then Some t else find (λ (table : TableDecl). bytes_eq table.name.text x) tables) ≡ Some table
-        → (find (λ (table : TableDecl). bytes_eq table.name.text x) tables ≡ Some table → is_there table.columns ≡ true) → is_there table.columns ≡ true
-    by_test true is later = let same : t ≡ table = cc in ap (λ (table : TableDecl). is_there table.columns) (sym same) ∙ all.0
+        → (find (λ (table : TableDecl). bytes_eq table.name.text x) tables ≡ Some table → table.columns ≢ []) → table.columns ≢ []
+    by_test true is later = let same : t ≡ table = cc in subst (λ (table : TableDecl). table.columns ≢ []) same all.0
     by_test false is later = later is
 
 -- where each table has a column, its rows have a field

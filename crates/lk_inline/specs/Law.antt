@@ -1,5 +1,5 @@
 -- The laws of inlining: what stands at a site gives what the program's text says (Cooper, The script-writer's dream, DBPL 2009).
-use Rattle.std.specs.Prelude.{◌≡◌, Bool, true, ℕ, List, [], ◌∷◌, drop, map, Some, slice_get, if◌then◌else◌}
+use Rattle.std.specs.Prelude.{◌≡◌, ◌≢◌, Bool, true, ℕ, List, [], ◌∷◌, drop, map, Some, slice_get, if◌then◌else◌}
 use Rattle.lk_ast.specs.Children.{children}
 use Rattle.lk_ast.specs.Layers.{Layer, layer}
 use Rattle.lk_ast.specs.Rows.{row_value}
@@ -22,7 +22,6 @@ use Rattle.lk_bag.specs.Legal.{bag, names_in}
 use Rattle.lk_ground.specs.Language as language
 use Rattle.lk_ground.specs.declared.program.GroundFun.{GroundFun}
 use Rattle.lk_ground.specs.declared.program.GroundProgram.{GroundProgram}
-use Rattle.lk_ground_types.specs.Shapes.{is_there}
 use Rattle.lk_inline.specs.Blocks.{IsBlock}
 use Rattle.lk_inline.specs.Inlined.{inlined_at}
 use Rattle.lk_inline.specs.KindsOfTypes.{IsInOrder}
@@ -100,7 +99,7 @@ TypesLaw = (p : Program) (schemes : List Scheme) (types : List Ty) (g : GroundPr
 
 -- each table of the program has a column, as those of a text have
 abbrev pub HaveColumns : Program → Type 0
-HaveColumns p = Each (λ (table : TableDecl). is_there table.columns ≡ true) (tables_of p)
+HaveColumns p = Each (λ (table : TableDecl). table.columns ≢ []) (tables_of p)
 
 -- Each part of what is inlined stands behind its own parts and gives a thing of its kind, that of a query where tables have columns,
 -- since a reading gives all columns of its table. A change reads no table.
