@@ -40,7 +40,7 @@ use Rattle.lk_sound.specs.Instances.{IsShaped}
 use Rattle.lk_tables.specs.Reading.{refusal}
 use Rattle.lk_tables.specs.declared.error.TablesError.{TablesError}
 use Rattle.lk_tables.specs.declared.error.TablesError.TheVariants as error
-use Rattle.lk_translate.specs.Law.{IsMeant}
+use Rattle.lk_translate.specs.Law.{IsGoodCode, IsMeant}
 use Rattle.lk_translate.specs.Translation.{AreTranslated, IsFirstFault}
 use Rattle.lk_translate.specs.declared.error.Size.{Size}
 use Rattle.lk_translate.specs.declared.error.Size.TheVariants as size
@@ -82,7 +82,8 @@ IsGround program typed ground_program =
 -- them with is what the readings may be answered with, they change rows as the text says, and they are well formed.
 abbrev pub IsTranslated : Program → Typed → List Translated → Type 0
 IsTranslated program typed queries =
-    (ground_program : GroundProgram) × IsGround program typed ground_program × AreTranslated program ground_program queries × Each (IsMeant program ground_program) queries
+    (ground_program : GroundProgram) × IsGround program typed ground_program × AreTranslated program ground_program queries
+    × Each (IsMeant program ground_program) queries × Each (λ (query : Translated). IsGoodCode query.code) queries
 
 -- nothing refuses the program: it is typed so, and its ground program has this SQL
 abbrev pub IsAccepted : Program → Typed → List Translated → Type 0

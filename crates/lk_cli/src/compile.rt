@@ -6,6 +6,7 @@ ghost use Rattle.lk_cli.specs.Answers.{HasNoProgram, IsAccepted, IsNotAccepted, 
 ghost use Rattle.lk_cli.specs.Seen.{seen};
 ghost use Rattle.lk_ground.specs.UsesApart.{AreUsesApart};
 ghost use Rattle.lk_index.specs.Places.{ArePlaced};
+ghost use Rattle.lk_places.specs.Law.{HaveColumns};
 
 use crate::READ_MAX;
 use crate::answer::{Checked, Refusal};
@@ -20,7 +21,7 @@ use lk_translate::{Translated, translate, translate_laws};
 use std::alloc::Global;
 
 /// The program of the file of that name. Its functions and lambdas begin at places of their own, and so do the uses of
-/// functions in each body, and all that acts on tables.
+/// functions in each body, and all that acts on tables. Its tables have columns.
 pub fn read_program<F: Files>(alloc: Global, name: &str, files: &mut F) -> Result<Program, Refusal>
     ensures contents { F.contents files.new ≡ F.contents files.old }
     ensures later { F.faults files.old ≤ F.faults files.new }
@@ -28,6 +29,7 @@ pub fn read_program<F: Files>(alloc: Global, name: &str, files: &mut F) -> Resul
     ensures placed { IfOk result ArePlaced }
     ensures apart { IfOk result AreUsesApart }
     ensures blocks { IfOk result AreBlocksApart }
+    ensures columns { IfOk result HaveColumns }
     ensures refused { IfErr result (HasNoProgram (seen F.contents F.failed F.faults files.old files.new) name.now) }
 {
     places_law();
@@ -43,6 +45,7 @@ pub fn read_program<F: Files>(alloc: Global, name: &str, files: &mut F) -> Resul
 
 /// The program with its names bound, its schemes and its types, and its queries, updates and deletions as SQL.
 pub fn check_program(alloc: Global, program: Program) -> Result<Checked, Refusal>
+    requires columns { HaveColumns program }
     ensures same { IfOk result (λ checked. checked.program ≡ program) }
     ensures accepted { IfOk result (λ checked. IsAccepted checked.program checked.typed checked.queries) }
     ensures refused { IfErr result (IsNotAccepted program) }
@@ -64,6 +67,7 @@ fn translate_program(
     typed: &Typed,
 ) -> Result<List<Translated>, Refusal>
     requires typed { IsTyped program.now typed.now }
+    requires columns { HaveColumns program.now }
     ensures made { IfOk result (IsTranslated program.now typed.now) }
     ensures refused { IfErr result (λ refusal. IsNotGround program.now typed.now refusal ⊎ IsNotTranslated program.now typed.now refusal) }
 {

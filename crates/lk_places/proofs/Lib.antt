@@ -5,4 +5,5 @@ pub mod Nodes
 pub mod Opens
 pub mod Programs
 pub mod Splits
+pub mod TableColumns
 pub mod Walks

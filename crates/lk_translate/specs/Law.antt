@@ -32,6 +32,8 @@ use Rattle.lk_sql.specs.Change as sql
 use Rattle.lk_sql.specs.Good.{is_good_change, is_good_sql}
 use Rattle.lk_sql.specs.Keys.{IsAnswer}
 use Rattle.lk_translate.specs.Translation.{AreTranslated, inlined_code}
+use Rattle.lk_translate.specs.declared.translated.Code.{Code}
+use Rattle.lk_translate.specs.declared.translated.Code.TheVariants as code
 use Rattle.lk_translate.specs.declared.translated.Translated.{Translated}
 use Rattle.lk_types.specs.Each.{Each, OneOf}
 use Rattle.lk_types.specs.declared.scheme.Scheme.{Scheme}
@@ -80,7 +82,12 @@ ChangeLaw = (p : Program) → IsBound p → (g : GroundProgram) → (has : HasIn
 
 -- ---- well-formed SQL
 
--- the SQL is well formed, that of a query where each table of the program has a column
+-- well-formed SQL
+abbrev pub IsGoodCode : Code → Type 0
+IsGoodCode (code.Select sql) = is_good_sql sql ≡ true
+IsGoodCode (code.Change change) = is_good_change change ≡ true
+
+-- what is inlined has such, a query where each table of the program has a column
 abbrev pub IsGood : Program → Inlined → Type 0
 IsGood p (inlined.Query query) = HaveColumns p → is_good_sql (query_sql query) ≡ true
 IsGood p (inlined.Change change) = is_good_change (change_sql change) ≡ true

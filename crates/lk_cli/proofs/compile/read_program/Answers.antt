@@ -23,3 +23,6 @@ returns-clause-apart g c = c.places_law.ensures.uses c.in-Ok.text c.in_ok-parse.
 
 pub returns-clause-blocks : goal.returns-clause-blocks
 returns-clause-blocks g c = c.places_law.ensures.blocks c.in-Ok.text c.in_ok-parse.field-0 (rw c.as_slice.ensures at c.in_ok-parse.ensures.program)
+
+pub returns-clause-columns : goal.returns-clause-columns
+returns-clause-columns g c = c.places_law.ensures.columns c.in-Ok.text c.in_ok-parse.field-0 (rw c.as_slice.ensures at c.in_ok-parse.ensures.program)
