@@ -43,6 +43,7 @@ pub mod SiteLabels
 pub mod SiteRests
 pub mod SiteTyping
 pub mod SitesFound
+pub mod SitesOrder
 pub mod SitesTyped
 pub mod Standing
 pub mod Takes

@@ -1,5 +1,6 @@
 -- The laws of inlining: what stands at a site gives what the program's text says (Cooper, The script-writer's dream, DBPL 2009).
 use Rattle.std.specs.Prelude.{◌≡◌, true, ℕ, List, [], ◌∷◌, drop, map, Some, slice_get, if◌then◌else◌}
+use Rattle.std.specs.List.Sorted.{IsStrictlyIncreasing}
 use Rattle.lk_ast.specs.Children.{children}
 use Rattle.lk_ast.specs.Layers.{Layer, layer}
 use Rattle.lk_ast.specs.Rows.{row_value}
@@ -119,3 +120,7 @@ pub data StandsOutside (block : Expr) : Expr → Type 0 where
 abbrev pub SitesFoundLaw : Type 0
 SitesFoundLaw = (g : GroundProgram) (fun : ℕ) (f : GroundFun) → slice_get g.funs fun ≡ Some f → (block : Expr) → StandsOutside block (language.function_of f).body → is_site (layer block) ≡ true
     → OneOf (λ site. (site.fun ≡ fun) × (site.block ≡ block)) (sites_of g)
+
+-- their labels rise, in the order in which they are listed, so that none is listed twice
+abbrev pub SitesOrderLaw : Type 0
+SitesOrderLaw = (g : GroundProgram) → IsStrictlyIncreasing (map (λ (site : Site). site.label) (sites_of g))

@@ -1,6 +1,6 @@
 //! The laws of inlining.
 
-ghost use Rattle.lk_inline.specs.Law.{BlockLaw, SitesFoundLaw, SitesLaw, TypesLaw};
+ghost use Rattle.lk_inline.specs.Law.{BlockLaw, SitesFoundLaw, SitesLaw, SitesOrderLaw, TypesLaw};
 
 /// The laws of inlining for those who inline blocks of a program, as facts. A call does nothing.
 ///
@@ -14,9 +14,12 @@ ghost use Rattle.lk_inline.specs.Law.{BlockLaw, SitesFoundLaw, SitesLaw, TypesLa
 /// `sites`: each site of a ground program is a block of the program's text, typed in an instance, and has its label.
 ///
 /// `found`: each query, reading of a table, update and deletion that stands in an instance outside of others is one.
+///
+/// `ordered`: the labels of the sites rise as these are listed, so that each is listed once.
 pub fn inline_laws()
     ensures blocks { BlockLaw }
     ensures types { TypesLaw }
     ensures sites { SitesLaw }
     ensures found { SitesFoundLaw }
+    ensures ordered { SitesOrderLaw }
 {}
