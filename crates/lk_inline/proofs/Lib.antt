@@ -9,6 +9,7 @@ pub mod BlockSets
 pub mod BlockStarts
 pub mod BlockValues
 pub mod CallArms
+pub mod CapturedValues
 pub mod Choices
 pub mod Comparing
 pub mod Counting
@@ -23,6 +24,7 @@ pub mod Inducing
 pub mod Induction
 pub mod Inlining
 pub mod LawBlocks
+pub mod LawCaptured
 pub mod LawTypes
 pub mod Levels
 pub mod Looping

@@ -18,7 +18,7 @@ use Rattle.lk_ast.specs.declared.table.TableDef.{TableDef}
 use Rattle.lk_ast.specs.declared.value.Value.{Value}
 use Rattle.lk_bag.specs.Blocks.{blocks_of}
 use Rattle.lk_bag.specs.Change.{is_met, updated}
-use Rattle.lk_bag.specs.Legal.{bag, names_in}
+use Rattle.lk_bag.specs.Legal.{bag, captured_in, names_in}
 use Rattle.lk_ground.specs.Language as language
 use Rattle.lk_ground.specs.declared.program.GroundFun.{GroundFun}
 use Rattle.lk_ground.specs.declared.program.GroundProgram.{GroundProgram}
@@ -28,16 +28,19 @@ use Rattle.lk_inline.specs.Shapes.{columns_of, labels}
 use Rattle.lk_inline.specs.SiteKinds.{is_site}
 use Rattle.lk_inline.specs.Sites.{Site, is_closed, sites_of}
 use Rattle.lk_inline.specs.Stands.{AreDistinct}
+use Rattle.lk_locals.specs.Names.{Names, lookup_all}
 use Rattle.lk_mono.specs.Grounded.{IsGrounded}
 use Rattle.lk_mono.specs.Instanced.{HasInstances}
 use Rattle.lk_names.specs.Programs.{IsBound}
 use Rattle.lk_query.specs.Captured.{AreCaptured, leaves, query_values}
 use Rattle.lk_query.specs.Changed.{changed, is_changed}
 use Rattle.lk_query.specs.Given.{gives}
+use Rattle.lk_query.specs.declared.query.Captured.{Captured}
 use Rattle.lk_query.specs.declared.query.Inlined.{Inlined}
 use Rattle.lk_query.specs.declared.query.Inlined.TheVariants as inlined
 use Rattle.lk_query.specs.declared.query.InlinedChange.{InlinedChange}
 use Rattle.lk_query.specs.declared.query.Query.{Query}
+use Rattle.lk_sound.specs.Points.{AreLocals}
 use Rattle.lk_sound.specs.Tables.{AreTables, table_at}
 use Rattle.lk_types.specs.Each.{Each, OneOf}
 use Rattle.lk_types.specs.declared.ground.Ground.{Ground}
@@ -82,6 +85,22 @@ module _ (p : Program) (block : Expr) where
 abbrev pub BlockLaw : Type 0
 BlockLaw = (p : Program) → IsBound p → (g : GroundProgram) → (has : HasInstances p g) → (site : Site) → IsBlock p has.instances site.block site.types site.calls → Each IsProperType site.types
     → (found : Inlined) → inlined_at p g.helpers site ≡ Some found → Keeps p site.block (layer site.block) found
+
+-- what is told of the values that it captures
+abbrev pub captured_of : Inlined → List Captured
+captured_of (inlined.Query q) = q.captured
+captured_of (inlined.Change c) = c.captured
+
+-- the names that the block captures have values, and these are such
+pub record Captures (block : Expr) (names : Names) (found : Inlined) : Type 0 where
+  pub args : List Value
+  pub values : lookup_all names (captured_in block) ≡ Some args
+  pub are : AreCaptured (captured_of found) args
+
+-- so it is wherever the local names of the block have values of their types
+abbrev pub CapturedLaw : Type 0
+CapturedLaw = (p : Program) → IsBound p → (g : GroundProgram) → (has : HasInstances p g) → (site : Site) → (block : IsBlock p has.instances site.block site.types site.calls) → (names : Names) → AreLocals p has.instances block.locals names
+    → (found : Inlined) → inlined_at p g.helpers site ≡ Some found → Captures site.block names found
 
 -- In the functions of a ground program no type is.
 abbrev pub TypesLaw : Type 0

@@ -1,6 +1,6 @@
 //! The laws of inlining.
 
-ghost use Rattle.lk_inline.specs.Law.{BlockLaw, SitesFoundLaw, SitesLaw, SitesOrderLaw, TypesLaw};
+ghost use Rattle.lk_inline.specs.Law.{BlockLaw, CapturedLaw, SitesFoundLaw, SitesLaw, SitesOrderLaw, TypesLaw};
 
 /// The laws of inlining for those who inline blocks of a program, as facts. A call does nothing.
 ///
@@ -8,6 +8,9 @@ ghost use Rattle.lk_inline.specs.Law.{BlockLaw, SitesFoundLaw, SitesLaw, SitesOr
 /// meaning that the text has there. The parts of a query, and of a reading of a table, give its rows over tables that fit; those
 /// of an update or a deletion say which rows change, and what becomes of them. All this holds for all values of what the block
 /// captures, if no record type among those of the nodes from the block on has a label twice.
+///
+/// `captured`: the values that the block captures are such wherever its local names have values of their types. A query, an
+/// update or a deletion that is evaluated there reads or changes tables with these values.
 ///
 /// `types`: in the functions of a ground program none has.
 ///
@@ -18,6 +21,7 @@ ghost use Rattle.lk_inline.specs.Law.{BlockLaw, SitesFoundLaw, SitesLaw, SitesOr
 /// `ordered`: the labels of the sites rise as these are listed, so that each is listed once.
 pub fn inline_laws()
     ensures blocks { BlockLaw }
+    ensures captured { CapturedLaw }
     ensures types { TypesLaw }
     ensures sites { SitesLaw }
     ensures found { SitesFoundLaw }

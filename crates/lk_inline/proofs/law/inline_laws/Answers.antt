@@ -1,4 +1,5 @@
 use Rattle.lk_inline.proofs.LawBlocks.{blocks-kept}
+use Rattle.lk_inline.proofs.LawCaptured.{blocks-capture}
 use Rattle.lk_inline.proofs.SitesFound.{sites_found}
 use Rattle.lk_inline.proofs.SitesOrder.{sites_rise}
 use Rattle.lk_inline.proofs.SitesTyped.{sites_typed}
@@ -6,4 +7,4 @@ use Rattle.lk_inline.proofs.TypesOfInstances.{types-proper}
 use Rattle.lk_inline.proofs.law.inline_laws.Goals as goal
 
 pub returns : goal.returns
-returns c = record { blocks = blocks-kept; types = types-proper; sites = sites_typed; found = sites_found; ordered = sites_rise }
+returns c = record { blocks = blocks-kept; captured = blocks-capture; types = types-proper; sites = sites_typed; found = sites_found; ordered = sites_rise }
