@@ -13,12 +13,15 @@ use Rattle.lk_ast.specs.declared.expression.LambdaExpr.{LambdaExpr}
 use Rattle.lk_ast.specs.declared.expression.LastCase.{LastCase}
 use Rattle.lk_ast.specs.declared.expression.Node.TheOpen.{Node-F}
 use Rattle.lk_ast.specs.declared.expression.PartExpr.{PartExpr}
+use Rattle.lk_ast.specs.declared.place.Loc.TheVariants.{Server}
 use Rattle.lk_ast.specs.declared.table.Row.{Row}
 use Rattle.lk_ast.specs.declared.table.TableDef.{TableDef}
 use Rattle.lk_ast.specs.declared.value.Value.{Value}
 use Rattle.lk_bag.specs.Blocks.{blocks_of}
 use Rattle.lk_bag.specs.Change.{is_met, updated}
 use Rattle.lk_bag.specs.Legal.{bag, captured_in, names_in}
+use Rattle.lk_evaluation.specs.Evaluation.{Primitive, Reading, Uses, Writing}
+use Rattle.lk_evaluation.specs.Source.{source, under}
 use Rattle.lk_ground.specs.Language as language
 use Rattle.lk_ground.specs.declared.program.GroundFun.{GroundFun}
 use Rattle.lk_ground.specs.declared.program.GroundProgram.{GroundProgram}
@@ -91,16 +94,23 @@ abbrev pub captured_of : Inlined → List Captured
 captured_of (inlined.Query q) = q.captured
 captured_of (inlined.Change c) = c.captured
 
--- the names that the block captures have values, and these are such
-pub record Captures (block : Expr) (names : Names) (found : Inlined) : Type 0 where
+-- what begins at a place with these values: a reading, or a writing
+abbrev pub done_with : Inlined → ℕ → List Value → Primitive
+done_with (inlined.Query q) place args = Reading place args
+done_with (inlined.Change c) place args = Writing place args
+
+-- The names that the block captures have values, and these are such. With them the program's evaluation of the block reads or
+-- writes tables.
+pub record Captures (p : Program) (block : Expr) (names : Names) (found : Inlined) : Type 0 where
   pub args : List Value
   pub values : lookup_all names (captured_in block) ≡ Some args
   pub are : AreCaptured (captured_of found) args
+  pub does : (source p).act (under names block) [] ≡ Uses Server (done_with found block.span.start args)
 
 -- so it is wherever the local names of the block have values of their types
 abbrev pub CapturedLaw : Type 0
 CapturedLaw = (p : Program) → IsBound p → (g : GroundProgram) → (has : HasInstances p g) → (site : Site) → (block : IsBlock p has.instances site.block site.types site.calls) → (names : Names) → AreLocals p has.instances block.locals names
-    → (found : Inlined) → inlined_at p g.helpers site ≡ Some found → Captures site.block names found
+    → (found : Inlined) → inlined_at p g.helpers site ≡ Some found → Captures p site.block names found
 
 -- In the functions of a ground program no type is.
 abbrev pub TypesLaw : Type 0

@@ -9,8 +9,8 @@ ghost use Rattle.lk_inline.specs.Law.{BlockLaw, CapturedLaw, SitesFoundLaw, Site
 /// of an update or a deletion say which rows change, and what becomes of them. All this holds for all values of what the block
 /// captures, if no record type among those of the nodes from the block on has a label twice.
 ///
-/// `captured`: the values that the block captures are such wherever its local names have values of their types. A query, an
-/// update or a deletion that is evaluated there reads or changes tables with these values.
+/// `captured`: wherever the local names of the block have values of their types, the values that it captures are such, and with
+/// them the program's evaluation reads or writes tables there.
 ///
 /// `types`: in the functions of a ground program none has.
 ///
