@@ -235,12 +235,12 @@ captured_stand (e ∷ kept) (w ∷ args) flat proper are before n k here y t j v
 
 -- ---- their types
 
-kind_same : (k : BaseKind) → kind_of (types.base k) ≡ k
+pub kind_same : (k : BaseKind) → kind_of (types.base k) ≡ k
 kind_same kind.Int = ap kind_level known.outs-Int
 kind_same kind.Bool = ap kind_level known.outs-Bool
 kind_same kind.Text = ap kind_level known.outs-Text
 
-columns_are : (gs : List GroundField) → columns_of (known.Fields gs) ≡ map column gs
+pub columns_are : (gs : List GroundField) → columns_of (known.Fields gs) ≡ map column gs
 columns_are gs = ap columns_level (known.outs-Fields gs)
 
 module _ (p : Program) (i : Instances) where

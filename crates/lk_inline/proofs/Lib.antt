@@ -9,6 +9,7 @@ pub mod BlockSets
 pub mod BlockStarts
 pub mod BlockValues
 pub mod CallArms
+pub mod CapturedValues
 pub mod ChangeKinds
 pub mod Choices
 pub mod Comparing
@@ -40,6 +41,7 @@ pub mod KindSteps
 pub mod KindsMade
 pub mod LabelOrder
 pub mod LawBlocks
+pub mod LawCaptured
 pub mod LawKinds
 pub mod LawTypes
 pub mod Levels
@@ -63,6 +65,7 @@ pub mod SiteLabels
 pub mod SiteRests
 pub mod SiteTyping
 pub mod SitesFound
+pub mod SitesOrder
 pub mod SitesTyped
 pub mod Standing
 pub mod TableColumns

@@ -1,5 +1,6 @@
 -- The laws of inlining: what stands at a site gives what the program's text says (Cooper, The script-writer's dream, DBPL 2009).
 use Rattle.std.specs.Prelude.{◌≡◌, ◌≢◌, Bool, true, ℕ, List, [], ◌∷◌, drop, map, Some, slice_get, if◌then◌else◌}
+use Rattle.std.specs.List.Sorted.{IsStrictlyIncreasing}
 use Rattle.lk_ast.specs.Children.{children}
 use Rattle.lk_ast.specs.Layers.{Layer, layer}
 use Rattle.lk_ast.specs.Rows.{row_value}
@@ -13,12 +14,15 @@ use Rattle.lk_ast.specs.declared.expression.LambdaExpr.{LambdaExpr}
 use Rattle.lk_ast.specs.declared.expression.LastCase.{LastCase}
 use Rattle.lk_ast.specs.declared.expression.Node.TheOpen.{Node-F}
 use Rattle.lk_ast.specs.declared.expression.PartExpr.{PartExpr}
+use Rattle.lk_ast.specs.declared.place.Loc.TheVariants.{Server}
 use Rattle.lk_ast.specs.declared.table.Row.{Row}
 use Rattle.lk_ast.specs.declared.table.TableDef.{TableDef}
 use Rattle.lk_ast.specs.declared.value.Value.{Value}
 use Rattle.lk_bag.specs.Blocks.{blocks_of}
 use Rattle.lk_bag.specs.Change.{is_met, updated}
-use Rattle.lk_bag.specs.Legal.{bag, names_in}
+use Rattle.lk_bag.specs.Legal.{bag, captured_in, names_in}
+use Rattle.lk_evaluation.specs.Evaluation.{Primitive, Reading, Uses, Writing}
+use Rattle.lk_evaluation.specs.Source.{source, under}
 use Rattle.lk_ground.specs.Language as language
 use Rattle.lk_ground.specs.declared.program.GroundFun.{GroundFun}
 use Rattle.lk_ground.specs.declared.program.GroundProgram.{GroundProgram}
@@ -28,6 +32,7 @@ use Rattle.lk_inline.specs.KindsOfTypes.{IsInOrder}
 use Rattle.lk_inline.specs.Shapes.{columns_of, labels}
 use Rattle.lk_inline.specs.SiteKinds.{is_site}
 use Rattle.lk_inline.specs.Sites.{Site, is_closed, sites_of}
+use Rattle.lk_locals.specs.Names.{Names, lookup_all}
 use Rattle.lk_mono.specs.Grounded.{IsGrounded}
 use Rattle.lk_mono.specs.Instanced.{HasInstances}
 use Rattle.lk_names.specs.Programs.{IsBound}
@@ -36,10 +41,12 @@ use Rattle.lk_query.specs.Changed.{ReadNoTable, changed, is_changed}
 use Rattle.lk_query.specs.Given.{gives}
 use Rattle.lk_query.specs.Kinds.{IsTyped, IsTypedChange, Kind}
 use Rattle.lk_query.specs.Order.{AreOrdered}
+use Rattle.lk_query.specs.declared.query.Captured.{Captured}
 use Rattle.lk_query.specs.declared.query.Inlined.{Inlined}
 use Rattle.lk_query.specs.declared.query.Inlined.TheVariants as inlined
 use Rattle.lk_query.specs.declared.query.InlinedChange.{InlinedChange}
 use Rattle.lk_query.specs.declared.query.Query.{Query}
+use Rattle.lk_sound.specs.Points.{AreLocals}
 use Rattle.lk_sound.specs.Tables.{AreTables, table_at}
 use Rattle.lk_sql.specs.Good.{are_in_order}
 use Rattle.lk_types.specs.Each.{Each, OneOf}
@@ -90,6 +97,29 @@ module _ (p : Program) (block : Expr) where
 abbrev pub BlockLaw : Type 0
 BlockLaw = (p : Program) → IsBound p → (g : GroundProgram) → (has : HasInstances p g) → (site : Site) → IsBlock p has.instances site.block site.types site.calls → Each IsProperType site.types
     → (found : Inlined) → inlined_at p g.helpers site ≡ Some found → Keeps p site.block (layer site.block) found
+
+-- what is told of the values that it captures
+abbrev pub captured_of : Inlined → List Captured
+captured_of (inlined.Query q) = q.captured
+captured_of (inlined.Change c) = c.captured
+
+-- what begins at a place with these values: a reading, or a writing
+abbrev pub done_with : Inlined → ℕ → List Value → Primitive
+done_with (inlined.Query q) place args = Reading place args
+done_with (inlined.Change c) place args = Writing place args
+
+-- The names that the block captures have values, and these are such. With them the program's evaluation of the block reads or
+-- writes tables.
+pub record Captures (p : Program) (block : Expr) (names : Names) (found : Inlined) : Type 0 where
+  pub args : List Value
+  pub values : lookup_all names (captured_in block) ≡ Some args
+  pub are : AreCaptured (captured_of found) args
+  pub does : (source p).act (under names block) [] ≡ Uses Server (done_with found block.span.start args)
+
+-- so it is wherever the local names of the block have values of their types
+abbrev pub CapturedLaw : Type 0
+CapturedLaw = (p : Program) → IsBound p → (g : GroundProgram) → (has : HasInstances p g) → (site : Site) → (block : IsBlock p has.instances site.block site.types site.calls) → (names : Names) → AreLocals p has.instances block.locals names
+    → (found : Inlined) → inlined_at p g.helpers site ≡ Some found → Captures p site.block names found
 
 -- In the functions and the helpers of a ground program all types have.
 abbrev pub TypesLaw : Type 0
@@ -147,3 +177,7 @@ pub data StandsOutside (block : Expr) : Expr → Type 0 where
 abbrev pub SitesFoundLaw : Type 0
 SitesFoundLaw = (g : GroundProgram) (fun : ℕ) (f : GroundFun) → slice_get g.funs fun ≡ Some f → (block : Expr) → StandsOutside block (language.function_of f).body → is_site (layer block) ≡ true
     → OneOf (λ site. (site.fun ≡ fun) × (site.block ≡ block)) (sites_of g)
+
+-- their labels rise, in the order in which they are listed, so that none is listed twice
+abbrev pub SitesOrderLaw : Type 0
+SitesOrderLaw = (g : GroundProgram) → IsStrictlyIncreasing (map (λ (site : Site). site.label) (sites_of g))

@@ -1,6 +1,6 @@
 //! The laws of inlining.
 
-ghost use Rattle.lk_inline.specs.Law.{BlockLaw, KindsLaw, SitesFoundLaw, SitesLaw, TypesLaw};
+ghost use Rattle.lk_inline.specs.Law.{BlockLaw, CapturedLaw, KindsLaw, SitesFoundLaw, SitesLaw, SitesOrderLaw, TypesLaw};
 
 /// The laws of inlining for those who inline blocks of a program, as facts. A call does nothing.
 ///
@@ -8,6 +8,9 @@ ghost use Rattle.lk_inline.specs.Law.{BlockLaw, KindsLaw, SitesFoundLaw, SitesLa
 /// meaning that the text has there. The parts of a query, and of a reading of a table, give its rows over tables that fit; those
 /// of an update or a deletion say which rows change, and what becomes of them. All this holds for all values of what the block
 /// captures, if the types of the nodes from the block on have their labels in order, those of records and those of lists of them.
+///
+/// `captured`: wherever the local names of the block have values of their types, the values that it captures are such, and with
+/// them the program's evaluation reads or writes tables there.
 ///
 /// `kinds`: each part that is inlined there gives a thing of its kind, so that SQL can say it, and those of an update or a
 /// deletion read no table, if the types in helpers have their labels in order, too. Of a query it is said where each table of the
@@ -18,10 +21,14 @@ ghost use Rattle.lk_inline.specs.Law.{BlockLaw, KindsLaw, SitesFoundLaw, SitesLa
 /// `sites`: each site of a ground program is a block of the program's text, typed in an instance, and has its label.
 ///
 /// `found`: each query, reading of a table, update and deletion that stands in an instance outside of others is one.
+///
+/// `ordered`: the labels of the sites rise as these are listed, so that each is listed once.
 pub fn inline_laws()
     ensures blocks { BlockLaw }
+    ensures captured { CapturedLaw }
     ensures kinds { KindsLaw }
     ensures types { TypesLaw }
     ensures sites { SitesLaw }
     ensures found { SitesFoundLaw }
+    ensures ordered { SitesOrderLaw }
 {}
