@@ -4,8 +4,8 @@ use Rattle.std.proofs.lemmas.List.{length-append}
 use Rattle.std.proofs.lemmas.Option.{slice_get_within}
 use Rattle.lk_ast.specs.Tables.{Tables}
 use Rattle.lk_ast.specs.declared.value.Value.{Value}
+use Rattle.lk_bodies.specs.Walk.{Made, State, add}
 use Rattle.lk_inline.specs.Stands.{Stands}
-use Rattle.lk_inline.specs.Walk.{Made, State, add}
 use Rattle.lk_query.proofs.Growing.{gives_last, gives_more}
 use Rattle.lk_query.specs.Given.{Values, given_level, gives}
 use Rattle.lk_query.specs.Order.{AreOrdered, Below}

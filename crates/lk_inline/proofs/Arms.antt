@@ -12,10 +12,12 @@ use Rattle.lk_ast.specs.declared.value.Value.{Value}
 use Rattle.lk_ast.specs.declared.value.Value.TheVariants as value
 use Rattle.lk_bag.proofs.Given.{all_given, given_and, given_if, given_operation, given_or, given_table, given_where, is_operation, operands}
 use Rattle.lk_bag.specs.Bag.{chosen, given, value_of}
+use Rattle.lk_bodies.proofs.Levels.{with_walks}
+use Rattle.lk_bodies.specs.Shapes.{columns_of, element_columns, labels}
+use Rattle.lk_bodies.specs.Walk.{Calls, Made, State, Walk, add, behind_type, choice, emptiness, node_level, one, table, three, two, walk}
 use Rattle.lk_ground_types.specs.Shapes.{are_rows, is_base, is_flat_row, is_list, is_query_type}
 use Rattle.lk_inline.proofs.Choices.{and_stands, choice_base_stands, choice_row_stands, choice_rows_stand, or_stands, where_stands}
 use Rattle.lk_inline.proofs.Inducing.{walk_form}
-use Rattle.lk_inline.proofs.Levels.{with_walks}
 use Rattle.lk_inline.proofs.Loops.{append_stands, empty_stands}
 use Rattle.lk_inline.proofs.Making.{AreMade, HaveNumbers, IsMade}
 use Rattle.lk_inline.proofs.OperatorValues.{add_stands, concat_stands, ge_stands, gt_stands, le_stands, literal_number, literal_text, literal_truth, lt_stands, mul_stands, neg_stands, not_stands, sub_stands}
@@ -23,10 +25,7 @@ use Rattle.lk_inline.proofs.Operating.{AreMadeOf, IsMadeOf, leaf_made, one_made,
 use Rattle.lk_inline.proofs.QueryTypes.{QueryType, list_rows, query_type, record_row, rows_flat}
 use Rattle.lk_inline.proofs.QueryTypes as query
 use Rattle.lk_inline.proofs.RecordValues.{project_stands, table_stands}
-use Rattle.lk_inline.specs.Pending.{Pending}
-use Rattle.lk_inline.specs.Shapes.{columns_of, element_columns, labels}
 use Rattle.lk_inline.specs.Stands.{Stands}
-use Rattle.lk_inline.specs.Walk.{Calls, Made, State, Walk, add, behind_type, choice, emptiness, node_level, one, table, three, two, walk}
 use Rattle.lk_locals.specs.Names.{Names}
 use Rattle.lk_operators.specs.Operators.{operated}
 use Rattle.lk_operators.specs.Values.{bool_in}
@@ -34,6 +33,7 @@ use Rattle.lk_query.specs.Given.{Given, Gives, Values, given_level, gives, of_ba
 use Rattle.lk_query.specs.Order.{AreOrdered, Below}
 use Rattle.lk_query.specs.declared.part.Part.{Part}
 use Rattle.lk_query.specs.declared.part.Part.TheVariants as part
+use Rattle.lk_sites.specs.Pending.{Pending}
 use Rattle.lk_sound.proofs.FlatTypes.{unit_not_flat}
 use Rattle.lk_sound.proofs.QueryValues.{never_both}
 use Rattle.lk_sound.specs.Instances.{Instances}

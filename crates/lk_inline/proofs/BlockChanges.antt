@@ -15,6 +15,9 @@ use Rattle.lk_bag.specs.Bag as bag
 use Rattle.lk_bag.specs.Bag.{given}
 use Rattle.lk_bag.specs.Change.{is_met, updated}
 use Rattle.lk_bag.specs.Legal.{captured_in, names_in}
+use Rattle.lk_bodies.specs.Captured.{bound_parts, captured_as, captured_at, numbered}
+use Rattle.lk_bodies.specs.Uses.{change_uses}
+use Rattle.lk_bodies.specs.Walk.{Made, Several, State, Walk, all, called, labelled, walk}
 use Rattle.lk_ground.specs.declared.program.GroundProgram.{GroundProgram}
 use Rattle.lk_index.specs.Free.{captured_change, free_change}
 use Rattle.lk_inline.proofs.BlockForms.{IsChangeAlone}
@@ -29,14 +32,9 @@ use Rattle.lk_inline.proofs.Induction.{exprs_made}
 use Rattle.lk_inline.proofs.Making.{AreMade, AreStanding, HaveNumbers, all_more}
 use Rattle.lk_inline.proofs.RecordRules.{StandEach}
 use Rattle.lk_inline.proofs.RecordValues.{record_fits}
-use Rattle.lk_inline.specs.Inlined.{bound_parts, calls_of, captured_as, captured_at, numbered, state_at, table_labels}
+use Rattle.lk_inline.specs.Inlined.{calls_of, state_at, table_labels}
 use Rattle.lk_inline.specs.Law.{KeepsRows, KeepsTest}
-use Rattle.lk_inline.specs.Pending.{Pending, pending}
-use Rattle.lk_inline.specs.Sites.{Site}
 use Rattle.lk_inline.specs.Stands.{Stands}
-use Rattle.lk_inline.specs.Takes.{Takes}
-use Rattle.lk_inline.specs.Uses.{change_uses}
-use Rattle.lk_inline.specs.Walk.{Made, Several, State, Walk, all, called, labelled, walk}
 use Rattle.lk_locals.specs.Names.{Names, bind, bind_each, no_names}
 use Rattle.lk_mono.specs.Instanced.{HasInstances}
 use Rattle.lk_names.specs.Programs.{IsBound}
@@ -47,6 +45,9 @@ use Rattle.lk_query.specs.Given.{Values, gives, of_row}
 use Rattle.lk_query.specs.declared.query.Captured.{Captured}
 use Rattle.lk_query.specs.declared.query.InlinedChange.{InlinedChange}
 use Rattle.lk_scope.specs.Names as scope
+use Rattle.lk_sites.specs.Pending.{Pending, pending}
+use Rattle.lk_sites.specs.Sites.{Site}
+use Rattle.lk_sites.specs.Takes.{Takes}
 use Rattle.lk_sound.proofs.Apart.{ordered_apart}
 use Rattle.lk_sound.proofs.Bags.{all_early, called_fits, value_fits}
 use Rattle.lk_sound.proofs.Bindings.{bound_one}

@@ -14,9 +14,9 @@ use Rattle.lk_index.specs.Free.{captured_change, captured_query, free, free_chan
 use Rattle.lk_inline.proofs.BlockNames.{AreKept, names_kept}
 use Rattle.lk_inline.proofs.CallArms.{TakesFirst, called, other, takes_first}
 use Rattle.lk_inline.proofs.UsesOrder.{ordered_holds}
-use Rattle.lk_inline.specs.Pending.{Pending, pending}
-use Rattle.lk_inline.specs.Takes.{Takes}
 use Rattle.lk_scope.specs.Names.{no_names}
+use Rattle.lk_sites.specs.Pending.{Pending, pending}
+use Rattle.lk_sites.specs.Takes.{Takes}
 use Rattle.lk_sound.proofs.Free.{change_known, known_in as names_known}
 use Rattle.lk_sound.proofs.Names.{IsAmong}
 use Rattle.lk_sound.proofs.Retyped.{outermost, retyped, retyped_change, retyped_change_nodes, retyped_nodes}

@@ -13,6 +13,9 @@ use Rattle.lk_bag.specs.Bag as bag
 use Rattle.lk_bag.specs.Bag.{given, gives as given_by, items}
 use Rattle.lk_bag.specs.Legal as legal
 use Rattle.lk_bag.specs.Legal.{bag_by, captured_by}
+use Rattle.lk_bodies.specs.Captured.{bound_parts, captured_as, captured_at, numbered}
+use Rattle.lk_bodies.specs.Uses.{query_uses}
+use Rattle.lk_bodies.specs.Walk.{Made, called, walk}
 use Rattle.lk_ground.specs.declared.program.GroundProgram.{GroundProgram}
 use Rattle.lk_index.specs.Free.{captured_query, free}
 use Rattle.lk_inline.proofs.BlockForms.{IsQueryAlone}
@@ -25,12 +28,8 @@ use Rattle.lk_inline.proofs.Induction.{expr_made}
 use Rattle.lk_inline.proofs.Loops.{items_shown}
 use Rattle.lk_inline.proofs.Making.{AreStanding, IsMade}
 use Rattle.lk_inline.proofs.QueryTypes.{list_rows}
-use Rattle.lk_inline.specs.Inlined.{bound_parts, calls_of, captured_as, captured_at, first_columns, key_of, numbered, state_at}
+use Rattle.lk_inline.specs.Inlined.{calls_of, first_columns, key_of, state_at}
 use Rattle.lk_inline.specs.Law.{KeepsBag}
-use Rattle.lk_inline.specs.Pending.{Pending}
-use Rattle.lk_inline.specs.Sites.{Site}
-use Rattle.lk_inline.specs.Uses.{query_uses}
-use Rattle.lk_inline.specs.Walk.{Made, called, walk}
 use Rattle.lk_locals.specs.Names.{Names, bind_each, no_names}
 use Rattle.lk_mono.specs.Instanced.{HasInstances}
 use Rattle.lk_names.specs.Programs.{IsBound}
@@ -39,6 +38,8 @@ use Rattle.lk_query.specs.Given.{Values, gives}
 use Rattle.lk_query.specs.declared.query.Captured.{Captured}
 use Rattle.lk_query.specs.declared.query.Query.{Query}
 use Rattle.lk_scope.specs.Names as scope
+use Rattle.lk_sites.specs.Pending.{Pending}
+use Rattle.lk_sites.specs.Sites.{Site}
 use Rattle.lk_sound.proofs.Apart.{ordered_apart}
 use Rattle.lk_sound.proofs.Bags.{all_early, called_fits}
 use Rattle.lk_sound.proofs.Calls.{kept_fit}

@@ -8,13 +8,13 @@ use Rattle.lk_ast.specs.declared.expression.Expr.{Expr}
 use Rattle.lk_ast.specs.declared.expression.Node.TheOpen.{Node-F}
 use Rattle.lk_ast.specs.declared.place.Word.{Word}
 use Rattle.lk_bag.specs.Legal.{bag_by}
+use Rattle.lk_bodies.specs.Shapes.{labels}
+use Rattle.lk_bodies.specs.Walk.{table}
 use Rattle.lk_inline.proofs.BlockForms.{IsTableBlock}
 use Rattle.lk_inline.proofs.RecordValues.{all_at_labels}
 use Rattle.lk_inline.proofs.RowLabels.{element_labels_are, labels_are}
 use Rattle.lk_inline.specs.Inlined.{first_columns}
 use Rattle.lk_inline.specs.Law.{KeepsBag}
-use Rattle.lk_inline.specs.Shapes.{labels}
-use Rattle.lk_inline.specs.Walk.{table}
 use Rattle.lk_query.proofs.Growing.{gives_last}
 use Rattle.lk_query.specs.Given.{Values, at_labels, gives}
 use Rattle.lk_query.specs.declared.query.Query.{Query}

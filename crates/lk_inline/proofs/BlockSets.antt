@@ -12,12 +12,12 @@ use Rattle.lk_ast.specs.declared.table.Row.{Row}
 use Rattle.lk_ast.specs.declared.value.Value.{Value}
 use Rattle.lk_ast.specs.declared.value.Value.TheVariants as value
 use Rattle.lk_bag.specs.Change.{is_true, set_value, sets_label}
+use Rattle.lk_bodies.specs.Walk.{labelled}
 use Rattle.lk_ground_types.specs.Shapes.{base_level, is_base, rows_level}
 use Rattle.lk_inline.proofs.RecordRules.{StandEach}
 use Rattle.lk_inline.proofs.RowLabels.{cells_fit}
 use Rattle.lk_inline.proofs.Standing.{base_shown, bool_given, bool_is}
 use Rattle.lk_inline.specs.Stands.{IsRecord, Stands}
-use Rattle.lk_inline.specs.Walk.{labelled}
 use Rattle.lk_operators.specs.Values.{base_in, bool_in}
 use Rattle.lk_query.specs.Changed.{set_to}
 use Rattle.lk_query.specs.Given.{Given, Values, cell_with, gives, of_row}

@@ -3,12 +3,12 @@ use Rattle.std.proofs.Common.{◌≡◌, refl, sym, ap, ◌∙◌, subst, arith,
 use Rattle.lk_ast.specs.Tables.{Tables}
 use Rattle.lk_ast.specs.declared.declaration.Program.{Program}
 use Rattle.lk_ast.specs.declared.value.Value.{Value}
+use Rattle.lk_bodies.specs.Captured.{bound_parts, captured_as, numbered}
+use Rattle.lk_bodies.specs.Walk.{Calls}
 use Rattle.lk_ground_types.specs.Shapes.{is_flat}
 use Rattle.lk_inline.proofs.BlockValues.{IsProper, captured_stand, lookup_paired, numbered_within, paired}
 use Rattle.lk_inline.proofs.Making.{AreStanding, HaveNumbers}
-use Rattle.lk_inline.specs.Inlined.{bound_parts, captured_as, numbered}
 use Rattle.lk_inline.specs.Stands.{Stands}
-use Rattle.lk_inline.specs.Walk.{Calls}
 use Rattle.lk_locals.specs.Names.{bind_each, no_names}
 use Rattle.lk_query.proofs.Parts.{gives-at}
 use Rattle.lk_query.specs.Captured.{AreCaptured, bindings_from, leaves, values_from}

@@ -20,11 +20,11 @@ use Rattle.lk_ast.specs.declared.value.FunValue.{FunValue}
 use Rattle.lk_ast.specs.declared.value.Value.TheOpen.{Value-F}
 use Rattle.lk_ast.specs.declared.value.Value.TheVariants as value
 use Rattle.lk_ast.specs.declared.value.Value.{Value, out-Value}
+use Rattle.lk_bodies.specs.Captured.{captured_as, numbered}
+use Rattle.lk_bodies.specs.Shapes.{column, columns_level, columns_of, kind_level, kind_of, labels}
 use Rattle.lk_ground_types.specs.Shapes.{is_base, is_flat, is_flat_row}
 use Rattle.lk_inline.proofs.PutFields.{or_none}
 use Rattle.lk_inline.proofs.Standing.{base_stands, row_stands}
-use Rattle.lk_inline.specs.Inlined.{captured_as, numbered}
-use Rattle.lk_inline.specs.Shapes.{column, columns_level, columns_of, kind_level, kind_of, labels}
 use Rattle.lk_inline.specs.Stands.{AreDistinct, Stands, row_labels}
 use Rattle.lk_locals.specs.Names.{Names, bind, bind_each, lookup, no_names}
 use Rattle.lk_query.proofs.Parts.{bind-here, bind-other}

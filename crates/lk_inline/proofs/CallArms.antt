@@ -9,19 +9,19 @@ use Rattle.lk_ast.specs.declared.place.Word.{Word}
 use Rattle.lk_ast.specs.declared.value.Value.{Value}
 use Rattle.lk_bag.proofs.Given.{all_given, given_call}
 use Rattle.lk_bag.specs.Bag.{given}
+use Rattle.lk_bodies.specs.Walk.{Calls, Made, Several, State, all, back, behind_type, call, walk}
 use Rattle.lk_inline.proofs.Adding.{Grows, grows_both}
 use Rattle.lk_inline.proofs.Inducing.{walk_form}
 use Rattle.lk_inline.proofs.Making.{AreMade, AreWithin, HaveNumbers, IsMade, left}
 use Rattle.lk_inline.proofs.RecordRules.{StandEach}
-use Rattle.lk_inline.specs.Takes as takes
-use Rattle.lk_inline.specs.Pending.{Pending, pending}
-use Rattle.lk_inline.specs.Takes.{Takes}
 use Rattle.lk_inline.specs.Stands.{Stands}
-use Rattle.lk_inline.specs.Walk.{Calls, Made, Several, State, all, back, behind_type, call, walk}
 use Rattle.lk_locals.specs.Names.{Names}
 use Rattle.lk_query.specs.Given.{Values, gives}
 use Rattle.lk_query.specs.Order.{AreOrdered}
 use Rattle.lk_query.specs.declared.part.Part.{Part}
+use Rattle.lk_sites.specs.Pending.{Pending, pending}
+use Rattle.lk_sites.specs.Takes as takes
+use Rattle.lk_sites.specs.Takes.{Takes}
 use Rattle.lk_sound.proofs.QueryParts.{IsEarly}
 use Rattle.lk_sound.specs.Instances.{Instances}
 use Rattle.lk_sound.specs.Nodes.{TypedNode, Use}

@@ -9,10 +9,10 @@ use Rattle.lk_ast.specs.declared.table.Cell.{Cell}
 use Rattle.lk_ast.specs.declared.value.Field.{Field}
 use Rattle.lk_ast.specs.declared.value.Value.{Value}
 use Rattle.lk_ast.specs.declared.value.Value.TheVariants as value
+use Rattle.lk_bodies.specs.Captured.{captured_as}
+use Rattle.lk_bodies.specs.Shapes.{column, columns_of, kind_of}
 use Rattle.lk_ground_types.specs.Shapes.{is_base, is_flat, is_flat_row}
 use Rattle.lk_inline.proofs.BlockValues.{columns_are, kind_same}
-use Rattle.lk_inline.specs.Inlined.{captured_as}
-use Rattle.lk_inline.specs.Shapes.{column, columns_of, kind_of}
 use Rattle.lk_locals.specs.Names.{Names, lookup, lookup_all, with_value}
 use Rattle.lk_query.specs.Captured.{AreCaptured, IsCaptured}
 use Rattle.lk_query.specs.Given.{cell_with, row_with}

@@ -6,6 +6,10 @@ use Rattle.lk_ast.specs.declared.declaration.Program.{Program}
 use Rattle.lk_ast.specs.declared.expression.ChangeExpr.{ChangeExpr, out-ChangeExpr}
 use Rattle.lk_ast.specs.declared.expression.Expr.{Expr}
 use Rattle.lk_ast.specs.declared.expression.PartExpr.{PartExpr}
+use Rattle.lk_bodies.specs.Captured.{bound_parts, captured_as, captured_at, numbered}
+use Rattle.lk_bodies.specs.Shapes.{columns_level, columns_of, labels}
+use Rattle.lk_bodies.specs.Uses.{change_uses}
+use Rattle.lk_bodies.specs.Walk.{Made, Several, State, all, called, labelled, walk}
 use Rattle.lk_ground.specs.declared.program.GroundFun.{GroundFun}
 use Rattle.lk_ground.specs.declared.program.GroundProgram.{GroundProgram}
 use Rattle.lk_ground_types.specs.Shapes.{base_level, is_base}
@@ -21,16 +25,10 @@ use Rattle.lk_inline.proofs.KindsMade.{AreKinded, AreKnown, AreSeen, Description
 use Rattle.lk_inline.proofs.LawTypes.{behind_first}
 use Rattle.lk_inline.proofs.Making.{AreWithin, all_more}
 use Rattle.lk_inline.proofs.TableColumns.{HasTable, has_table}
-use Rattle.lk_inline.specs.Inlined.{bound_parts, calls_of, captured_as, captured_at, numbered, state_at, table_labels}
+use Rattle.lk_inline.specs.Inlined.{calls_of, state_at, table_labels}
 use Rattle.lk_inline.specs.KindsOfTypes.{IsInOrder, kind_level, kind_of_type}
 use Rattle.lk_inline.specs.Law as kinded
 use Rattle.lk_inline.specs.Law.{HasKinds}
-use Rattle.lk_inline.specs.Pending.{Pending, pending}
-use Rattle.lk_inline.specs.Shapes.{columns_level, columns_of, labels}
-use Rattle.lk_inline.specs.Sites.{Site}
-use Rattle.lk_inline.specs.Takes.{Takes}
-use Rattle.lk_inline.specs.Uses.{change_uses}
-use Rattle.lk_inline.specs.Walk.{Made, Several, State, all, called, labelled, walk}
 use Rattle.lk_mono.specs.Instanced.{HasInstances}
 use Rattle.lk_names.specs.Programs.{IsBound}
 use Rattle.lk_query.proofs.Parts.{bind-other}
@@ -42,6 +40,9 @@ use Rattle.lk_query.specs.declared.part.Part.{Part}
 use Rattle.lk_query.specs.declared.query.Captured.{Captured}
 use Rattle.lk_query.specs.declared.query.Inlined.TheVariants as inlined
 use Rattle.lk_query.specs.declared.query.InlinedChange.{InlinedChange}
+use Rattle.lk_sites.specs.Pending.{Pending, pending}
+use Rattle.lk_sites.specs.Sites.{Site}
+use Rattle.lk_sites.specs.Takes.{Takes}
 use Rattle.lk_sound.proofs.Bags.{all_early}
 use Rattle.lk_sound.proofs.QueryParts.{AreQueryNodes}
 use Rattle.lk_sound.specs.Instances.{Instances}

@@ -8,11 +8,11 @@ use Rattle.lk_ast.specs.declared.table.Row.{Row}
 use Rattle.lk_ast.specs.declared.value.Value.TheVariants as value
 use Rattle.lk_ast.specs.declared.value.Value.{Value}
 use Rattle.lk_bag.specs.Bag.{chosen}
+use Rattle.lk_bodies.specs.Shapes.{columns_of, labels}
 use Rattle.lk_ground_types.specs.Shapes.{are_rows, is_base, is_flat_row}
 use Rattle.lk_inline.proofs.OperatorValues.{bool_in_given}
 use Rattle.lk_inline.proofs.RowLabels.{at_own_labels, row_fits_labels}
 use Rattle.lk_inline.proofs.Standing.{base_stands, bool_given, bool_is, row_stands, rows_stand}
-use Rattle.lk_inline.specs.Shapes.{columns_of, labels}
 use Rattle.lk_inline.specs.Stands.{IsRecord, Stands, row_labels}
 use Rattle.lk_operators.specs.Values as held
 use Rattle.lk_operators.specs.Values.{bool_in}

@@ -10,22 +10,21 @@ use Rattle.lk_ast.specs.declared.value.Value.{Value}
 use Rattle.lk_ast.specs.declared.value.Value.TheVariants as value
 use Rattle.lk_bag.proofs.Given.{all_given, given_operation, is_operation, operands}
 use Rattle.lk_bag.specs.Bag.{given, value_of}
+use Rattle.lk_bodies.proofs.Levels.{with_walks}
+use Rattle.lk_bodies.specs.Shapes.{columns_of, labels}
+use Rattle.lk_bodies.specs.Walk.{Calls, Made, Several, State, Walk, add, all, behind_type, equality, inequality, node_level, two, walk}
 use Rattle.lk_ground_types.specs.Shapes.{is_base, is_flat_row, is_list, is_query_type}
 use Rattle.lk_inline.proofs.Adding.{at_end, grows_both, grows_one, ordered_add}
 use Rattle.lk_inline.proofs.Arms.{Fitting, Makes, Parts, binary}
 use Rattle.lk_inline.proofs.EqualRows.{equal_rows_stand}
 use Rattle.lk_inline.proofs.Inducing.{walk_form}
-use Rattle.lk_inline.proofs.Levels.{with_walks}
 use Rattle.lk_inline.proofs.Making.{AreMade, HaveNumbers, IsMade, finished, same_value}
 use Rattle.lk_inline.proofs.Operating.{fit_two, from_behind, two_made}
 use Rattle.lk_inline.proofs.OperatorValues.{bool_in_given, eq_stands, ge_stands, gt_stands, le_stands, lt_stands, ne_stands}
 use Rattle.lk_inline.proofs.QueryTypes.{QueryType, query_type}
 use Rattle.lk_inline.proofs.QueryTypes as query
 use Rattle.lk_inline.proofs.Standing.{base_stands, bool_is}
-use Rattle.lk_inline.specs.Pending.{Pending}
-use Rattle.lk_inline.specs.Shapes.{columns_of, labels}
 use Rattle.lk_inline.specs.Stands.{Stands}
-use Rattle.lk_inline.specs.Walk.{Calls, Made, Several, State, Walk, add, all, behind_type, equality, inequality, node_level, two, walk}
 use Rattle.lk_locals.specs.Names.{Names}
 use Rattle.lk_operators.specs.Operators.{operated}
 use Rattle.lk_operators.specs.Order.{same}
@@ -35,6 +34,7 @@ use Rattle.lk_query.specs.Given.{Given, Gives, Values, given_level, gives, of_ba
 use Rattle.lk_query.specs.Order.{AreOrdered, Below}
 use Rattle.lk_query.specs.declared.part.Part.{Part}
 use Rattle.lk_query.specs.declared.part.Part.TheVariants as part
+use Rattle.lk_sites.specs.Pending.{Pending}
 use Rattle.lk_sound.proofs.Shapes.{truth_fits}
 use Rattle.lk_sound.specs.Instances.{Instances}
 use Rattle.lk_sound.specs.Points.{AreLocals}

@@ -1,7 +1,7 @@
 -- What a count of nodes says of their number.
 use Rattle.std.proofs.Common.{◌≡◌, ◌<◌, ◌≤◌, arith, sym, ap, ◌∙◌, ℕ, ◌-◌, Option, Some, None, Bool, true, false, is_some, nat_le, if◌then◌else◌}
 use Rattle.std.proofs.lemmas.Bool.Decides.{nat_tests}
-use Rattle.lk_inline.specs.Nodes.{spent}
+use Rattle.lk_bodies.specs.Nodes.{spent}
 
 found_or : (b : Bool) (n : ℕ) → is_some (if b then Some n else None) ≡ b
 found_or true n = λ i. true

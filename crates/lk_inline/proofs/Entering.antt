@@ -9,23 +9,23 @@ use Rattle.lk_ast.specs.declared.place.Word.{Word}
 use Rattle.lk_ast.specs.declared.value.Value.{Value}
 use Rattle.lk_bag.specs.Bag as bag
 use Rattle.lk_bag.specs.Bag.{given}
+use Rattle.lk_bodies.proofs.Levels.{called_more}
+use Rattle.lk_bodies.specs.Walk.{Calls, Made, State, bound, called, entered, walk}
 use Rattle.lk_ground.specs.Language.{function_of}
 use Rattle.lk_ground.specs.declared.program.GroundFun.{GroundFun}
 use Rattle.lk_inline.proofs.CallArms.{CallsMade, IsCall}
 use Rattle.lk_inline.proofs.Inducing.{number_bound, standing_bound}
 use Rattle.lk_inline.proofs.Induction.{expr_made}
-use Rattle.lk_inline.proofs.Levels.{called_more}
 use Rattle.lk_inline.proofs.Making.{AreStanding, AreWithin, HaveNumbers, IsMade}
 use Rattle.lk_inline.proofs.RecordRules.{StandEach}
-use Rattle.lk_inline.specs.Pending.{pending}
-use Rattle.lk_inline.specs.Takes.{Takes}
 use Rattle.lk_inline.specs.Stands.{Stands}
-use Rattle.lk_inline.specs.Walk.{Calls, Made, State, bound, called, entered, walk}
 use Rattle.lk_locals.specs.Names.{Names, bind, bind_all, bind_each, lookup, no_names}
 use Rattle.lk_names.specs.Programs.{IsBound}
 use Rattle.lk_query.specs.Given.{Values, gives}
 use Rattle.lk_query.specs.Order.{AreOrdered}
 use Rattle.lk_query.specs.declared.part.Part.{Part}
+use Rattle.lk_sites.specs.Pending.{pending}
+use Rattle.lk_sites.specs.Takes.{Takes}
 use Rattle.lk_sound.proofs.Apart.{params_apart}
 use Rattle.lk_sound.proofs.Bags.{before_caller, bound_all, called_fits, length_names, length_texts, no_locals}
 use Rattle.lk_sound.proofs.Bindings.{bound_each, moved}

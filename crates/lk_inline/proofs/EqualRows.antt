@@ -18,11 +18,11 @@ use Rattle.lk_ast.specs.declared.value.Value.TheOpen.{Field-F, Value-F}
 use Rattle.lk_ast.specs.declared.value.Value.TheVariants as value
 use Rattle.lk_ast.specs.declared.value.Value.{Value, roll-Value}
 use Rattle.lk_bag.specs.Bag.{value_of}
+use Rattle.lk_bodies.specs.Shapes.{columns_of, labels}
 use Rattle.lk_ground_types.specs.Shapes.{is_base, is_flat_row}
 use Rattle.lk_inline.proofs.OperatorValues.{same_bases}
 use Rattle.lk_inline.proofs.RowLabels.{bytes_itself, cell_labels, cell_skipped, cells_fit, row_fits_labels}
 use Rattle.lk_inline.proofs.Standing.{base_stands, bool_is}
-use Rattle.lk_inline.specs.Shapes.{columns_of, labels}
 use Rattle.lk_inline.specs.Stands.{AreDistinct, Stands, row_labels}
 use Rattle.lk_operators.specs.Operators.{operated}
 use Rattle.lk_operators.specs.Order.{all_pass, in_order, same, same_fields}

@@ -15,13 +15,13 @@ use Rattle.lk_ast.specs.declared.value.Field.{Field}
 use Rattle.lk_ast.specs.declared.value.Value.TheVariants as value
 use Rattle.lk_ast.specs.declared.value.Value.{Value}
 use Rattle.lk_bag.specs.Bag.{value_of}
+use Rattle.lk_bodies.specs.Shapes.{columns_of, labels}
+use Rattle.lk_bodies.specs.Walk as walk
 use Rattle.lk_ground_types.specs.Shapes.{is_flat_row, row_level}
 use Rattle.lk_inline.proofs.PutFields.{AreNew, each_found, fields_by, found_by, got_new, or_none, put_both, sorted_distinct, split_new}
 use Rattle.lk_inline.proofs.RowLabels.{cell_labels, row_fits_labels, same_fields_in}
 use Rattle.lk_inline.proofs.Standing.{row_stands}
-use Rattle.lk_inline.specs.Shapes.{columns_of, labels}
 use Rattle.lk_inline.specs.Stands.{AreDistinct, IsRecord, Stands}
-use Rattle.lk_inline.specs.Walk as walk
 use Rattle.lk_operators.specs.Operators.{operated}
 use Rattle.lk_operators.specs.Outcomes.{given, only}
 use Rattle.lk_operators.specs.Records as made

@@ -10,6 +10,7 @@ use Rattle.lk_ast.specs.declared.table.BaseKind.TheVariants as kind
 use Rattle.lk_ast.specs.declared.value.Value.{Value}
 use Rattle.lk_bag.proofs.Given.{all_given}
 use Rattle.lk_bag.specs.Bag.{given}
+use Rattle.lk_bodies.specs.Walk.{Calls, Made, State, add, all, behind_type, walk}
 use Rattle.lk_ground_types.specs.Shapes.{is_base, is_list, is_query_type}
 use Rattle.lk_inline.proofs.Arms.{Fitting, Makes, Parts, add_arm, and_arm, append_arm, bool_arm, concat_arm, empty_arm, if_arm, int_arm, mul_arm, neg_arm, not_arm, or_arm, project_arm, sub_arm, table_arm, text_arm, where_arm}
 use Rattle.lk_inline.proofs.CallArms.{CallsMade, TakesFirst, call_arm, takes_behind, takes_first}
@@ -21,13 +22,12 @@ use Rattle.lk_inline.proofs.Making.{AreMade, AreWithin, HaveNumbers, IsMade, all
 use Rattle.lk_inline.proofs.Operating.{from_behind}
 use Rattle.lk_inline.proofs.QueryTypes.{list_rows, rows_flat, variant_not_flat}
 use Rattle.lk_inline.proofs.RecordArms.{extend_arm, items_arm, record_arm}
-use Rattle.lk_inline.proofs.Takes.{takes_split}
-use Rattle.lk_inline.specs.Pending.{Pending, pending}
-use Rattle.lk_inline.specs.Takes.{Takes}
-use Rattle.lk_inline.specs.Walk.{Calls, Made, State, add, all, behind_type, walk}
 use Rattle.lk_locals.specs.Names.{Names}
 use Rattle.lk_query.specs.Order.{AreOrdered}
 use Rattle.lk_query.specs.declared.part.Part.TheVariants as part
+use Rattle.lk_sites.proofs.Takes.{takes_split}
+use Rattle.lk_sites.specs.Pending.{Pending, pending}
+use Rattle.lk_sites.specs.Takes.{Takes}
 use Rattle.lk_sound.proofs.Bags.{parts_fit, value_fits}
 use Rattle.lk_sound.proofs.FlatTypes.{function_not_flat, unit_not_flat}
 use Rattle.lk_sound.proofs.Members.{each_in}

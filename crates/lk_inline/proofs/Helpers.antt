@@ -6,15 +6,15 @@ use Rattle.lk_ground.specs.Language.{function_of}
 use Rattle.lk_ground.specs.declared.program.GroundFun.{GroundFun}
 use Rattle.lk_ground.specs.declared.program.GroundProgram.{GroundProgram}
 use Rattle.lk_inline.proofs.Entering.{AreHelpersAt, IsHelperAt}
-use Rattle.lk_inline.specs.Takes as takes
-use Rattle.lk_inline.specs.Pending.{pending}
-use Rattle.lk_inline.specs.Takes.{Takes}
 use Rattle.lk_mono.specs.Grounded as grounded
 use Rattle.lk_mono.specs.Grounded.{AreCalled}
 use Rattle.lk_mono.specs.Held.{types_in}
 use Rattle.lk_mono.specs.Instanced as instanced
 use Rattle.lk_mono.specs.Instanced.{AreInstancesOf, HasInstances, IsInstanceOf}
 use Rattle.lk_names.specs.Programs.{IsBound}
+use Rattle.lk_sites.specs.Pending.{pending}
+use Rattle.lk_sites.specs.Takes as takes
+use Rattle.lk_sites.specs.Takes.{Takes}
 use Rattle.lk_sound.specs.Instances.{AreClosed, Instances, IsHelperNode}
 use Rattle.lk_sound.specs.Nodes.{TypedNode, Use, nodes_of}
 use Rattle.lk_sound.specs.Tables.{AreTables}

@@ -14,19 +14,19 @@ use Rattle.lk_ast.specs.declared.value.Value.TheVariants as value
 use Rattle.lk_bag.proofs.Given.{all_given, given_name, given_var, given_for_list, given_for_table, given_query}
 use Rattle.lk_bag.specs.Bag.{given, items, for_each}
 use Rattle.lk_ast.specs.declared.expression.SortKey.{SortKey}
+use Rattle.lk_bodies.proofs.Levels.{walk_expr, walk_out, with_walks}
+use Rattle.lk_bodies.specs.Walk.{Calls, Made, Several, State, Walk, add, all, behind_type, local, made, node_level, walk, walk_node}
 use Rattle.lk_inline.proofs.Adding.{grows_both, grows_none}
-use Rattle.lk_inline.proofs.Levels.{walk_expr, walk_out, with_walks}
 use Rattle.lk_inline.proofs.Making.{AreMade, AreStanding, HaveNumbers, IsMade, all_more, left, more_made, none_made, numbers_grow, same_value, standing_grows}
-use Rattle.lk_inline.proofs.Takes.{takes_split}
-use Rattle.lk_inline.specs.Pending.{Pending, pending}
-use Rattle.lk_inline.specs.Takes.{Takes, none, other, called}
 use Rattle.lk_inline.specs.Stands.{IsRecord, Stands}
-use Rattle.lk_inline.specs.Walk.{Calls, Made, Several, State, Walk, add, all, behind_type, local, made, node_level, walk, walk_node}
 use Rattle.lk_locals.specs.Names.{Names, bind, lookup}
 use Rattle.lk_query.specs.Given.{Given, Values, gives, of_row}
 use Rattle.lk_query.specs.Order.{AreOrdered, Below}
 use Rattle.lk_query.specs.declared.part.Part.{Part}
 use Rattle.lk_operators.specs.Values.{unit as unit_value}
+use Rattle.lk_sites.proofs.Takes.{takes_split}
+use Rattle.lk_sites.specs.Pending.{Pending, pending}
+use Rattle.lk_sites.specs.Takes.{Takes, none, other, called}
 use Rattle.lk_sound.proofs.Bindings.{bound_one, lookup_bound}
 use Rattle.lk_sound.specs.Values.{Fits}
 use Rattle.lk_sound.specs.Instances.{Instances}

@@ -10,6 +10,7 @@ use Rattle.lk_ast.specs.declared.place.Word.{Word}
 use Rattle.lk_ast.specs.declared.value.Value.{Value}
 use Rattle.lk_bag.proofs.Given.{all_given, given_for_list, given_for_table}
 use Rattle.lk_bag.specs.Bag.{for_each, given, items}
+use Rattle.lk_bodies.specs.Walk.{Calls, Made, Several, State, add, all, behind_type, walk}
 use Rattle.lk_ground_types.specs.Shapes.{are_rows, is_query_type}
 use Rattle.lk_inline.proofs.Adding.{at_end, grows_one, ordered_add, still_within}
 use Rattle.lk_inline.proofs.CallArms.{CallsMade, TakesFirst, call_arm, called, other, takes_behind, takes_first}
@@ -19,14 +20,13 @@ use Rattle.lk_inline.proofs.Looping.{loop_made}
 use Rattle.lk_inline.proofs.Making.{AreMade, HaveNumbers, IsMade, all_more, left, more_made, none_made, numbers_grow, same_value}
 use Rattle.lk_inline.proofs.Operating.{from_behind}
 use Rattle.lk_inline.proofs.QueryTypes.{list_rows, rows_flat}
-use Rattle.lk_inline.proofs.Takes.{takes_split}
-use Rattle.lk_inline.specs.Pending.{Pending, pending}
-use Rattle.lk_inline.specs.Takes.{Takes}
-use Rattle.lk_inline.specs.Walk.{Calls, Made, Several, State, add, all, behind_type, walk}
 use Rattle.lk_locals.specs.Names.{Names}
 use Rattle.lk_query.specs.Order.{AreOrdered}
 use Rattle.lk_query.specs.declared.part.Part.{Part}
 use Rattle.lk_query.specs.declared.part.Part.TheVariants as part
+use Rattle.lk_sites.proofs.Takes.{takes_split}
+use Rattle.lk_sites.specs.Pending.{Pending, pending}
+use Rattle.lk_sites.specs.Takes.{Takes}
 use Rattle.lk_sound.proofs.Bags.{parts_fit, value_fits}
 use Rattle.lk_sound.proofs.FlatTypes.{function_not_flat, unit_not_flat}
 use Rattle.lk_sound.proofs.Members.{each_in}

@@ -7,18 +7,19 @@ use Rattle.lk_ast.specs.declared.expression.Expr.{Expr}
 use Rattle.lk_ast.specs.declared.expression.PartExpr.{PartExpr}
 use Rattle.lk_ast.specs.declared.expression.SortKey.{SortKey}
 use Rattle.lk_ast.specs.declared.table.Column.{Column}
+use Rattle.lk_bodies.specs.Captured.{bound_parts, captured_at, numbered}
+use Rattle.lk_bodies.specs.Uses.{change_uses, query_uses}
+use Rattle.lk_bodies.specs.Walk.{Made, Several, State, all, called, labelled, walk}
 use Rattle.lk_ground.specs.declared.program.GroundFun.{GroundFun}
 use Rattle.lk_index.specs.Free.{captured_change, captured_query}
 use Rattle.lk_inline.proofs.Ordered.{one_ordered, sets_ordered}
-use Rattle.lk_inline.specs.Inlined.{bound_parts, captured_at, change_at, first_columns, key_of, numbered, query_at, state_at, table_labels}
-use Rattle.lk_inline.specs.Sites.{Site}
-use Rattle.lk_inline.specs.Uses.{change_uses, query_uses}
-use Rattle.lk_inline.specs.Walk.{Made, Several, State, all, called, labelled, walk}
+use Rattle.lk_inline.specs.Inlined.{change_at, first_columns, key_of, query_at, state_at, table_labels}
 use Rattle.lk_query.specs.Order.{AreOrdered}
 use Rattle.lk_query.specs.declared.part.Labelled.{Labelled}
 use Rattle.lk_query.specs.declared.part.Part.{Part}
 use Rattle.lk_query.specs.declared.query.Captured.{Captured}
 use Rattle.lk_query.specs.declared.query.Inlined.TheVariants as inlined
+use Rattle.lk_sites.specs.Sites.{Site}
 use Rattle.lk_sound.specs.Tables.{table_at}
 use Rattle.lk_sql.specs.declared.tree.Key.{Key}
 use Rattle.lk_types.specs.Rows.{Label}

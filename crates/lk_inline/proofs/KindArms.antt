@@ -7,6 +7,8 @@ use Rattle.lk_ast.specs.declared.expression.Node.TheOpen.{Node-F}
 use Rattle.lk_ast.specs.declared.place.Word.{Word}
 use Rattle.lk_ast.specs.declared.table.Base.{Base}
 use Rattle.lk_ast.specs.declared.table.BaseKind.{BaseKind}
+use Rattle.lk_bodies.specs.Shapes.{columns_of, element_columns, labels}
+use Rattle.lk_bodies.specs.Walk.{Calls, State, add, behind_type, choice, emptiness, one, table, three, two, walk}
 use Rattle.lk_ground_types.specs.Shapes.{are_rows, is_base, is_flat_row, is_list, is_query_type}
 use Rattle.lk_inline.proofs.Inducing.{walk_form}
 use Rattle.lk_inline.proofs.KindForms.{base_columns, base_kind, is_list_kind, row_kind, rows_kind, type_columns}
@@ -17,12 +19,10 @@ use Rattle.lk_inline.proofs.QueryTypes as query
 use Rattle.lk_inline.proofs.RecordValues.{base_among, flat_fields}
 use Rattle.lk_inline.proofs.Standing.{bool_is, int_is, kind_is, text_is}
 use Rattle.lk_inline.specs.KindsOfTypes.{IsInOrder, kind_of_type}
-use Rattle.lk_inline.specs.Pending.{Pending}
-use Rattle.lk_inline.specs.Shapes.{columns_of, element_columns, labels}
-use Rattle.lk_inline.specs.Walk.{Calls, State, add, behind_type, choice, emptiness, one, table, three, two, walk}
 use Rattle.lk_query.specs.Kinds.{OfBase, OfList, OfRecord}
 use Rattle.lk_query.specs.declared.part.Part.{Part}
 use Rattle.lk_query.specs.declared.part.Part.TheVariants as part
+use Rattle.lk_sites.specs.Pending.{Pending}
 use Rattle.lk_sound.proofs.FieldRows.{get_among, get_first}
 use Rattle.lk_sound.proofs.QueryValues.{never_both}
 use Rattle.lk_sql.specs.Good.{operand_count}

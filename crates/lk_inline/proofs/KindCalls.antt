@@ -5,14 +5,14 @@ use Rattle.lk_ast.specs.declared.declaration.Program.{Program}
 use Rattle.lk_ast.specs.declared.expression.Expr.{Expr}
 use Rattle.lk_ast.specs.declared.expression.Node.TheOpen.{Node-F}
 use Rattle.lk_ast.specs.declared.place.Word.{Word}
+use Rattle.lk_bodies.specs.Walk.{Calls, Made, Several, State, all, behind_type, call, walk}
 use Rattle.lk_inline.proofs.Inducing.{walk_form}
 use Rattle.lk_inline.proofs.KindSteps.{kind_behind}
 use Rattle.lk_inline.proofs.KindsMade.{AreDescribed, AreKinded, AreSeen, Descriptions, HasKind, IsKinded, Scope}
 use Rattle.lk_inline.proofs.Making.{AreWithin}
-use Rattle.lk_inline.specs.Pending.{Pending}
-use Rattle.lk_inline.specs.Walk.{Calls, Made, Several, State, all, behind_type, call, walk}
 use Rattle.lk_query.specs.Order.{AreOrdered}
 use Rattle.lk_query.specs.declared.part.Part.{Part}
+use Rattle.lk_sites.specs.Pending.{Pending}
 use Rattle.lk_sound.proofs.QueryParts.{IsEarly}
 use Rattle.lk_sound.specs.Instances.{Instances}
 use Rattle.lk_sound.specs.Nodes.{Use}

@@ -4,6 +4,8 @@ use Rattle.lk_ast.specs.Layers.{layer}
 use Rattle.lk_ast.specs.declared.declaration.TableDecl.{TableDecl}
 use Rattle.lk_ast.specs.declared.expression.Expr.{Expr}
 use Rattle.lk_ast.specs.declared.expression.Node.TheOpen.{Node-F}
+use Rattle.lk_bodies.specs.Shapes.{columns_of, labels}
+use Rattle.lk_bodies.specs.Walk.{Calls, Made, State, add, all, behind_type, equality, inequality, two, walk}
 use Rattle.lk_ground_types.specs.Shapes.{is_list, is_query_type}
 use Rattle.lk_inline.proofs.Inducing.{walk_form}
 use Rattle.lk_inline.proofs.KindArms.{Makes, Parts, binary}
@@ -15,12 +17,10 @@ use Rattle.lk_inline.proofs.QueryTypes.{QueryType, query_type}
 use Rattle.lk_inline.proofs.QueryTypes as query
 use Rattle.lk_inline.proofs.Standing.{bool_is}
 use Rattle.lk_inline.specs.KindsOfTypes.{kind_of_type}
-use Rattle.lk_inline.specs.Pending.{Pending}
-use Rattle.lk_inline.specs.Shapes.{columns_of, labels}
-use Rattle.lk_inline.specs.Walk.{Calls, Made, State, add, all, behind_type, equality, inequality, two, walk}
 use Rattle.lk_query.specs.Kinds.{OfBase, OfRecord}
 use Rattle.lk_query.specs.declared.part.Part.{Part}
 use Rattle.lk_query.specs.declared.part.Part.TheVariants as part
+use Rattle.lk_sites.specs.Pending.{Pending}
 use Rattle.lk_sql.specs.declared.tree.SqlOp.TheVariants as op
 use Rattle.lk_types.specs.Rows.{EffectSet}
 use Rattle.lk_types.specs.declared.ground.Ground.{Ground}

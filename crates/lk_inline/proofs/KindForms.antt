@@ -1,10 +1,10 @@
 -- The kinds of the types of a query: of bases, flat records and lists of these.
 use Rattle.std.proofs.Common.{◌≡◌, true, [], ◌∷◌, refl, sym, ap, subst}
+use Rattle.lk_bodies.specs.Shapes.{columns_level, columns_of, element_columns, element_level, labels}
 use Rattle.lk_ground_types.specs.Shapes.{are_rows, base_level, is_base, is_flat_row, is_query_type, row_level, rows_level}
 use Rattle.lk_inline.proofs.QueryTypes.{QueryType, query_type}
 use Rattle.lk_inline.proofs.QueryTypes as query
 use Rattle.lk_inline.specs.KindsOfTypes.{IsInOrder, kind_level, kind_of_type}
-use Rattle.lk_inline.specs.Shapes.{columns_level, columns_of, element_columns, element_level, labels}
 use Rattle.lk_query.specs.Kinds.{AreColumns, HasColumns, IsList, OfBase, OfList, OfRecord}
 use Rattle.lk_sql.specs.Good.{are_in_order}
 use Rattle.lk_types.specs.declared.ground.Ground.{Ground, out-Ground}

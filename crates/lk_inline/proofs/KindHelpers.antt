@@ -3,6 +3,8 @@ use Rattle.std.proofs.Common.{◌≡◌, ℕ, zero, suc, ◌<◌, true, false, L
 use Rattle.lk_ast.specs.Tables.{Tables, all_fit, table_defs}
 use Rattle.lk_ast.specs.declared.declaration.Program.{Program}
 use Rattle.lk_ast.specs.declared.table.TableDef.{TableDef}
+use Rattle.lk_bodies.proofs.Levels.{called_more}
+use Rattle.lk_bodies.specs.Walk.{Made, bound, called, entered}
 use Rattle.lk_ground.specs.Language.{function_of}
 use Rattle.lk_ground.specs.declared.program.GroundFun.{GroundFun}
 use Rattle.lk_ground.specs.declared.program.GroundProgram.{GroundProgram}
@@ -13,15 +15,13 @@ use Rattle.lk_inline.proofs.KindInduction.{expr_kinded}
 use Rattle.lk_inline.proofs.KindNodes.{taken_in_order}
 use Rattle.lk_inline.proofs.KindSteps.{known_bound}
 use Rattle.lk_inline.proofs.KindsMade.{AreDescribed, AreKnown, AreSeen, Descriptions, HasKind, Scope}
-use Rattle.lk_inline.proofs.Levels.{called_more}
 use Rattle.lk_inline.proofs.Making.{AreWithin}
 use Rattle.lk_inline.specs.KindsOfTypes.{IsInOrder}
-use Rattle.lk_inline.specs.Pending.{pending}
-use Rattle.lk_inline.specs.Walk.{Made, bound, called, entered}
 use Rattle.lk_mono.specs.Instanced.{HasInstances}
 use Rattle.lk_names.specs.Programs.{IsBound}
 use Rattle.lk_query.specs.Order.{AreOrdered}
 use Rattle.lk_query.specs.declared.part.Part.{Part}
+use Rattle.lk_sites.specs.Pending.{pending}
 use Rattle.lk_sound.proofs.Apart.{params_apart}
 use Rattle.lk_sound.proofs.Bags.{before_caller}
 use Rattle.lk_sound.proofs.Bindings.{moved}

@@ -6,6 +6,7 @@ use Rattle.lk_ast.specs.declared.declaration.Program.{Program}
 use Rattle.lk_ast.specs.declared.expression.Expr.{Expr}
 use Rattle.lk_ast.specs.declared.expression.Node.TheOpen.{Node-F}
 use Rattle.lk_ast.specs.declared.place.Word.{Word}
+use Rattle.lk_bodies.specs.Walk.{Calls, Made, State, all, behind_type, walk}
 use Rattle.lk_ground_types.specs.Shapes.{is_query_type}
 use Rattle.lk_inline.proofs.CallArms.{TakesFirst, called, other, takes_behind, takes_first}
 use Rattle.lk_inline.proofs.Inducing.{walk_form}
@@ -19,12 +20,11 @@ use Rattle.lk_inline.proofs.KindSteps.{kind_behind, known_bound, known_later, mo
 use Rattle.lk_inline.proofs.KindsMade.{AreDescribed, AreKinded, AreKnown, Descriptions, IsKinded, Scope}
 use Rattle.lk_inline.proofs.Making.{all_more, left}
 use Rattle.lk_inline.proofs.QueryTypes.{list_rows, rows_flat}
-use Rattle.lk_inline.proofs.Takes.{takes_split}
 use Rattle.lk_inline.specs.KindsOfTypes.{IsInOrder}
-use Rattle.lk_inline.specs.Pending.{Pending, pending}
-use Rattle.lk_inline.specs.Takes.{Takes}
-use Rattle.lk_inline.specs.Walk.{Calls, Made, State, all, behind_type, walk}
 use Rattle.lk_query.specs.Order.{AreOrdered}
+use Rattle.lk_sites.proofs.Takes.{takes_split}
+use Rattle.lk_sites.specs.Pending.{Pending, pending}
+use Rattle.lk_sites.specs.Takes.{Takes}
 use Rattle.lk_sound.proofs.FlatTypes.{function_not_flat, unit_not_flat}
 use Rattle.lk_sound.proofs.Members.{each_in}
 use Rattle.lk_sound.proofs.QueryParts.{AreQueryNodes, IsEarly, IsQueryNode, node_type, part_types}

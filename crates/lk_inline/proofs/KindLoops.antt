@@ -2,6 +2,8 @@
 use Rattle.std.proofs.Common.{◌≡◌, ℕ, ◌<◌, ◌==◌, Bool, true, false, [], ◌∷◌, ◌++◌, length, if◌then◌else◌, refl, sym, ◌∙◌, ap, subst}
 use Rattle.lk_ast.specs.declared.expression.Expr.{Expr}
 use Rattle.lk_ast.specs.declared.place.Word.{Word}
+use Rattle.lk_bodies.specs.Shapes.{columns_of, labels}
+use Rattle.lk_bodies.specs.Walk.{Calls, Made, State, add, behind_type, loop, walk}
 use Rattle.lk_ground_types.specs.Shapes.{are_rows, is_flat_row}
 use Rattle.lk_inline.proofs.Adding.{at_end, still_within}
 use Rattle.lk_inline.proofs.KindForms.{is_list_kind, list_kind, record_columns, row_kind}
@@ -10,13 +12,11 @@ use Rattle.lk_inline.proofs.KindSteps.{adds_both, adds_one, from_behind_type, ki
 use Rattle.lk_inline.proofs.KindsMade.{Adds, AreDescribed, AreKnown, Described, Descriptions, IsKinded, IsSeen, Scope, described}
 use Rattle.lk_inline.proofs.Making.{left}
 use Rattle.lk_inline.specs.KindsOfTypes.{kind_of_type}
-use Rattle.lk_inline.specs.Pending.{Pending}
-use Rattle.lk_inline.specs.Shapes.{columns_of, labels}
-use Rattle.lk_inline.specs.Walk.{Calls, Made, State, add, behind_type, loop, walk}
 use Rattle.lk_query.proofs.Parts.{bind-here, bind-other}
 use Rattle.lk_query.specs.Kinds.{HasColumns, HasUnder, IsNoList, OfList, OfRecord}
 use Rattle.lk_query.specs.Order.{AreOrdered, bind}
 use Rattle.lk_query.specs.declared.part.Part.TheVariants as part
+use Rattle.lk_sites.specs.Pending.{Pending}
 use Rattle.lk_types.specs.Rows.{Label}
 use Rattle.lk_types.specs.declared.ground.Ground.{Ground}
 use Rattle.lk_types.specs.declared.ground.Ground.TheVariants as known_type

@@ -1,8 +1,8 @@
 -- The types of the nodes that are still to come stand in order.
 use Rattle.std.proofs.Common.{List, [], ◌∷◌}
 use Rattle.lk_inline.specs.KindsOfTypes.{IsInOrder}
-use Rattle.lk_inline.specs.Pending.{Pending}
-use Rattle.lk_inline.specs.Takes.{Takes, called, none, other}
+use Rattle.lk_sites.specs.Pending.{Pending}
+use Rattle.lk_sites.specs.Takes.{Takes, called, none, other}
 use Rattle.lk_sound.specs.Nodes.{TypedNode, Use}
 use Rattle.lk_types.specs.Each.{Each}
 

@@ -1,15 +1,15 @@
 -- The kind of a part over one, two or three others, by theirs.
 use Rattle.std.proofs.Common.{◌≡◌, ℕ, ◌<◌, Bool, false, List, [], ◌∷◌, length, map, sym, ◌∙◌, subst}
 use Rattle.lk_ast.specs.declared.expression.Expr.{Expr}
+use Rattle.lk_bodies.specs.Walk.{Calls, Made, Several, State, add, all, behind_type, one, three, two, walk}
 use Rattle.lk_inline.proofs.KindSteps.{IsNext, finished_kinded, from_behind_type, next_has, with_part}
 use Rattle.lk_inline.proofs.KindsMade.{AreKinded, Descriptions, IsKinded, IsSeen, Scope, kinds_of, scopes_of}
 use Rattle.lk_inline.specs.KindsOfTypes.{kind_of_type}
-use Rattle.lk_inline.specs.Pending.{Pending}
-use Rattle.lk_inline.specs.Walk.{Calls, Made, Several, State, add, all, behind_type, one, three, two, walk}
 use Rattle.lk_query.specs.Changed.{reads_table}
 use Rattle.lk_query.specs.Kinds.{Has, HasColumns, Kind}
 use Rattle.lk_query.specs.Order.{Below}
 use Rattle.lk_query.specs.declared.part.Part.{Part}
+use Rattle.lk_sites.specs.Pending.{Pending}
 use Rattle.lk_types.specs.declared.ground.Ground.{Ground}
 use Rattle.lk_typing.specs.Names.{Named}
 

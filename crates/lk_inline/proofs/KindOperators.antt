@@ -6,6 +6,7 @@ use Rattle.lk_ast.specs.declared.expression.Expr.{Expr}
 use Rattle.lk_ast.specs.declared.expression.Node.TheOpen.{Node-F}
 use Rattle.lk_ast.specs.declared.table.Base.TheVariants as base
 use Rattle.lk_ast.specs.declared.table.BaseKind.TheVariants as kind
+use Rattle.lk_bodies.specs.Walk.{Calls, State, behind_type, local, walk}
 use Rattle.lk_ground_types.specs.Shapes.{is_base, is_list, is_query_type}
 use Rattle.lk_inline.proofs.Inducing.{walk_form}
 use Rattle.lk_inline.proofs.KindArms.{Makes, Parts, append_arm, arithmetic_arm, binary, concat_arm, empty_arm, if_arm, literal_arm, logic_arm, neg_arm, not_arm, project_arm, table_arm, where_arm}
@@ -17,9 +18,8 @@ use Rattle.lk_inline.proofs.Making.{left}
 use Rattle.lk_inline.proofs.QueryTypes.{list_rows, variant_not_flat}
 use Rattle.lk_inline.proofs.Standing.{bool_is}
 use Rattle.lk_inline.specs.KindsOfTypes.{IsInOrder}
-use Rattle.lk_inline.specs.Pending.{Pending}
-use Rattle.lk_inline.specs.Walk.{Calls, State, behind_type, local, walk}
 use Rattle.lk_query.specs.Order.{AreOrdered}
+use Rattle.lk_sites.specs.Pending.{Pending}
 use Rattle.lk_sound.proofs.FlatTypes.{unit_not_flat}
 use Rattle.lk_sound.proofs.QueryValues.{never_both}
 use Rattle.lk_sound.specs.Nodes.{Equality, Order, compared_by, comparison, may_compare, used_by}

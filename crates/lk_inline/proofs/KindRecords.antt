@@ -5,6 +5,9 @@ use Rattle.lk_ast.specs.declared.declaration.TableDecl.{TableDecl}
 use Rattle.lk_ast.specs.declared.expression.Expr.{Expr}
 use Rattle.lk_ast.specs.declared.expression.Node.TheOpen.{Node-F}
 use Rattle.lk_ast.specs.declared.expression.PartExpr.{PartExpr}
+use Rattle.lk_bodies.proofs.Levels.{labels_are, walks_are}
+use Rattle.lk_bodies.specs.Shapes.{columns_of, labels}
+use Rattle.lk_bodies.specs.Walk.{Calls, Made, Several, State, add, all, behind_type, extension, fields, labelled, walk}
 use Rattle.lk_ground_types.specs.Shapes.{is_base, is_flat_row, is_query_type}
 use Rattle.lk_inline.proofs.Adding.{at_end}
 use Rattle.lk_inline.proofs.Inducing.{walk_form}
@@ -13,18 +16,15 @@ use Rattle.lk_inline.proofs.KindForms.{base_kind, list_kind, record_columns, row
 use Rattle.lk_inline.proofs.KindOperands.{own_part}
 use Rattle.lk_inline.proofs.KindSteps.{adds_both, adds_one, all_seen_later, finished_kinded, from_behind_type, kind_added, kind_behind, next_has, next_seen, with_part, within_later}
 use Rattle.lk_inline.proofs.KindsMade.{Adds, AreKinded, AreSeen, Descriptions, IsKinded, IsSeen, Scope, kinds_of, scopes_of}
-use Rattle.lk_inline.proofs.Levels.{labels_are, walks_are}
 use Rattle.lk_inline.proofs.QueryTypes.{list_rows, record_row, rows_flat}
 use Rattle.lk_inline.proofs.RecordArms.{all_below, all_labelled, all_last, below_front, last_map, rest_each, walks_of_fields}
 use Rattle.lk_inline.proofs.RecordRules.{bases_in, flat_bases, labelled_types}
 use Rattle.lk_inline.specs.KindsOfTypes.{IsInOrder, kind_of_type}
-use Rattle.lk_inline.specs.Pending.{Pending}
-use Rattle.lk_inline.specs.Shapes.{columns_of, labels}
-use Rattle.lk_inline.specs.Walk.{Calls, Made, Several, State, add, all, behind_type, extension, fields, labelled, walk}
 use Rattle.lk_query.specs.Kinds.{AllHave, AreBases, Kind, OfBase, OfRecord}
 use Rattle.lk_query.specs.Order.{AllBelow}
 use Rattle.lk_query.specs.declared.part.Part.{Part}
 use Rattle.lk_query.specs.declared.part.Part.TheVariants as part
+use Rattle.lk_sites.specs.Pending.{Pending}
 use Rattle.lk_types.specs.Each.{Each}
 use Rattle.lk_types.specs.Rows.{EffectSet, Label}
 use Rattle.lk_types.specs.declared.ground.Ground.{Ground}

@@ -3,13 +3,13 @@ use Rattle.std.proofs.Common.{◌≡◌, refl, sym, ap, ◌∙◌, subst, arith,
 use Rattle.std.proofs.lemmas.Bool.{eqb-false, eqb-true}
 use Rattle.std.proofs.lemmas.Option.{slice_get_within}
 use Rattle.std.specs.Prelude.{unwrap_or}
+use Rattle.lk_bodies.specs.Captured.{bound_parts, captured_as, numbered}
+use Rattle.lk_bodies.specs.Shapes.{columns_level, kind_level}
 use Rattle.lk_ground_types.specs.Shapes.{base_level, is_flat, row_level}
 use Rattle.lk_inline.proofs.BlockStarts.{bound_alone, bound_length}
 use Rattle.lk_inline.proofs.KindsMade.{AreDescribed, Described, Descriptions, IsSeen, Scope, described, kinds_of, scopes_of}
-use Rattle.lk_inline.specs.Inlined.{bound_parts, captured_as, numbered}
 use Rattle.lk_inline.specs.KindsOfTypes as kinds
 use Rattle.lk_inline.specs.KindsOfTypes.{kind_of_type}
-use Rattle.lk_inline.specs.Shapes.{columns_level, kind_level}
 use Rattle.lk_query.proofs.Parts.{bind-here, bind-other}
 use Rattle.lk_query.specs.Kinds.{HasColumns, Is, IsNoList, Kind, OfBase, OfList, OfRecord, kind_of, kinds_from}
 use Rattle.lk_query.specs.declared.part.Part.{Part}

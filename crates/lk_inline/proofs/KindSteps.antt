@@ -2,17 +2,17 @@
 use Rattle.std.proofs.Common.{◌≡◌, ℕ, ◌<◌, ◌==◌, Bool, true, false, ◌||◌, List, [], ◌∷◌, ◌++◌, length, Some, slice_get, bytes_eq, if◌then◌else◌, inl, inr, ◌⊎◌, refl, sym, ◌∙◌, ap, ap₂, subst, arith, lt_irrefl}
 use Rattle.std.proofs.lemmas.List.Folds.{list_any-append}
 use Rattle.std.proofs.lemmas.Option.{slice_get_within}
+use Rattle.lk_bodies.specs.Walk.{Made, Several, State, add, behind_type}
 use Rattle.lk_inline.proofs.Adding.{Grows, at_end, behind_list, grows_both, grows_none, grows_one, ordered_add, still_within}
 use Rattle.lk_inline.proofs.KindsMade.{Adds, AreDescribed, AreKinded, AreKnown, AreSeen, Described, Descriptions, HasKind, IsKinded, IsSeen, Scope, described, is_same, kinds_of, scopes_of}
 use Rattle.lk_inline.proofs.Making.{AreWithin, left}
 use Rattle.lk_inline.specs.KindsOfTypes.{kind_of_type}
-use Rattle.lk_inline.specs.Pending.{Pending}
-use Rattle.lk_inline.specs.Walk.{Made, Several, State, add, behind_type}
 use Rattle.lk_query.proofs.Parts.{bind-here, bind-other}
 use Rattle.lk_query.specs.Changed.{ReadNoTable, reads_table}
 use Rattle.lk_query.specs.Kinds.{Has, HasColumns, Is, Kind}
 use Rattle.lk_query.specs.Order.{AreOrdered, Below, bind}
 use Rattle.lk_query.specs.declared.part.Part.{Part}
+use Rattle.lk_sites.specs.Pending.{Pending}
 use Rattle.lk_types.specs.Rows.{Label}
 use Rattle.lk_types.specs.declared.ground.Ground.{Ground}
 use Rattle.lk_typing.specs.Names.{Named, named}

@@ -1,17 +1,17 @@
 -- What a walk has made of an expression, without its value: parts at the end of those that were there, each of a kind, of which the
 -- last is of the kind of the expression's type. Where the expression may read no table, they read none.
 use Rattle.std.proofs.Common.{◌≡◌, ℕ, ◌<◌, Bool, true, false, List, [], ◌∷◌, length, Some, sym, ◌∙◌, ap}
+use Rattle.lk_bodies.specs.Walk.{Made, Several, State}
 use Rattle.lk_inline.proofs.Adding.{Grows}
 use Rattle.lk_inline.proofs.Making.{AreWithin, left}
 use Rattle.lk_inline.specs.KindsOfTypes.{kind_of_type}
-use Rattle.lk_inline.specs.Pending.{Pending}
-use Rattle.lk_inline.specs.Walk.{Made, Several, State}
 use Rattle.lk_query.specs.Changed.{ReadNoTable}
 use Rattle.lk_query.specs.Kinds.{AllHave, AreBases, AreTyped, Has, HasUnder, Is, Kind, OfBase}
 use Rattle.lk_query.specs.Order.{AllBelow, AreOrdered, Below, LabelledBelow}
 use Rattle.lk_query.specs.declared.part.Labelled.{Labelled}
 use Rattle.lk_query.specs.declared.part.Part.{Part}
 use Rattle.lk_query.specs.declared.part.Part.TheVariants as part
+use Rattle.lk_sites.specs.Pending.{Pending}
 use Rattle.lk_types.specs.Rows.{Label}
 use Rattle.lk_types.specs.declared.ground.Ground.{Ground}
 use Rattle.lk_typing.specs.Names.{Named, named}

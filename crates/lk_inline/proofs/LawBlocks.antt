@@ -9,6 +9,7 @@ use Rattle.lk_ast.specs.declared.expression.Node.TheOpen.{Node-F}
 use Rattle.lk_ast.specs.declared.expression.SortKey.{SortKey}
 use Rattle.lk_ast.specs.declared.place.Word.{Word}
 use Rattle.lk_bag.specs.Legal.{captured_by}
+use Rattle.lk_bodies.specs.Uses.{change_uses}
 use Rattle.lk_ground.specs.declared.program.GroundProgram.{GroundProgram}
 use Rattle.lk_index.specs.Free.{captured_change}
 use Rattle.lk_inline.proofs.BlockChanges.{rows_keep, test_keeps}
@@ -17,15 +18,14 @@ use Rattle.lk_inline.proofs.BlockQueries.{query_keeps}
 use Rattle.lk_inline.proofs.BlockReadings.{reading_keeps}
 use Rattle.lk_inline.proofs.LawTypes.{IsProperBlock, block_proper}
 use Rattle.lk_inline.proofs.UsesTyped.{change_typed, uses_typed}
-use Rattle.lk_inline.specs.Blocks.{IsBlock}
 use Rattle.lk_inline.specs.Inlined.{change_at, inlined_by, query_at, reading_at}
 use Rattle.lk_inline.specs.Law.{BlockLaw, Keeps}
 use Rattle.lk_inline.specs.Law as keeps
-use Rattle.lk_inline.specs.Sites.{Site}
-use Rattle.lk_inline.specs.Uses.{change_uses}
 use Rattle.lk_mono.specs.Instanced.{HasInstances}
 use Rattle.lk_names.specs.Programs.{IsBound}
 use Rattle.lk_query.specs.declared.query.Inlined.{Inlined}
+use Rattle.lk_sites.specs.Blocks.{IsBlock}
+use Rattle.lk_sites.specs.Sites.{Site}
 use Rattle.lk_sound.proofs.Bags.{all_early}
 use Rattle.lk_sound.proofs.Names.{IsAmong}
 use Rattle.lk_sound.specs.Instances.{Instances}

@@ -11,6 +11,8 @@ use Rattle.lk_ast.specs.declared.place.Loc.TheVariants.{Server}
 use Rattle.lk_ast.specs.declared.place.Word.{Word}
 use Rattle.lk_ast.specs.declared.value.Value.{Value}
 use Rattle.lk_bag.specs.Legal.{captured_by}
+use Rattle.lk_bodies.specs.Captured.{captured_as}
+use Rattle.lk_bodies.specs.Uses.{change_uses, query_uses}
 use Rattle.lk_evaluation.specs.Evaluation.{Act, Uses}
 use Rattle.lk_evaluation.specs.Source.{Point, act, reads, writes}
 use Rattle.lk_ground.specs.declared.program.GroundProgram.{GroundProgram}
@@ -19,16 +21,15 @@ use Rattle.lk_inline.proofs.BlockForms.{IsChangeAlone, IsChangeBlock, IsQueryAlo
 use Rattle.lk_inline.proofs.BlockNames.{AreKept, captured_are}
 use Rattle.lk_inline.proofs.CapturedValues.{HaveValues, values_captured}
 use Rattle.lk_inline.proofs.UsesTyped.{change_typed, uses_typed}
-use Rattle.lk_inline.specs.Blocks.{IsBlock}
-use Rattle.lk_inline.specs.Inlined.{captured_as, change_at, inlined_by, query_at, reading_at}
+use Rattle.lk_inline.specs.Inlined.{change_at, inlined_by, query_at, reading_at}
 use Rattle.lk_inline.specs.Law.{CapturedLaw, Captures, captured_of, done_with}
-use Rattle.lk_inline.specs.Sites.{Site}
-use Rattle.lk_inline.specs.Uses.{change_uses, query_uses}
 use Rattle.lk_locals.specs.Names.{Names, lookup_all}
 use Rattle.lk_mono.specs.Instanced.{HasInstances}
 use Rattle.lk_names.specs.Programs.{IsBound}
 use Rattle.lk_query.specs.Captured.{AreCaptured}
 use Rattle.lk_query.specs.declared.query.Inlined.{Inlined}
+use Rattle.lk_sites.specs.Blocks.{IsBlock}
+use Rattle.lk_sites.specs.Sites.{Site}
 use Rattle.lk_sound.proofs.Bags.{all_early}
 use Rattle.lk_sound.specs.Instances.{Instances}
 use Rattle.lk_sound.specs.Nodes.{change_nodes, nodes_of}

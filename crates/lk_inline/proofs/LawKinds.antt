@@ -10,6 +10,7 @@ use Rattle.lk_ast.specs.declared.expression.PartExpr.{PartExpr}
 use Rattle.lk_ast.specs.declared.expression.SortKey.{SortKey}
 use Rattle.lk_ast.specs.declared.place.Word.{Word}
 use Rattle.lk_bag.specs.Blocks.{blocks_of}
+use Rattle.lk_bodies.specs.Uses.{change_uses, query_uses}
 use Rattle.lk_ground.specs.declared.program.GroundFun.{GroundFun}
 use Rattle.lk_ground.specs.declared.program.GroundProgram.{GroundProgram}
 use Rattle.lk_index.specs.Free.{captured_change, captured_query}
@@ -19,15 +20,14 @@ use Rattle.lk_inline.proofs.ChangeKinds.{change_kinds}
 use Rattle.lk_inline.proofs.OwnLabels.{delete_apart, keys_apart, update_apart}
 use Rattle.lk_inline.proofs.QueryKinds.{query_kinds, reading_kinds}
 use Rattle.lk_inline.proofs.UsesTyped.{change_typed, uses_typed}
-use Rattle.lk_inline.specs.Blocks.{IsBlock}
 use Rattle.lk_inline.specs.Inlined.{change_at, inlined_by, query_at, reading_at}
 use Rattle.lk_inline.specs.KindsOfTypes.{IsInOrder}
 use Rattle.lk_inline.specs.Law.{AreProper, HasKinds, IsProperType, KindsLaw}
-use Rattle.lk_inline.specs.Sites.{Site}
-use Rattle.lk_inline.specs.Uses.{change_uses, query_uses}
 use Rattle.lk_mono.specs.Instanced.{HasInstances}
 use Rattle.lk_names.specs.Programs.{IsBound}
 use Rattle.lk_query.specs.declared.query.Inlined.{Inlined}
+use Rattle.lk_sites.specs.Blocks.{IsBlock}
+use Rattle.lk_sites.specs.Sites.{Site}
 use Rattle.lk_sound.proofs.Bags.{all_early}
 use Rattle.lk_sound.proofs.Members.{each_weaker}
 use Rattle.lk_sound.specs.Instances.{Instances}

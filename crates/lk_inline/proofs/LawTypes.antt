@@ -7,6 +7,9 @@ use Rattle.lk_ast.specs.declared.expression.ChangeExpr.{ChangeExpr}
 use Rattle.lk_ast.specs.declared.expression.Expr.{Expr}
 use Rattle.lk_ast.specs.declared.expression.Node.TheOpen.{Node-F}
 use Rattle.lk_ast.specs.declared.expression.SortKey.{SortKey}
+use Rattle.lk_bodies.specs.Captured.{captured_as}
+use Rattle.lk_bodies.specs.Shapes.{columns_of, kind_of, labels}
+use Rattle.lk_bodies.specs.Uses.{change_uses, query_uses}
 use Rattle.lk_ground.specs.declared.program.GroundProgram.{GroundProgram}
 use Rattle.lk_ground_types.specs.Shapes.{is_base}
 use Rattle.lk_index.specs.Free.{captured_change, captured_query, free, free_change, in_byte_order}
@@ -17,18 +20,16 @@ use Rattle.lk_inline.proofs.FreeNodes.{AreOfNodes, change_there, each_taken, fre
 use Rattle.lk_inline.proofs.LabelOrder.{order_distinct}
 use Rattle.lk_inline.proofs.UsesOrder.{ordered_of}
 use Rattle.lk_inline.proofs.UsesTyped.{change_typed, uses_typed}
-use Rattle.lk_inline.specs.Blocks.{IsBlock}
-use Rattle.lk_inline.specs.Inlined.{captured_as, change_at, inlined_at, inlined_by, query_at}
+use Rattle.lk_inline.specs.Inlined.{change_at, inlined_at, inlined_by, query_at}
 use Rattle.lk_inline.specs.Law.{IsProperType}
-use Rattle.lk_inline.specs.Pending.{pending}
-use Rattle.lk_inline.specs.Shapes.{columns_of, kind_of, labels}
-use Rattle.lk_inline.specs.Sites.{Site}
-use Rattle.lk_inline.specs.Uses.{change_uses, query_uses}
 use Rattle.lk_mono.specs.Instanced.{HasInstances}
 use Rattle.lk_query.specs.declared.query.Captured.TheVariants as captured
 use Rattle.lk_query.specs.declared.query.Inlined.{Inlined}
 use Rattle.lk_query.specs.declared.query.Inlined.TheVariants as inlined
 use Rattle.lk_scope.specs.Names.{no_names}
+use Rattle.lk_sites.specs.Blocks.{IsBlock}
+use Rattle.lk_sites.specs.Pending.{pending}
+use Rattle.lk_sites.specs.Sites.{Site}
 use Rattle.lk_sound.proofs.Bags.{all_early}
 use Rattle.lk_sound.proofs.Names.{IsAmong}
 use Rattle.lk_sound.specs.Instances.{Instances}

@@ -11,15 +11,14 @@ use Rattle.lk_ast.specs.declared.place.Word.{Word}
 use Rattle.lk_ast.specs.declared.table.Row.{Row}
 use Rattle.lk_ast.specs.declared.value.Value.{Value}
 use Rattle.lk_bag.specs.Bag.{for_each, given, items}
+use Rattle.lk_bodies.specs.Walk.{Calls, Made, State, add}
 use Rattle.lk_ground_types.specs.Shapes.{are_rows, is_flat_row}
 use Rattle.lk_inline.proofs.Adding.{Grows, at_end, grows_both, grows_one, ordered_add, still_gives, still_within}
 use Rattle.lk_inline.proofs.Inducing.{number_bound, standing_bound}
 use Rattle.lk_inline.proofs.Loops.{loop_stands}
 use Rattle.lk_inline.proofs.Making.{AreStanding, HaveNumbers, IsMade, left, numbers_grow, standing_grows}
 use Rattle.lk_inline.proofs.Standing.{row_stands}
-use Rattle.lk_inline.specs.Pending.{Pending}
 use Rattle.lk_inline.specs.Stands.{IsRecord, Stands}
-use Rattle.lk_inline.specs.Walk.{Calls, Made, State, add}
 use Rattle.lk_locals.specs.Names.{Names, bind, lookup}
 use Rattle.lk_query.proofs.Growing.{gives_before, gives_last}
 use Rattle.lk_query.proofs.Parts.{bind-here}
@@ -28,6 +27,7 @@ use Rattle.lk_query.specs.Order as order
 use Rattle.lk_query.specs.Order.{AreOrdered, Below}
 use Rattle.lk_query.specs.declared.part.Part.{Part}
 use Rattle.lk_query.specs.declared.part.Part.TheVariants as part
+use Rattle.lk_sites.specs.Pending.{Pending}
 use Rattle.lk_sound.proofs.Bindings.{bound_one}
 use Rattle.lk_sound.specs.Instances.{Instances}
 use Rattle.lk_sound.specs.Points.{AreLocals}

@@ -6,16 +6,16 @@ use Rattle.lk_ast.specs.declared.expression.Expr.{Expr}
 use Rattle.lk_ast.specs.declared.value.Value.{Value}
 use Rattle.lk_bag.proofs.Given.{all_given}
 use Rattle.lk_bag.specs.Bag.{given}
+use Rattle.lk_bodies.specs.Walk.{Calls, Made, Several, State, Walk, add, all, behind_type, one, two, three, walk}
 use Rattle.lk_inline.proofs.Adding.{Grows, at_end, grows_both, grows_none, grows_one, ordered_add}
 use Rattle.lk_inline.proofs.Making.{AreMade, AreStanding, HaveNumbers, IsAdded, IsMade, added, finished, left}
 use Rattle.lk_inline.proofs.RecordRules.{StandEach}
-use Rattle.lk_inline.specs.Pending.{Pending}
 use Rattle.lk_inline.specs.Stands.{Stands}
-use Rattle.lk_inline.specs.Walk.{Calls, Made, Several, State, Walk, add, all, behind_type, one, two, three, walk}
 use Rattle.lk_locals.specs.Names.{Names}
 use Rattle.lk_query.specs.Given.{Given, Gives, Values, given_level, gives}
 use Rattle.lk_query.specs.Order.{AreOrdered, Below}
 use Rattle.lk_query.specs.declared.part.Part.{Part}
+use Rattle.lk_sites.specs.Pending.{Pending}
 use Rattle.lk_sound.specs.Instances.{Instances}
 use Rattle.lk_sound.specs.Points.{AreLocals}
 use Rattle.lk_sound.specs.Values.{FitEach, Fits, none_left, one_more}

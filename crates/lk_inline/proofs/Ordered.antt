@@ -5,14 +5,14 @@ use Rattle.lk_ast.specs.declared.expression.Expr.{Expr}
 use Rattle.lk_ast.specs.declared.expression.Node.TheOpen.{Node-F}
 use Rattle.lk_ast.specs.declared.expression.PartExpr.{PartExpr}
 use Rattle.lk_ast.specs.declared.place.Word.{Word}
+use Rattle.lk_bodies.proofs.Levels.{part_level_is, walk_expr, walk_out, with_walks}
+use Rattle.lk_bodies.specs.Captured.{bound_parts, numbered}
+use Rattle.lk_bodies.specs.Shapes.{columns_of, labels}
+use Rattle.lk_bodies.specs.Walk.{Calls, Made, Several, State, Walk, add, all, all_from, behind_type, bound, call, called, choice, emptiness, entered_some, equality, extended, extension, fields, first_labels, inequality, labelled, local, loop, never, node_level, one, table, three, two, variable, walk, walk_part, walks_in, zero_part}
 use Rattle.lk_ground.specs.Language.{function_of}
 use Rattle.lk_ground.specs.declared.program.GroundFun.{GroundFun}
 use Rattle.lk_ground_types.specs.Shapes.{is_base, is_list}
 use Rattle.lk_inline.proofs.Adding.{at_end, ordered_add}
-use Rattle.lk_inline.proofs.Levels.{part_level_is, walk_expr, walk_out, with_walks}
-use Rattle.lk_inline.specs.Inlined.{bound_parts, numbered}
-use Rattle.lk_inline.specs.Shapes.{columns_of, labels}
-use Rattle.lk_inline.specs.Walk.{Calls, Made, Several, State, Walk, add, all, all_from, behind_type, bound, call, called, choice, emptiness, entered_some, equality, extended, extension, fields, first_labels, inequality, labelled, local, loop, never, node_level, one, table, three, two, variable, walk, walk_part, walks_in, zero_part}
 use Rattle.lk_query.specs.Order.{AllBelow, AreOrdered, Below, LabelledBelow}
 use Rattle.lk_query.specs.declared.part.Part.{Part}
 use Rattle.lk_query.specs.declared.part.Part.TheVariants as part

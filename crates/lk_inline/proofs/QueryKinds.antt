@@ -7,6 +7,10 @@ use Rattle.lk_ast.specs.declared.declaration.Program.{Program}
 use Rattle.lk_ast.specs.declared.expression.Expr.{Expr}
 use Rattle.lk_ast.specs.declared.expression.SortKey.{SortKey}
 use Rattle.lk_ast.specs.declared.place.Word.{Word}
+use Rattle.lk_bodies.specs.Captured.{bound_parts, captured_as, captured_at, numbered}
+use Rattle.lk_bodies.specs.Shapes.{columns_of, element_columns, labels}
+use Rattle.lk_bodies.specs.Uses.{query_uses}
+use Rattle.lk_bodies.specs.Walk.{Made, table, walk}
 use Rattle.lk_ground.specs.declared.program.GroundFun.{GroundFun}
 use Rattle.lk_ground.specs.declared.program.GroundProgram.{GroundProgram}
 use Rattle.lk_ground_types.specs.Shapes.{is_there as has_some}
@@ -22,15 +26,10 @@ use Rattle.lk_inline.proofs.LabelOrder.{one_there}
 use Rattle.lk_inline.proofs.LawTypes.{behind_first}
 use Rattle.lk_inline.proofs.RowLabels.{element_labels_are, field_labels, labels_are}
 use Rattle.lk_inline.proofs.TableColumns.{row_there}
-use Rattle.lk_inline.specs.Inlined.{bound_parts, calls_of, captured_as, captured_at, first_columns, key_of, numbered, state_at}
+use Rattle.lk_inline.specs.Inlined.{calls_of, first_columns, key_of, state_at}
 use Rattle.lk_inline.specs.KindsOfTypes.{IsInOrder, kind_level, kind_of_type}
 use Rattle.lk_inline.specs.Law as kinded
 use Rattle.lk_inline.specs.Law.{HasKinds, HaveColumns}
-use Rattle.lk_inline.specs.Pending.{Pending}
-use Rattle.lk_inline.specs.Shapes.{columns_of, element_columns, labels}
-use Rattle.lk_inline.specs.Sites.{Site}
-use Rattle.lk_inline.specs.Uses.{query_uses}
-use Rattle.lk_inline.specs.Walk.{Made, table, walk}
 use Rattle.lk_mono.specs.Instanced.{HasInstances}
 use Rattle.lk_names.specs.Programs.{IsBound}
 use Rattle.lk_query.specs.Kinds.{AreColumns, Is, Kind, OfList, kinds_from}
@@ -40,6 +39,8 @@ use Rattle.lk_query.specs.declared.part.Part.TheVariants as part
 use Rattle.lk_query.specs.declared.query.Captured.{Captured}
 use Rattle.lk_query.specs.declared.query.Inlined.TheVariants as inlined
 use Rattle.lk_query.specs.declared.query.Query.{Query}
+use Rattle.lk_sites.specs.Pending.{Pending}
+use Rattle.lk_sites.specs.Sites.{Site}
 use Rattle.lk_sound.proofs.Bags.{all_early}
 use Rattle.lk_sound.proofs.FieldRows.{get_among, get_first}
 use Rattle.lk_sound.specs.Instances.{Instances}

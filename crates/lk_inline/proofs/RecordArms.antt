@@ -10,20 +10,19 @@ use Rattle.lk_ast.specs.declared.expression.PartExpr.{PartExpr}
 use Rattle.lk_ast.specs.declared.value.Value.{Value}
 use Rattle.lk_bag.proofs.Given.{all_given, given_operation, is_operation, operands}
 use Rattle.lk_bag.specs.Bag.{given, value_of}
+use Rattle.lk_bodies.proofs.Levels.{labels_are, walks_are, with_walks}
+use Rattle.lk_bodies.specs.Shapes.{columns_of, labels}
+use Rattle.lk_bodies.specs.Walk.{Calls, Made, Several, State, Walk, add, all, all_from, behind_type, extended, extension, fields, labelled, walk, walk_part}
 use Rattle.lk_ground_types.specs.Shapes.{is_flat_row, is_query_type}
 use Rattle.lk_inline.proofs.Adding.{Grows, at_end, grows_both, grows_one, ordered_add, still_stands, still_within}
 use Rattle.lk_inline.proofs.Arms.{Fitting, Makes, Parts}
 use Rattle.lk_inline.proofs.Extensions.{cells_are, cells_under}
 use Rattle.lk_inline.proofs.Inducing.{walk_form}
-use Rattle.lk_inline.proofs.Levels.{labels_are, walks_are, with_walks}
 use Rattle.lk_inline.proofs.Making.{AreMade, AreWithin, HaveNumbers, IsMade, all_from_is, all_more, finished, one_behind}
 use Rattle.lk_inline.proofs.Operating.{from_behind}
 use Rattle.lk_inline.proofs.QueryTypes.{list_rows, record_row, rows_flat}
 use Rattle.lk_inline.proofs.RecordRules.{StandEach, extend_by_rule, items_by_rule, record_by_rule, stand_split}
-use Rattle.lk_inline.specs.Pending.{Pending}
-use Rattle.lk_inline.specs.Shapes.{columns_of, labels}
 use Rattle.lk_inline.specs.Stands.{Stands}
-use Rattle.lk_inline.specs.Walk.{Calls, Made, Several, State, Walk, add, all, all_from, behind_type, extended, extension, fields, labelled, walk, walk_part}
 use Rattle.lk_locals.specs.Names.{Names}
 use Rattle.lk_operators.specs.Operators.{operated}
 use Rattle.lk_query.proofs.Growing.{gives_last}
@@ -32,6 +31,7 @@ use Rattle.lk_query.specs.Given.{Given, Gives, Values, given_level, gives, of_li
 use Rattle.lk_query.specs.Order.{AllBelow, AreOrdered, Below, LabelledBelow}
 use Rattle.lk_query.specs.declared.part.Part.{Part}
 use Rattle.lk_query.specs.declared.part.Part.TheVariants as part
+use Rattle.lk_sites.specs.Pending.{Pending}
 use Rattle.lk_sound.proofs.QueryParts.{operands_are}
 use Rattle.lk_sound.specs.Instances.{Instances}
 use Rattle.lk_sound.specs.Points.{AreLocals}

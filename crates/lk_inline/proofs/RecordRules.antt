@@ -10,12 +10,12 @@ use Rattle.lk_ast.specs.declared.expression.Node.TheOpen.{Node-F}
 use Rattle.lk_ast.specs.declared.expression.PartExpr.{PartExpr}
 use Rattle.lk_ast.specs.declared.value.Value.{Value}
 use Rattle.lk_bag.specs.Bag.{value_of}
+use Rattle.lk_bodies.specs.Shapes.{columns_of, labels}
 use Rattle.lk_ground_types.specs.Shapes.{are_flat, base_level, is_base, is_flat_row, is_query_type, row_level, rows_level}
 use Rattle.lk_inline.proofs.Extensions.{AreBases, cells_under, extend_stands, part_labels, record_stands}
 use Rattle.lk_inline.proofs.Loops.{AllStand, items_stand}
 use Rattle.lk_inline.proofs.RecordValues.{base_among, flat_fields}
 use Rattle.lk_inline.proofs.RowLabels.{bytes_itself}
-use Rattle.lk_inline.specs.Shapes.{columns_of, labels}
 use Rattle.lk_inline.specs.Stands.{Stands}
 use Rattle.lk_operators.specs.Operators.{operated}
 use Rattle.lk_operators.specs.declared.outcome.Outcome.TheVariants as outcome

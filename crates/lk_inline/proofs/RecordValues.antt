@@ -16,12 +16,12 @@ use Rattle.lk_ast.specs.declared.value.Field.{Field}
 use Rattle.lk_ast.specs.declared.value.Value.TheVariants as value
 use Rattle.lk_ast.specs.declared.value.Value.{Value}
 use Rattle.lk_bag.specs.Bag.{value_of}
+use Rattle.lk_bodies.specs.Shapes.{element_columns, labels}
 use Rattle.lk_ground_types.specs.Shapes.{are_rows, is_base, is_flat_row, is_there, row_level}
 use Rattle.lk_inline.proofs.LabelOrder.{sorted_in_order}
 use Rattle.lk_inline.proofs.PutFields.{entry_labels, sorted_distinct}
 use Rattle.lk_inline.proofs.RowLabels.{at_own_labels, cell_labels, element_labels_are, field_labels, fields_fit_labels, labels_are}
 use Rattle.lk_inline.proofs.Standing.{base_stands, rows_stand}
-use Rattle.lk_inline.specs.Shapes.{element_columns, labels}
 use Rattle.lk_inline.specs.Stands.{AreDistinct, IsRecord, Stands}
 use Rattle.lk_operators.specs.Operators.{operated}
 use Rattle.lk_operators.specs.Outcomes.{given}

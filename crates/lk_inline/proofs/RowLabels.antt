@@ -8,8 +8,8 @@ use Rattle.lk_ast.specs.declared.table.Row.{Row}
 use Rattle.lk_ast.specs.declared.value.Field.{Field}
 use Rattle.lk_ast.specs.declared.value.Value.TheVariants as value
 use Rattle.lk_ast.specs.declared.value.Value.{Value}
+use Rattle.lk_bodies.specs.Shapes.{column, columns_level, columns_of, element_columns, element_level, labels}
 use Rattle.lk_ground_types.specs.Shapes.{is_flat_row}
-use Rattle.lk_inline.specs.Shapes.{column, columns_level, columns_of, element_columns, element_level, labels}
 use Rattle.lk_inline.specs.Stands.{AreDistinct, IsRecord, row_labels}
 use Rattle.lk_operators.specs.Values.{fields_in}
 use Rattle.lk_query.specs.Given.{at_labels, cell_with, row_with}

@@ -5,6 +5,7 @@ use Rattle.std.specs.Cmp.Lexicographic.{slice_cmp}
 use Rattle.std.specs.FinMap as fin
 use Rattle.std.specs.List.{cons_option}
 use Rattle.std.specs.Ordering.{nat_cmp}
+use Rattle.lk_bodies.specs.Shapes.{columns_level, columns_of, element_columns, element_level, labels}
 use Rattle.lk_ground_types.proofs.Parts.{all_some, function_some, mapped, row_rolled, same_some, with_one}
 use Rattle.lk_ground_types.proofs.TypeInduction.{Hereditary, every_type}
 use Rattle.lk_ground_types.proofs.Variables.{among_each, among_or}
@@ -13,7 +14,6 @@ use Rattle.lk_inline.proofs.RecordRules.{got}
 use Rattle.lk_inline.proofs.RecordValues.{row_in_order}
 use Rattle.lk_inline.proofs.RowLabels.{bytes_itself, labels_are}
 use Rattle.lk_inline.specs.Law.{IsProperType}
-use Rattle.lk_inline.specs.Shapes.{columns_level, columns_of, element_columns, element_level, labels}
 use Rattle.lk_sound.proofs.Bindings.{same_bytes}
 use Rattle.lk_sound.proofs.FieldRows.{among_get, as_fields, get_among, no_entries}
 use Rattle.lk_sound.proofs.Members.{each_in, each_of_in}

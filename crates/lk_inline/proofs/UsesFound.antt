@@ -4,8 +4,8 @@ use Rattle.std.proofs.Common.{◌≡◌, refl, sym, ap, ap₂, ◌∙◌, Bool, 
 use Rattle.std.specs.Cmp.Lexicographic.{bytes_decides}
 use Rattle.std.specs.FinSet as set
 use Rattle.lk_ast.specs.declared.place.Word.{Word}
+use Rattle.lk_bodies.specs.Uses.{Used, is_bound, local}
 use Rattle.lk_index.specs.Free.{use_of}
-use Rattle.lk_inline.specs.Uses.{Used, is_bound, local}
 use Rattle.lk_scope.specs.Names.{Names, bind, is_local, no_names}
 use Rattle.lk_sound.proofs.Members.{each_weaker}
 use Rattle.lk_sound.proofs.Names.{IsAmong}

@@ -7,18 +7,18 @@ use Rattle.lk_ast.specs.declared.expression.ChangeExpr.{ChangeExpr, out-ChangeEx
 use Rattle.lk_ast.specs.declared.expression.Expr.{Expr}
 use Rattle.lk_ast.specs.declared.expression.Node.TheOpen.{Node-F}
 use Rattle.lk_ast.specs.declared.place.Word.{Word}
+use Rattle.lk_bodies.proofs.UsesLevels.{behind_node, may_stand, own_use, plain_uses, uses_form, uses_in_change}
+use Rattle.lk_bodies.specs.Uses.{Used, all, change_uses, query_uses, uses}
 use Rattle.lk_ground_types.specs.Shapes.{is_query_type}
 use Rattle.lk_index.specs.Free.{captured_change, captured_query, free, free_change}
 use Rattle.lk_inline.proofs.QueryTypes.{variant_not_flat}
-use Rattle.lk_inline.proofs.Takes.{takes_split}
 use Rattle.lk_inline.proofs.UsesFound.{AreBound, AreFound, among_found, behind_found, both_found, none_bound, none_found, one_bound, outside_found, these_found, use_found}
-use Rattle.lk_inline.proofs.UsesLevels.{behind_node, may_stand, own_use, plain_uses, uses_form, uses_in_change}
 use Rattle.lk_inline.proofs.UsesOrder.{ordered_of}
-use Rattle.lk_inline.specs.Pending.{Pending, pending}
-use Rattle.lk_inline.specs.Takes.{Takes}
-use Rattle.lk_inline.specs.Takes as takes
-use Rattle.lk_inline.specs.Uses.{Used, all, change_uses, query_uses, uses}
 use Rattle.lk_scope.specs.Names.{Names, bind, no_names}
+use Rattle.lk_sites.proofs.Takes.{takes_split}
+use Rattle.lk_sites.specs.Pending.{Pending, pending}
+use Rattle.lk_sites.specs.Takes.{Takes}
+use Rattle.lk_sites.specs.Takes as takes
 use Rattle.lk_sound.proofs.FlatTypes.{unit_not_flat}
 use Rattle.lk_sound.proofs.FreeLevels.{change_level, free_all, free_for_list, free_for_table, free_plain, free_query, free_var, own_uses}
 use Rattle.lk_sound.proofs.Members.{each_weaker}

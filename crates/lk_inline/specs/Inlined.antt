@@ -1,6 +1,6 @@
 -- What stands at the place of a query, a reading of a table, an update or a deletion: its parts, with the bodies of functions in the
 -- places of their calls, and what it captures.
-use Rattle.std.specs.Prelude.{ℕ, ◌+◌, List, [], ◌∷◌, Option, Some, None, drop, length, map, if◌then◌else◌}
+use Rattle.std.specs.Prelude.{ℕ, List, [], ◌∷◌, Option, Some, None, drop, length, map}
 use Rattle.lk_ast.specs.Functions.{functions_of}
 use Rattle.lk_ast.specs.Layers.{Layer, layer}
 use Rattle.lk_ast.specs.declared.declaration.Program.{Program}
@@ -10,54 +10,22 @@ use Rattle.lk_ast.specs.declared.expression.Node.TheOpen.{Node-F}
 use Rattle.lk_ast.specs.declared.expression.PartExpr.{PartExpr}
 use Rattle.lk_ast.specs.declared.expression.SortKey.{SortKey}
 use Rattle.lk_ast.specs.declared.place.Word.{Word}
-use Rattle.lk_ast.specs.declared.table.BaseKind.TheVariants as kind
 use Rattle.lk_ast.specs.declared.table.Column.{Column}
 use Rattle.lk_ast.specs.declared.table.TableDef.{TableDef}
+use Rattle.lk_bodies.specs.Captured.{captured_at, numbered, bound_parts}
+use Rattle.lk_bodies.specs.Shapes.{element_columns, labels}
+use Rattle.lk_bodies.specs.Uses.{change_uses, query_uses}
+use Rattle.lk_bodies.specs.Walk.{Calls, Made, Several, State, all, called, labelled, table, walk}
 use Rattle.lk_ground.specs.declared.program.GroundFun.{GroundFun}
-use Rattle.lk_ground_types.specs.Shapes.{is_base}
 use Rattle.lk_index.specs.Free.{captured_change, captured_query}
-use Rattle.lk_inline.specs.Shapes.{columns_of, element_columns, kind_of, labels}
-use Rattle.lk_inline.specs.Sites.{Site}
-use Rattle.lk_inline.specs.Uses.{change_uses, query_uses}
-use Rattle.lk_inline.specs.Walk.{Calls, Made, Several, State, all, called, labelled, table, walk}
-use Rattle.lk_query.specs.declared.part.Part.{Part}
-use Rattle.lk_query.specs.declared.part.Part.TheVariants as part
-use Rattle.lk_query.specs.declared.query.Captured.{Captured}
-use Rattle.lk_query.specs.declared.query.Captured.TheVariants as captured
 use Rattle.lk_query.specs.declared.query.Inlined.{Inlined}
 use Rattle.lk_query.specs.declared.query.Inlined.TheVariants as inlined
-use Rattle.lk_query.specs.declared.query.InlinedChange.{InlinedChange}
-use Rattle.lk_query.specs.declared.query.Query.{Query}
+use Rattle.lk_sites.specs.Sites.{Site}
 use Rattle.lk_sound.specs.Tables.{table_at}
 use Rattle.lk_sql.specs.declared.tree.Key.{Key}
 use Rattle.lk_types.specs.Rows.{Label}
 use Rattle.lk_types.specs.declared.ground.Ground.{Ground}
-use Rattle.lk_typing.specs.Names.{Named, named}
-
--- ---- what is captured
-
--- by its type, which is that of a base or of a record of bases
-abbrev pub captured_as : Ground → Captured
-captured_as t = if is_base t then captured.Base (kind_of t) else captured.Row (columns_of t)
-
--- by the type of its first use
-abbrev pub captured_by : Option Ground → Captured
-captured_by None = captured.Base kind.Int
-captured_by (Some t) = captured_as t
-
-abbrev pub captured_at : Named Ground → List Label → List Captured
-captured_at uses names = map (λ name. captured_by (named name uses)) names
-
--- the names with the numbers from this one on
-abbrev pub numbered : ℕ → List Label → Named ℕ
-numbered n [] = []
-numbered n (name ∷ names) = (name, n) ∷ numbered (n + 1) names
-
--- a part for each name
-abbrev pub bound_parts : List Label → List Part
-bound_parts names = map (λ name. part.Bound) names
-
--- ---- blocks
+use Rattle.lk_typing.specs.Names.{Named}
 
 abbrev pub first_columns : List Ground → List Column
 first_columns [] = []

@@ -1,6 +1,6 @@
 -- What kind of thing a part gives, by the type of what it stands for, and when the columns of lists stand in byte order.
 use Rattle.std.specs.Prelude.{◌≡◌, true, map}
-use Rattle.lk_inline.specs.Shapes.{column, columns_of, element_columns, labels}
+use Rattle.lk_bodies.specs.Shapes.{column, columns_of, element_columns, labels}
 use Rattle.lk_query.specs.Kinds.{Kind, OfBase, OfList, OfRecord}
 use Rattle.lk_sql.specs.Good.{are_in_order}
 use Rattle.lk_types.specs.declared.ground.Ground.{Ground, out-Ground}

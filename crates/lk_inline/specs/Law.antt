@@ -1,19 +1,13 @@
 -- The laws of inlining: what stands at a site gives what the program's text says (Cooper, The script-writer's dream, DBPL 2009).
-use Rattle.std.specs.Prelude.{◌≡◌, ◌≢◌, Bool, true, ℕ, List, [], ◌∷◌, drop, map, Some, slice_get, if◌then◌else◌}
-use Rattle.std.specs.List.Sorted.{IsStrictlyIncreasing}
-use Rattle.lk_ast.specs.Children.{children}
+use Rattle.std.specs.Prelude.{◌≡◌, ◌≢◌, Bool, true, ℕ, List, [], map, Some}
 use Rattle.lk_ast.specs.Layers.{Layer, layer}
 use Rattle.lk_ast.specs.Rows.{row_value}
 use Rattle.lk_ast.specs.Tables.{Tables, row_fits, tables_of}
 use Rattle.lk_ast.specs.declared.declaration.Program.{Program}
 use Rattle.lk_ast.specs.declared.declaration.TableDecl.{TableDecl}
-use Rattle.lk_ast.specs.declared.expression.Case.{Case}
 use Rattle.lk_ast.specs.declared.expression.ChangeExpr.{ChangeExpr, out-ChangeExpr}
 use Rattle.lk_ast.specs.declared.expression.Expr.{Expr}
-use Rattle.lk_ast.specs.declared.expression.LambdaExpr.{LambdaExpr}
-use Rattle.lk_ast.specs.declared.expression.LastCase.{LastCase}
 use Rattle.lk_ast.specs.declared.expression.Node.TheOpen.{Node-F}
-use Rattle.lk_ast.specs.declared.expression.PartExpr.{PartExpr}
 use Rattle.lk_ast.specs.declared.place.Loc.TheVariants.{Server}
 use Rattle.lk_ast.specs.declared.table.Row.{Row}
 use Rattle.lk_ast.specs.declared.table.TableDef.{TableDef}
@@ -21,17 +15,13 @@ use Rattle.lk_ast.specs.declared.value.Value.{Value}
 use Rattle.lk_bag.specs.Blocks.{blocks_of}
 use Rattle.lk_bag.specs.Change.{is_met, updated}
 use Rattle.lk_bag.specs.Legal.{bag, captured_in, names_in}
+use Rattle.lk_bodies.specs.Shapes.{columns_of, labels}
 use Rattle.lk_evaluation.specs.Evaluation.{Primitive, Reading, Uses, Writing}
 use Rattle.lk_evaluation.specs.Source.{source, under}
-use Rattle.lk_ground.specs.Language as language
 use Rattle.lk_ground.specs.declared.program.GroundFun.{GroundFun}
 use Rattle.lk_ground.specs.declared.program.GroundProgram.{GroundProgram}
-use Rattle.lk_inline.specs.Blocks.{IsBlock}
 use Rattle.lk_inline.specs.Inlined.{inlined_at}
 use Rattle.lk_inline.specs.KindsOfTypes.{IsInOrder}
-use Rattle.lk_inline.specs.Shapes.{columns_of, labels}
-use Rattle.lk_inline.specs.SiteKinds.{is_site}
-use Rattle.lk_inline.specs.Sites.{Site, is_closed, sites_of}
 use Rattle.lk_locals.specs.Names.{Names, lookup_all}
 use Rattle.lk_mono.specs.Grounded.{IsGrounded}
 use Rattle.lk_mono.specs.Instanced.{HasInstances}
@@ -46,6 +36,8 @@ use Rattle.lk_query.specs.declared.query.Inlined.{Inlined}
 use Rattle.lk_query.specs.declared.query.Inlined.TheVariants as inlined
 use Rattle.lk_query.specs.declared.query.InlinedChange.{InlinedChange}
 use Rattle.lk_query.specs.declared.query.Query.{Query}
+use Rattle.lk_sites.specs.Blocks.{IsBlock}
+use Rattle.lk_sites.specs.Sites.{Site}
 use Rattle.lk_sound.specs.Points.{AreLocals}
 use Rattle.lk_sound.specs.Tables.{AreTables, table_at}
 use Rattle.lk_sql.specs.Good.{are_in_order}
@@ -143,41 +135,3 @@ abbrev pub KindsLaw : Type 0
 KindsLaw = (p : Program) → IsBound p → (g : GroundProgram) → (has : HasInstances p g) → AreProper g.helpers
     → (site : Site) → IsBlock p has.instances site.block site.types site.calls → OneOf (λ other. other ≡ site.block) (blocks_of p) → Each IsProperType site.types
     → (found : Inlined) → inlined_at p g.helpers site ≡ Some found → HasKinds p found
-
--- ---- sites
-
--- a typed block of an instance, one of the program's text
-pub record IsSiteOf (p : Program) (g : GroundProgram) (has : HasInstances p g) (site : Site) : Type 0 where
-  pub block : IsBlock p has.instances site.block site.types site.calls
-  pub of_text : OneOf (λ other. other ≡ site.block) (blocks_of p)
-  -- what has the label is what begins where the block does, in that instance
-  pub labelled : language.labelled g site.label ≡ Some (language.Site site.fun site.block.span.start)
-  pub function : GroundFun
-  pub there : slice_get g.funs site.fun ≡ Some function
-  -- how many nodes and how many uses stand before it there
-  pub nodes : ℕ
-  pub uses : ℕ
-  pub types : site.types ≡ drop nodes function.types
-  pub calls : site.calls ≡ drop uses function.calls
-
--- where the program's instances are a closed set, all sites are so
-abbrev pub SitesLaw : Type 0
-SitesLaw = (p : Program) → (g : GroundProgram) → (has : HasInstances p g) → Each (IsSiteOf p g has) (sites_of g)
-
--- the expressions right inside a node that isn't a query, an update or a deletion
-abbrev pub outer_parts : Layer → List Expr
-outer_parts l = if is_closed l then [] else children (λ (e : Expr). e ∷ []) (λ (case : Case). case.body ∷ []) (λ change. []) (λ (lambda : LambdaExpr). lambda.body ∷ []) (λ (last : LastCase). last.body ∷ []) (λ (part : PartExpr). part.expr ∷ []) l
-
--- the block stands in the expression, outside of queries, updates and deletions
-pub data StandsOutside (block : Expr) : Expr → Type 0 where
-  itself : StandsOutside block block
-  within : {e d : Expr} → OneOf (λ other. other ≡ d) (outer_parts (layer e)) → StandsOutside block d → StandsOutside block e
-
--- each query, reading of a table, update and deletion that stands so in an instance is one of the sites
-abbrev pub SitesFoundLaw : Type 0
-SitesFoundLaw = (g : GroundProgram) (fun : ℕ) (f : GroundFun) → slice_get g.funs fun ≡ Some f → (block : Expr) → StandsOutside block (language.function_of f).body → is_site (layer block) ≡ true
-    → OneOf (λ site. (site.fun ≡ fun) × (site.block ≡ block)) (sites_of g)
-
--- their labels rise, in the order in which they are listed, so that none is listed twice
-abbrev pub SitesOrderLaw : Type 0
-SitesOrderLaw = (g : GroundProgram) → IsStrictlyIncreasing (map (λ (site : Site). site.label) (sites_of g))

@@ -1,29 +1,28 @@
 //! What stands at the place of a query, a reading of a table, an update or a deletion.
 
+ghost use Rattle.lk_bodies.specs.Nodes.{query_nodes};
+ghost use Rattle.lk_bodies.specs.Shapes.{labels};
+ghost use Rattle.lk_bodies.specs.Walk.{table};
 ghost use Rattle.lk_index.specs.Free.{texts};
 ghost use Rattle.lk_inline.specs.Inlined.{change_at, first_columns, inlined_at, key_of, query_at, table_labels};
-ghost use Rattle.lk_inline.specs.Nodes.{query_nodes};
-ghost use Rattle.lk_inline.specs.Shapes.{labels};
-ghost use Rattle.lk_inline.specs.SiteSeen.{shown};
-ghost use Rattle.lk_inline.specs.Walk.{table};
 ghost use Rattle.lk_inline.specs.declared.error.InlineError.TheVariants as errors;
 ghost use Rattle.lk_query.specs.declared.query.Inlined.TheVariants as inlined;
+ghost use Rattle.lk_sites.specs.SiteSeen.{shown};
 ghost use Rattle.lk_sound.specs.Tables.{table_at};
 ghost use Rattle.std.specs.Option.{option_copied};
 ghost use Rattle.std.specs.Prelude.{◌≡◌, ◌≤◌, ◌<◌, ◌∷◌, [], drop, map, IfErr, IfOk, Some};
 
-use crate::captured::{bound_parts, captured_at, numbered};
 use crate::error::InlineError;
-use crate::nodes::count_nodes;
-use crate::shapes::element_columns;
-use crate::site::QuerySite;
-use crate::uses::{change_uses, query_uses};
-use crate::walk::{Over, Walked, expr, fields, labelled, table};
 use lk_ast::{ChangeExpr, Column, Expr, List, NoMemory, Node, SortKey, TableDef, Text, Word};
 use lk_bag::table_defs;
+use lk_bodies::{
+    Over, Walked, bound_parts, captured_at, change_uses, count_nodes, element_columns, labelled,
+    numbered, query_uses, table, walk_expr, walk_fields,
+};
 use lk_ground::GroundProgram;
 use lk_index::{Index, captured_change, captured_query};
 use lk_query::{Inlined, InlinedChange, OrderedParts, Query};
+use lk_sites::QuerySite;
 use lk_sql::Key;
 use lk_types::Ground;
 use std::alloc::Global;
@@ -31,9 +30,6 @@ use std::marker::Model;
 
 /// How many nodes a query may have, with the bodies of what it calls.
 const NODES: u32 = 65_536;
-
-/// How deep parts and calls may stand in one another, each of which takes a piece of the stack.
-const ROOM: usize = 2048;
 
 /// A ground program with its functions by name and its tables. Contracts see the ground program that it was made of.
 #[derive(Drop)]
@@ -128,7 +124,7 @@ impl<'g, 'p> Inliner<'g, 'p> {
         };
         let over = self.over(alloc);
         let calls = self.index.function_count();
-        let root = expr(&over, calls, ROOM, body, &mut numbers, &mut walked)?;
+        let root = walk_expr(&over, calls, body, &mut numbers, &mut walked)?;
         let parts = OrderedParts::new(walked.parts);
         let columns = first_columns(alloc, site.types)?;
         let keys = keys_of(alloc, keys)?;
@@ -162,9 +158,9 @@ impl<'g, 'p> Inliner<'g, 'p> {
         };
         let over = self.over(alloc);
         let calls = self.index.function_count();
-        let cond = expr(&over, calls, ROOM, &change.cond, &mut numbers, &mut walked)?;
+        let cond = walk_expr(&over, calls, &change.cond, &mut numbers, &mut walked)?;
         let sets = change.sets.as_slice();
-        let set = fields(&over, calls, ROOM, sets, &mut numbers, &mut walked)?;
+        let set = walk_fields(&over, calls, sets, &mut numbers, &mut walked)?;
         let sets = labelled(alloc, sets, set.as_slice())?;
         let labels = table_labels(alloc, self.table(&change.table.text))?;
         let parts = OrderedParts::new(walked.parts);

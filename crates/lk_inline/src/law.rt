@@ -1,6 +1,6 @@
 //! The laws of inlining.
 
-ghost use Rattle.lk_inline.specs.Law.{BlockLaw, CapturedLaw, KindsLaw, SitesFoundLaw, SitesLaw, SitesOrderLaw, TypesLaw};
+ghost use Rattle.lk_inline.specs.Law.{BlockLaw, CapturedLaw, KindsLaw, TypesLaw};
 
 /// The laws of inlining for those who inline blocks of a program, as facts. A call does nothing.
 ///
@@ -17,18 +17,9 @@ ghost use Rattle.lk_inline.specs.Law.{BlockLaw, CapturedLaw, KindsLaw, SitesFoun
 /// program has a column.
 ///
 /// `types`: in the functions and the helpers of a ground program all types have them in order.
-///
-/// `sites`: each site of a ground program is a block of the program's text, typed in an instance, and has its label.
-///
-/// `found`: each query, reading of a table, update and deletion that stands in an instance outside of others is one.
-///
-/// `ordered`: the labels of the sites rise as these are listed, so that each is listed once.
 pub fn inline_laws()
     ensures blocks { BlockLaw }
     ensures captured { CapturedLaw }
     ensures kinds { KindsLaw }
     ensures types { TypesLaw }
-    ensures sites { SitesLaw }
-    ensures found { SitesFoundLaw }
-    ensures ordered { SitesOrderLaw }
 {}

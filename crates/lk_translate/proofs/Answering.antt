@@ -9,11 +9,9 @@ use Rattle.lk_ast.specs.declared.expression.Node.TheOpen.{Node-F}
 use Rattle.lk_ast.specs.declared.table.Row.{Row}
 use Rattle.lk_bag.specs.Legal.{bag, keys_at}
 use Rattle.lk_ground.specs.declared.program.GroundProgram.{GroundProgram}
-use Rattle.lk_inline.specs.Blocks.{IsBlock}
 use Rattle.lk_inline.specs.Inlined.{change_at, inlined_at, inlined_by, key_of, query_at, reading_at}
 use Rattle.lk_inline.specs.Law.{BlockLaw, IsProperType, Keeps, KeepsBag}
 use Rattle.lk_inline.specs.Law as keeps
-use Rattle.lk_inline.specs.Sites.{Site}
 use Rattle.lk_mono.specs.Instanced.{HasInstances}
 use Rattle.lk_names.specs.Programs.{IsBound}
 use Rattle.lk_norm.specs.Law.{PermutedLaw}
@@ -23,6 +21,8 @@ use Rattle.lk_query.specs.Given.{gives}
 use Rattle.lk_query.specs.declared.query.Inlined.{Inlined}
 use Rattle.lk_query.specs.declared.query.Inlined.TheVariants as inlined
 use Rattle.lk_query.specs.declared.query.Query.{Query}
+use Rattle.lk_sites.specs.Blocks.{IsBlock}
+use Rattle.lk_sites.specs.Sites.{Site}
 use Rattle.lk_sound.specs.Instances.{Instances}
 use Rattle.lk_sql.specs.Keys as sql
 use Rattle.lk_sql.specs.Meaning.{all_rows, no_rows}

@@ -11,7 +11,6 @@ use Rattle.lk_ground.specs.declared.program.GroundProgram.{GroundProgram}
 use Rattle.lk_inline.specs.Inlined.{change_at, inlined_at, inlined_by, table_labels}
 use Rattle.lk_inline.specs.Law.{BlockLaw, HasKinds, Keeps, KeepsRows, KeepsTest, KindsLaw}
 use Rattle.lk_inline.specs.Law as inline
-use Rattle.lk_inline.specs.Sites.{Site}
 use Rattle.lk_norm.specs.Law.{HasColumns}
 use Rattle.lk_norm.specs.Law as norm
 use Rattle.lk_query.specs.Captured.{leaves}
@@ -19,6 +18,7 @@ use Rattle.lk_query.specs.Changed.{ReadNoTable}
 use Rattle.lk_query.specs.declared.query.Inlined.{Inlined}
 use Rattle.lk_query.specs.declared.query.Inlined.TheVariants as inlined
 use Rattle.lk_query.specs.declared.query.InlinedChange.{InlinedChange}
+use Rattle.lk_sites.specs.Sites.{Site}
 use Rattle.lk_sound.specs.Tables.{table_at}
 use Rattle.lk_translate.proofs.Columns.{has_columns}
 use Rattle.lk_translate.specs.Law.{ChangeLaw, ChangesLegally, ChangesTo, ChangesWhere}

@@ -9,9 +9,9 @@ use Rattle.lk_ast.specs.declared.table.Cell.{Cell}
 use Rattle.lk_ast.specs.declared.table.Column.{Column}
 use Rattle.lk_ast.specs.declared.table.Row.{Row}
 use Rattle.lk_ast.specs.declared.table.TableDef.{TableDef}
+use Rattle.lk_bodies.specs.Shapes.{labels}
 use Rattle.lk_inline.proofs.LabelOrder.{distinct_test}
 use Rattle.lk_inline.proofs.PutFields.{entry_labels, sorted_distinct}
-use Rattle.lk_inline.specs.Shapes.{labels}
 use Rattle.lk_inline.specs.Stands.{AreDistinct}
 use Rattle.lk_norm.specs.Law.{HasColumns}
 use Rattle.lk_sound.proofs.Bindings.{same_bytes}

@@ -3,12 +3,12 @@ use Rattle.std.proofs.Common.{◌≡◌, ℕ, ◌<◌, ◌≤◌, true, false, L
 use Rattle.std.proofs.lemmas.Bool.Decides.{nat_tests}
 use Rattle.lk_ast.specs.declared.declaration.Program.{Program}
 use Rattle.lk_ast.specs.declared.place.Span.{Span}
+use Rattle.lk_bodies.specs.Nodes.{query_nodes}
 use Rattle.lk_ground.specs.declared.program.GroundFun.{GroundFun}
 use Rattle.lk_ground.specs.declared.program.GroundProgram.{GroundProgram}
 use Rattle.lk_inline.specs.Inlined.{inlined_at}
-use Rattle.lk_inline.specs.Nodes.{query_nodes}
-use Rattle.lk_inline.specs.Sites.{Site}
 use Rattle.lk_query.specs.declared.query.Inlined.{Inlined}
+use Rattle.lk_sites.specs.Sites.{Site}
 use Rattle.lk_translate.specs.Translation.{code_of, first_of, fault_at, first_fault, inlined_code, inlined_fault, most_nodes, over, size_fault, translated_at}
 use Rattle.lk_translate.specs.Tried.{AreDone, Makes, MakesAt}
 use Rattle.lk_translate.specs.declared.block.Stop.{Stop}

@@ -3,12 +3,13 @@ use Rattle.std.proofs.Common.{◌≡◌, refl, ap, inl, inr, List, [], ◌∷◌
 use Rattle.lk_ast.specs.declared.declaration.Program.{Program}
 use Rattle.lk_ground.specs.declared.program.GroundProgram.{GroundProgram}
 use Rattle.lk_inline.specs.Inlined.{inlined_at}
-use Rattle.lk_inline.specs.Law.{AreProper, IsProperType, IsSiteOf, SitesLaw, TypesLaw}
-use Rattle.lk_inline.specs.Sites.{Site, sites_of}
+use Rattle.lk_inline.specs.Law.{AreProper, IsProperType, TypesLaw}
 use Rattle.lk_mono.specs.Instanced.{HasInstances}
 use Rattle.lk_names.specs.Programs.{IsBound}
 use Rattle.lk_query.specs.declared.query.Inlined.{Inlined}
 use Rattle.lk_query.specs.declared.query.Inlined.TheVariants as inlined
+use Rattle.lk_sites.specs.Law.{IsSiteOf, SitesLaw}
+use Rattle.lk_sites.specs.Sites.{Site, sites_of}
 use Rattle.lk_translate.proofs.SiteTypes.{HaveTypes, sites_have}
 use Rattle.lk_translate.specs.Law.{AnswerLaw, ChangeLaw, GoodLaw, IsLegal, IsMeant, TranslationLaw}
 use Rattle.lk_translate.specs.Translation.{code_of, inlined_code, translated_at}

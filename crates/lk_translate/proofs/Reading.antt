@@ -19,6 +19,8 @@ use Rattle.lk_ast.specs.declared.value.Value.TheOpen.{Value-F}
 use Rattle.lk_ast.specs.declared.value.Value.TheVariants as value
 use Rattle.lk_bag.specs.Bag.{gives, items}
 use Rattle.lk_bag.specs.Legal.{bag, bag_by, captured_by}
+use Rattle.lk_bodies.specs.Captured.{captured_as, captured_at}
+use Rattle.lk_bodies.specs.Uses.{query_uses}
 use Rattle.lk_ground.specs.declared.program.GroundProgram.{GroundProgram}
 use Rattle.lk_index.specs.Free.{captured_query, free}
 use Rattle.lk_inline.proofs.BlockForms.{IsQueryAlone, IsTableBlock, query_alone, query_block, table_block}
@@ -26,17 +28,16 @@ use Rattle.lk_inline.proofs.BlockNames.{captured_are}
 use Rattle.lk_inline.proofs.BlockValues.{captured_fit}
 use Rattle.lk_inline.proofs.QueryTypes.{list_rows, rows_flat}
 use Rattle.lk_inline.proofs.UsesTyped.{uses_typed}
-use Rattle.lk_inline.specs.Blocks.{IsBlock}
-use Rattle.lk_inline.specs.Inlined.{captured_as, captured_at, inlined_by, key_of, query_at, reading_at}
-use Rattle.lk_inline.specs.Sites.{Site}
+use Rattle.lk_inline.specs.Inlined.{inlined_by, key_of, query_at, reading_at}
 use Rattle.lk_inline.specs.Stands.{row_labels}
-use Rattle.lk_inline.specs.Uses.{query_uses}
 use Rattle.lk_locals.specs.Names.{Names, bind_each, no_names}
 use Rattle.lk_mono.specs.Instanced.{HasInstances}
 use Rattle.lk_names.specs.Programs.{IsBound}
 use Rattle.lk_query.specs.Captured.{AreCaptured}
 use Rattle.lk_query.specs.declared.query.Captured.{Captured}
 use Rattle.lk_scope.specs.Names as scope
+use Rattle.lk_sites.specs.Blocks.{IsBlock}
+use Rattle.lk_sites.specs.Sites.{Site}
 use Rattle.lk_sound.proofs.Apart.{ordered_apart}
 use Rattle.lk_sound.proofs.Bags.{all_early, bag_fits}
 use Rattle.lk_sound.proofs.Calls.{kept_fit}

@@ -6,8 +6,8 @@ use Rattle.lk_ast.specs.declared.expression.Node.TheOpen.{Node-F}
 use Rattle.lk_ground.specs.Language.{function_of}
 use Rattle.lk_ground.specs.declared.program.GroundFun.{GroundFun}
 use Rattle.lk_ground.specs.declared.program.GroundProgram.{GroundProgram}
-use Rattle.lk_inline.proofs.Visiting.{insides_level, visit_level}
-use Rattle.lk_inline.specs.Sites.{Site, Tour, all, at_node, behind_node, entered, in_instance, in_instances, is_closed, sites_of, start, visit}
+use Rattle.lk_sites.proofs.Visiting.{insides_level, visit_level}
+use Rattle.lk_sites.specs.Sites.{Site, Tour, all, at_node, behind_node, entered, in_instance, in_instances, is_closed, sites_of, start, visit}
 use Rattle.lk_sound.proofs.Inside.{by_insides, insides}
 use Rattle.lk_types.specs.Each.{Each}
 use Rattle.lk_types.specs.declared.ground.Ground.{Ground}

@@ -14,10 +14,8 @@ use Rattle.lk_bag.specs.Change.{is_met, updated}
 use Rattle.lk_bag.specs.Legal as legal
 use Rattle.lk_bag.specs.Legal.{names_in}
 use Rattle.lk_ground.specs.declared.program.GroundProgram.{GroundProgram}
-use Rattle.lk_inline.specs.Blocks.{IsBlock}
 use Rattle.lk_inline.specs.Inlined.{inlined_at}
 use Rattle.lk_inline.specs.Law.{AreProper, HaveColumns, IsProperType}
-use Rattle.lk_inline.specs.Sites.{Site, sites_of}
 use Rattle.lk_mono.specs.Grounded.{IsGrounded}
 use Rattle.lk_mono.specs.Instanced.{HasInstances}
 use Rattle.lk_names.specs.Programs.{IsBound}
@@ -27,6 +25,8 @@ use Rattle.lk_query.specs.declared.query.Inlined.{Inlined}
 use Rattle.lk_query.specs.declared.query.Inlined.TheVariants as inlined
 use Rattle.lk_query.specs.declared.query.InlinedChange.{InlinedChange}
 use Rattle.lk_query.specs.declared.query.Query.{Query}
+use Rattle.lk_sites.specs.Blocks.{IsBlock}
+use Rattle.lk_sites.specs.Sites.{Site, sites_of}
 use Rattle.lk_sound.specs.Tables.{AreTables, table_at}
 use Rattle.lk_sql.specs.Change as sql
 use Rattle.lk_sql.specs.Good.{is_good_change, is_good_sql}

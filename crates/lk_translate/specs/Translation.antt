@@ -2,16 +2,16 @@
 use Rattle.std.specs.Prelude.{◌≡◌, ℕ, List, [], ◌∷◌, Option, Some, None, map, nat_le, nat_lt, option_and_then, option_map, if◌then◌else◌}
 use Rattle.lk_ast.specs.declared.declaration.Program.{Program}
 use Rattle.lk_ast.specs.declared.place.Span.{Span}
+use Rattle.lk_bodies.specs.Nodes.{query_nodes}
 use Rattle.lk_ground.specs.declared.program.GroundFun.{GroundFun}
 use Rattle.lk_ground.specs.declared.program.GroundProgram.{GroundProgram}
 use Rattle.lk_inline.specs.Inlined.{inlined_at}
-use Rattle.lk_inline.specs.Nodes.{query_nodes}
-use Rattle.lk_inline.specs.Sites.{Site, sites_of}
 use Rattle.lk_norm.specs.Changes.{change_bytes, most_bytes}
 use Rattle.lk_norm.specs.Limits.{branch_count, sql_length}
 use Rattle.lk_norm.specs.Sql.{change_sql, query_sql}
 use Rattle.lk_query.specs.declared.query.Inlined.{Inlined}
 use Rattle.lk_query.specs.declared.query.Inlined.TheVariants as inlined
+use Rattle.lk_sites.specs.Sites.{Site, sites_of}
 use Rattle.lk_translate.specs.declared.error.Size.{Size}
 use Rattle.lk_translate.specs.declared.error.Size.TheVariants.{Nodes, Branches, Text}
 use Rattle.lk_translate.specs.declared.translated.Code.{Code}

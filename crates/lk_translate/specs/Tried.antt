@@ -1,9 +1,9 @@
 -- What the code makes of sites.
 use Rattle.std.specs.Prelude.{◌≡◌, List, [], ◌∷◌, ◌++◌, Option, Some, None, Result, Ok, Err, map}
 use Rattle.lk_ground.specs.declared.program.GroundProgram.{GroundProgram}
-use Rattle.lk_inline.specs.Sites.{Site}
 use Rattle.lk_norm.specs.declared.error.NormError.{NormError}
 use Rattle.lk_norm.specs.declared.error.NormError.TheVariants as norm
+use Rattle.lk_sites.specs.Sites.{Site}
 use Rattle.lk_translate.specs.Translation.{code_of, first_fault, size_fault, translated_at}
 use Rattle.lk_translate.specs.declared.block.Stop.{Stop}
 use Rattle.lk_translate.specs.declared.block.Stop.TheVariants as stop

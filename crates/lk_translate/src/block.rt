@@ -1,6 +1,6 @@
 //! One query, reading of a table, update or deletion in SQL.
 
-ghost use Rattle.lk_inline.specs.SiteSeen.{shown};
+ghost use Rattle.lk_sites.specs.SiteSeen.{shown};
 ghost use Rattle.lk_translate.specs.Tried.{Makes, MakesAt, stop_of};
 ghost use Rattle.lk_translate.specs.Translation.{inlined_code, inlined_fault};
 ghost use Rattle.lk_translate.specs.declared.block.Stop.TheVariants as stop;
@@ -9,9 +9,10 @@ ghost use Rattle.std.specs.Prelude.{◌≡◌, Some};
 use crate::error::Size;
 use crate::translated::Code;
 use lk_ast::NoMemory;
-use lk_inline::{InlineError, Inliner, QuerySite};
+use lk_inline::{InlineError, Inliner};
 use lk_norm::{NormError, change, normalise};
 use lk_query::Inlined;
+use lk_sites::QuerySite;
 use std::alloc::Global;
 
 /// Why there is no SQL for what stands at a site.

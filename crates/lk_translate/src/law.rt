@@ -4,6 +4,7 @@ ghost use Rattle.lk_translate.specs.Law.{AnswerLaw, ChangeLaw, GoodLaw, Translat
 
 use lk_inline::inline_laws;
 use lk_norm::normal_form_laws;
+use lk_sites::sites_laws;
 
 /// The laws for those who let a database answer queries and change tables, as facts. A call does nothing.
 ///
@@ -21,6 +22,7 @@ pub fn translate_laws()
     ensures good { GoodLaw }
     ensures translated { TranslationLaw }
 {
+    sites_laws();
     inline_laws();
     normal_form_laws();
 }

@@ -1,6 +1,6 @@
 //! The SQL of a ground program.
 
-ghost use Rattle.lk_inline.specs.SiteSeen.{shown};
+ghost use Rattle.lk_sites.specs.SiteSeen.{shown};
 ghost use Rattle.lk_translate.specs.Tried.{Adds, AreDone};
 ghost use Rattle.lk_translate.specs.Translation.{AreTranslated, IsFirstFault};
 ghost use Rattle.lk_translate.specs.declared.error.Size.{Size as TheSize};
@@ -14,7 +14,8 @@ use crate::error::{Size, TranslateError};
 use crate::translated::Translated;
 use lk_ast::{List, NoMemory, Span};
 use lk_ground::GroundProgram;
-use lk_inline::{Inliner, QuerySite, query_sites};
+use lk_inline::Inliner;
+use lk_sites::{QuerySite, query_sites};
 use std::alloc::Global;
 
 /// What came of the sites so far: each of them in SQL, or the refusal of the first that is too large.

@@ -1,5 +1,5 @@
 use Rattle.std.proofs.Common.{◌≡◌, take}
-use Rattle.lk_inline.specs.Shapes.{labels}
+use Rattle.lk_bodies.specs.Shapes.{labels}
 use Rattle.lk_inline.proofs.inline.labels.Given as goal
 
 abbrev pub invariant-loop-column : goal.invariant-loop-column

@@ -1,11 +1,8 @@
 use Rattle.lk_inline.proofs.LawBlocks.{blocks-kept}
 use Rattle.lk_inline.proofs.LawCaptured.{blocks-capture}
 use Rattle.lk_inline.proofs.LawKinds.{kinds-had}
-use Rattle.lk_inline.proofs.SitesFound.{sites_found}
-use Rattle.lk_inline.proofs.SitesOrder.{sites_rise}
-use Rattle.lk_inline.proofs.SitesTyped.{sites_typed}
 use Rattle.lk_inline.proofs.TypesOfInstances.{types-proper}
 use Rattle.lk_inline.proofs.law.inline_laws.Goals as goal
 
 pub returns : goal.returns
-returns c = record { blocks = blocks-kept; captured = blocks-capture; kinds = kinds-had; types = types-proper; sites = sites_typed; found = sites_found; ordered = sites_rise }
+returns c = record { blocks = blocks-kept; captured = blocks-capture; kinds = kinds-had; types = types-proper }

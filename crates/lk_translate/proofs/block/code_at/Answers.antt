@@ -1,4 +1,4 @@
-use Rattle.lk_inline.specs.SiteSeen.{shown}
+use Rattle.lk_sites.specs.SiteSeen.{shown}
 use Rattle.lk_translate.proofs.Faults.{site_made, too_many}
 use Rattle.lk_translate.proofs.block.code_at.Goals as goal
 

@@ -19,4 +19,4 @@ returns-clause-translated c =
     let answers : AnswerLaw = answered-legally c.inline_laws.ensures.blocks c.normal_form_laws.ensures.permuted in
     let changes : ChangeLaw = changed-legally c.inline_laws.ensures.blocks c.inline_laws.ensures.kinds c.normal_form_laws.ensures.changed_over in
     let good : GoodLaw = well-formed c.inline_laws.ensures.kinds c.normal_form_laws.ensures.good c.normal_form_laws.ensures.good_change in
-    translated-meant answers changes good c.inline_laws.ensures.sites c.inline_laws.ensures.types
+    translated-meant answers changes good c.sites_laws.ensures.sites c.inline_laws.ensures.types

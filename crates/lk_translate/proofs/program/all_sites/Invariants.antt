@@ -1,5 +1,5 @@
 use Rattle.std.proofs.Common.{map, take}
-use Rattle.lk_inline.specs.SiteSeen.{shown}
+use Rattle.lk_sites.specs.SiteSeen.{shown}
 use Rattle.lk_translate.specs.Tried.{AreDone}
 use Rattle.lk_translate.proofs.program.all_sites.Given as goal
 

@@ -1,5 +1,5 @@
 use Rattle.std.proofs.Common.{[], ◌∷◌, ◌++◌, Err, sym, subst}
-use Rattle.lk_inline.specs.SiteSeen.{shown}
+use Rattle.lk_sites.specs.SiteSeen.{shown}
 use Rattle.lk_translate.proofs.Faults.{one_made, one_refused}
 use Rattle.lk_translate.specs.Tried.{AreDone, MakesAt}
 use Rattle.lk_translate.specs.declared.program.Progress.TheVariants as progress

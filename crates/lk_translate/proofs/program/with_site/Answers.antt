@@ -1,5 +1,5 @@
 use Rattle.std.proofs.Common.{subst}
-use Rattle.lk_inline.specs.SiteSeen.{shown}
+use Rattle.lk_sites.specs.SiteSeen.{shown}
 use Rattle.lk_translate.proofs.Faults.{one_behind}
 use Rattle.lk_translate.specs.Tried.{AreDone}
 use Rattle.lk_translate.proofs.program.with_site.Goals as goal

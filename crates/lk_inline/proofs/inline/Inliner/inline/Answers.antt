@@ -1,7 +1,7 @@
 use Rattle.std.proofs.Common.{ap, not, ◌∙◌}
+use Rattle.lk_bodies.specs.Nodes.{query_nodes}
 use Rattle.lk_ground.specs.declared.program.GroundProgram.{GroundProgram}
 use Rattle.lk_inline.proofs.Counting.{enough, too_many}
-use Rattle.lk_inline.specs.Nodes.{query_nodes}
 use Rattle.lk_inline.proofs.inline.Inliner.inline.Goals as goal
 
 pub returns-then-is_none-clause-too_many : goal.returns-then-is_none-clause-too_many

@@ -1,0 +1,5 @@
+pub mod Filling
+pub mod Levels
+pub mod NodeCounts
+pub mod UseLevels
+pub mod UsesLevels

@@ -1,0 +1,9 @@
+pub mod Captured
+pub mod CapturedSeen
+pub mod Nodes
+pub mod NodesInside
+pub mod Shapes
+pub mod Uses
+pub mod UsesSeen
+pub mod Walk
+pub mod Walked

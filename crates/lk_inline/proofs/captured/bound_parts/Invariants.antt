@@ -1,7 +1,0 @@
-use Rattle.std.proofs.Common.{◌≡◌, take}
-use Rattle.lk_index.specs.Free.{texts}
-use Rattle.lk_inline.specs.Inlined.{bound_parts}
-use Rattle.lk_inline.proofs.captured.bound_parts.Given as goal
-
-abbrev pub invariant-loop-name : goal.invariant-loop-name
-invariant-loop-name l = l.parts ≡ bound_parts (texts (take l._name-index l.names))

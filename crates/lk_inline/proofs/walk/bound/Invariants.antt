@@ -1,6 +1,0 @@
-use Rattle.std.proofs.Common.{◌≡◌, [], drop}
-use Rattle.lk_inline.specs.Walk.{bound}
-use Rattle.lk_inline.proofs.walk.bound.Given as goal
-
-abbrev pub invariant-loop-param : goal.invariant-loop-param
-invariant-loop-param l = bound l.names (drop l.param-index l.params) l.left ≡ bound [] l.params l.numbers

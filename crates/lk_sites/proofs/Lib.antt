@@ -1,0 +1,10 @@
+pub mod Passing
+pub mod SiteLabels
+pub mod SiteRests
+pub mod SiteTyping
+pub mod SitesFound
+pub mod SitesOrder
+pub mod SitesTyped
+pub mod Takes
+pub mod Touring
+pub mod Visiting
