@@ -7,8 +7,9 @@ use Rattle.lk_ast.specs.declared.expression.ChangeExpr.{ChangeExpr, out-ChangeEx
 use Rattle.lk_ast.specs.declared.expression.Expr.{Expr}
 use Rattle.lk_ast.specs.declared.expression.Node.TheOpen.{Node-F}
 use Rattle.lk_ast.specs.declared.place.Word.{Word}
-use Rattle.lk_bodies.proofs.UsesLevels.{behind_node, may_stand, own_use, plain_uses, uses_form, uses_in_change}
+use Rattle.lk_bodies.proofs.UsesLevels.{may_stand, own_use, plain_uses, uses_form, uses_in_change}
 use Rattle.lk_bodies.specs.Uses.{Used, all, change_uses, query_uses, uses}
+use Rattle.lk_bodies.specs.UsesSeen.{behind_type}
 use Rattle.lk_ground_types.specs.Shapes.{is_query_type}
 use Rattle.lk_index.specs.Free.{captured_change, captured_query, free, free_change}
 use Rattle.lk_inline.proofs.QueryTypes.{variant_not_flat}
@@ -92,7 +93,7 @@ module _ (functions : Named (Entry Ground)) (tables : List TableDecl) where
 
     -- behind the first node
     behind_first : {locals : Named Ground} {bound : List Label} (node : TypedNode) (nodes : List TypedNode) (words : List Label) (u w : Used) (calls : List ℕ) (q : Pending) → Takes helpers (node ∷ nodes) (pending u.types calls) q
-        → ((later : List ℕ) → Takes helpers nodes (pending (behind_node u).types later) q → AreFound locals bound words (behind_node u) q.types w) → AreFound locals bound words u q.types w
+        → ((later : List ℕ) → Takes helpers nodes (pending (behind_type u).types later) q → AreFound locals bound words (behind_type u) q.types w) → AreFound locals bound words u q.types w
     behind_first node nodes words u w calls q takes found =
         let first = takes_node helpers node nodes (pending u.types calls) q takes in
         behind_found refl (found first.calls (subst (λ ts. Takes helpers nodes (pending ts first.calls) q) (sym (ap (drop 1) first.own)) first.behind))
@@ -108,12 +109,12 @@ module _ (functions : Named (Entry Ground)) (tables : List TableDecl) where
 
     -- an expression, and then one in which a name is bound
     binder_found : {locals : Named Ground} {bound : List Label} (node : TypedNode) (xs ys : List TypedNode) (x : Word) (a : Ground) (d rest : Expr) (names : Names) (u : Used) (calls : List ℕ) (q : Pending) → Takes helpers (node ∷ (xs ++ ys)) (pending u.types calls) q
-        → ((later : List ℕ) (r : Pending) → Takes helpers xs (pending (behind_node u).types later) r → AreFound locals bound (free d names) (behind_node u) r.types (uses d bound (behind_node u)))
+        → ((later : List ℕ) (r : Pending) → Takes helpers xs (pending (behind_type u).types later) r → AreFound locals bound (free d names) (behind_type u) r.types (uses d bound (behind_type u)))
         → ((v : Used) (later : List ℕ) → Takes helpers ys (pending v.types later) q → AreFound ((x.text, a) ∷ locals) (x.text ∷ bound) (free rest (bind x names)) v q.types (uses rest (x.text ∷ bound) v))
-        → AreFound locals bound (free d names ++ free rest (bind x names)) u q.types (uses rest (x.text ∷ bound) (uses d bound (behind_node u)))
+        → AreFound locals bound (free d names ++ free rest (bind x names)) u q.types (uses rest (x.text ∷ bound) (uses d bound (behind_type u)))
     binder_found {bound = bound} node xs ys x a d rest names u calls q takes one next =
         behind_first node (xs ++ ys) (free d names ++ free rest (bind x names)) u _ calls q takes
-        (λ later takes. two_found xs ys (free d names) (free rest (bind x names)) (uses d bound) (uses rest (x.text ∷ bound)) (behind_node u) later q takes (one later) (λ v later takes. outside_found x.text a (next v later takes)))
+        (λ later takes. two_found xs ys (free d names) (free rest (bind x names)) (uses d bound) (uses rest (x.text ∷ bound)) (behind_type u) later q takes (one later) (λ v later takes. outside_found x.text a (next v later takes)))
 
     mutual
       unfolding nodes_of
@@ -122,28 +123,28 @@ module _ (functions : Named (Entry Ground)) (tables : List TableDecl) where
           → (bound : List Label) (names : Names) → AreBound names bound → (u : Used) (calls : List ℕ) (q : Pending) → Takes helpers (nodes_of flag d) (pending u.types calls) q → AreFound locals bound (free e names) u q.types (uses e bound u)
       expr_found {effects = effects} {locals = locals} {e = e} {t = t} flag (plain h ts is have by) own traps flat bound names are u calls q takes =
           let first = takes_node helpers _ (each_nodes flag have) (pending u.types calls) q takes in
-          let own_is = own_found locals bound effects h ts t by u.types first.types first.own names are (behind_node u) in
-          let v : Used = own_use (Some h) u.types bound (behind_node u) in
+          let own_is = own_found locals bound effects h ts t by u.types first.types first.own names are (behind_type u) in
+          let v : Used = own_use (Some h) u.types bound (behind_type u) in
           these_found (free_plain e h names is) (plain_uses e h is (stands locals effects h ts t own traps flat.0 by) bound u) (behind_first _ (each_nodes flag have) _ u _ calls q takes
           (λ later takes. both_found own_is (exprs_found flag have own traps flat.1 bound names are v later q (subst (λ ts. Takes helpers (each_nodes flag have) (pending ts later) q) (sym own_is.types_left) takes))))
       expr_found {effects = effects} flag (lambda l params own_effects a is named moves body local) own traps flat bound names are u calls q takes = absurd (never_both (effects effect.Local) own local)
       expr_found {e = e} flag (var x d rest a first last is one next) own traps flat bound names are u calls q takes =
           these_found (free_var e x d rest names is) (uses_form e (Node-F.Var x d rest) is bound u) (binder_found _ (nodes_of flag one) (nodes_of flag next) x a d rest names u calls q takes
-          (λ later r takes. expr_found flag one own traps (front_nodes (nodes_of flag one) (nodes_of flag next) flat.1) bound names are (behind_node u) later r takes)
+          (λ later r takes. expr_found flag one own traps (front_nodes (nodes_of flag one) (nodes_of flag next) flat.1) bound names are (behind_type u) later r takes)
           (λ v later takes. expr_found flag next own traps (back_nodes (nodes_of flag one) (nodes_of flag next) flat.1) (x.text ∷ bound) (bind x names) (one_bound x names bound are) v later q takes))
       expr_found {effects = effects} flag (switch d cases row tags ts first bodies is one have same made local) own traps flat bound names are u calls q takes = absurd (never_both (effects effect.Local) own local)
       expr_found {effects = effects} flag (switch_open d cases last rest row tags ts first bodies inside is one have same next made local) own traps flat bound names are u calls q takes = absurd (never_both (effects effect.Local) own local)
       expr_found {e = e} flag (for_list x d body a b first inside is one next) own traps flat bound names are u calls q takes =
           these_found (free_for_list e x d body names is) (uses_form e (Node-F.ForList x d body) is bound u) (binder_found _ (nodes_of flag one) (nodes_of flag next) x a d body names u calls q takes
-          (λ later r takes. expr_found flag one own traps (front_nodes (nodes_of flag one) (nodes_of flag next) flat.1) bound names are (behind_node u) later r takes)
+          (λ later r takes. expr_found flag one own traps (front_nodes (nodes_of flag one) (nodes_of flag next) flat.1) bound names are (behind_type u) later r takes)
           (λ v later takes. expr_found flag next own traps (back_nodes (nodes_of flag one) (nodes_of flag next) flat.1) (x.text ∷ bound) (bind x names) (one_bound x names bound are) v later q takes))
       expr_found {e = e} flag (for_table x d body a b first inside is one next) own traps flat bound names are u calls q takes =
           these_found (free_for_table e x d body names is) (uses_form e (Node-F.ForTable x d body) is bound u) (binder_found _ (nodes_of flag one) (nodes_of flag next) x a d body names u calls q takes
-          (λ later r takes. expr_found flag one own traps (front_nodes (nodes_of flag one) (nodes_of flag next) flat.1) bound names are (behind_node u) later r takes)
+          (λ later r takes. expr_found flag one own traps (front_nodes (nodes_of flag one) (nodes_of flag next) flat.1) bound names are (behind_type u) later r takes)
           (λ v later takes. expr_found flag next own traps (back_nodes (nodes_of flag one) (nodes_of flag next) flat.1) (x.text ∷ bound) (bind x names) (one_bound x names bound are) v later q takes))
       expr_found {e = e} flag (query keys body a inside is one sorted scans marked) own traps flat bound names are u calls q takes =
           these_found (free_query e keys body names is) (uses_form e (Node-F.Query keys body) is bound u) (behind_first _ (nodes_of true one) _ u _ calls q takes
-          (λ later takes. expr_found true one refl refl flat.1 bound names are (behind_node u) later q takes))
+          (λ later takes. expr_found true one refl refl flat.1 bound names are (behind_type u) later q takes))
       expr_found flag (update change is changes writes) own traps flat bound names are u calls q takes = absurd (unit_not_flat flat.0)
       expr_found flag (delete change is changes writes) own traps flat bound names are u calls q takes = absurd (unit_not_flat flat.0)
 

@@ -7,6 +7,7 @@ ghost use Rattle.lk_norm.specs.Sql.{change_sql};
 ghost use Rattle.std.specs.Prelude.{◌≡◌, ◌≤◌, IfErr, IfOk};
 
 use crate::error::NormError;
+use crate::limits::{MOST_BYTES, ROOM};
 use crate::names::Scope;
 use crate::over::Over;
 use crate::scalars::scalar;
@@ -15,9 +16,6 @@ use lk_ast::List;
 use lk_query::{InlinedChange, Labelled};
 use lk_sql::{Change, Out};
 use std::alloc::Global;
-
-/// The most bytes that the texts of the scalars of a change may have together.
-const MOST_BYTES: u64 = 1_048_576;
 
 /// The SQL of an update or a deletion. `SqlTooLong` exactly where the texts of its scalars together have over 1,048,576 bytes,
 /// and `Branches` never.
@@ -45,7 +43,7 @@ fn change_within(alloc: Global, change: &InlinedChange, left: &mut u64) -> Resul
     Ok(change_in(&over, change, &scope, left)?)
 }
 
-/// The same by what names stand for. There is room for 1,024 parts in one another.
+/// The same by what names stand for.
 fn change_in(
     over: &Over,
     change: &InlinedChange,
@@ -54,7 +52,7 @@ fn change_in(
 ) -> Result<Change, Stop>
     ensures { MakesChange result left.new (change_of over.now change.now (names_in over.now scope.now)) left.old }
 {
-    let cond = scalar(over, 1_024, change.cond, 1, scope, left)?;
+    let cond = scalar(over, ROOM, change.cond, 1, scope, left)?;
     let sets = sets(over, change.sets.as_slice(), scope, left)?;
     Ok(Change { cond, sets })
 }
@@ -65,7 +63,7 @@ fn sets(over: &Over, items: &[Labelled], scope: &Scope, left: &mut u64) -> Resul
 {
     let mut sets = List::new(over.alloc);
     for item in items {
-        let scalar = scalar(over, 1_024, item.part, 1, scope, left)?;
+        let scalar = scalar(over, ROOM, item.part, 1, scope, left)?;
         let label = item.label.copy(over.alloc)?;
         sets.push(Out { label, scalar })?;
     }

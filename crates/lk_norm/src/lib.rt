@@ -14,6 +14,7 @@ mod changes;
 mod error;
 mod law;
 mod lengths;
+mod limits;
 mod names;
 mod over;
 mod places;

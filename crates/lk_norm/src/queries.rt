@@ -9,6 +9,7 @@ ghost use Rattle.std.specs.Prelude.{◌≡◌, ◌+◌, IfErr, IfOk, length};
 
 use crate::error::NormError;
 use crate::lengths::name_length;
+use crate::limits::{MOST_BRANCHES, MOST_BYTES, ROOM};
 use crate::names::Scope;
 use crate::over::Over;
 use crate::stop::{Stop, charge};
@@ -26,14 +27,14 @@ pub fn normalise(alloc: Global, query: &Query) -> Result<Sql, NormError>
     ensures refused { IfErr result (RefusedFor query.now) }
 {
     let over = Over::new(alloc, &query.parts)?;
-    if over.count(query.root) > 1_024 {
+    if over.count(query.root) > MOST_BRANCHES {
         return Err(NormError::Branches);
     }
     let captured = query.captured.as_slice();
     let columns = query.columns.as_slice();
     let keys = query.keys.as_slice();
     // 11 bytes more, since the first select takes those of a ` UNION ALL ` too.
-    let mut left = 1_048_576 + 11;
+    let mut left = MOST_BYTES + 11;
     match within(&over, query.root, captured, columns, keys, &mut left) {
         Ok(sql) => Ok(sql),
         Err(Stop::TooLong) => Err(NormError::SqlTooLong),
@@ -41,7 +42,7 @@ pub fn normalise(alloc: Global, query: &Query) -> Result<Sql, NormError>
     }
 }
 
-/// The SQL, if there are as many bytes. There is room for 1,024 parts in one another.
+/// The SQL, if there are as many bytes.
 #[tactic(auto, unfolding(crate::specs::Scopes::names_in))]
 fn within(
     over: &Over,
@@ -55,7 +56,7 @@ fn within(
 {
     charge(left, keys_length(keys)?)?;
     let scope = Scope::Captured(0, captured);
-    let selects = selects_of(over, 1_024, columns, root, 0, &scope, left)?;
+    let selects = selects_of(over, ROOM, columns, root, 0, &scope, left)?;
     let keys = copy_keys(over.alloc, keys)?;
     Ok(Sql { selects, keys })
 }

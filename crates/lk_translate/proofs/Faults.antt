@@ -10,67 +10,41 @@ use Rattle.lk_inline.specs.Inlined.{inlined_at}
 use Rattle.lk_query.specs.declared.query.Inlined.{Inlined}
 use Rattle.lk_sites.specs.Sites.{Site}
 use Rattle.lk_translate.specs.Translation.{code_of, first_of, fault_at, first_fault, inlined_code, inlined_fault, most_nodes, over, size_fault, translated_at}
-use Rattle.lk_translate.specs.Tried.{AreDone, Makes, MakesAt}
+use Rattle.lk_translate.specs.Tried.{AreMade, IsMade, Makes}
 use Rattle.lk_translate.specs.declared.block.Stop.{Stop}
 use Rattle.lk_translate.specs.declared.error.Size.{Size}
 use Rattle.lk_translate.specs.declared.error.Size.TheVariants.{Nodes}
-use Rattle.lk_translate.specs.declared.program.Progress.TheVariants as progress
 use Rattle.lk_translate.specs.declared.translated.Code.{Code}
 use Rattle.lk_translate.specs.declared.translated.Translated.{Translated}
 
-abbrev Fault : Type 0
-Fault = Size × Span
-
--- ---- of two refusals the first
-
-none_behind : (f : Option Fault) → first_of f None ≡ f
-none_behind None = refl
-none_behind (Some f) = refl
-
-first_assoc : (f g h : Option Fault) → first_of (first_of f g) h ≡ first_of f (first_of g h)
-first_assoc None g h = refl
-first_assoc (Some f) g h = refl
-
--- ---- one more site
+-- ---- one site behind others
 
 map_more : {A B : Type 0} (f : A → B) (xs : List A) (x : A) → map f (xs ++ x ∷ []) ≡ map f xs ++ f x ∷ []
 map_more f [] x = refl
 map_more f (y ∷ xs) x = ap (λ ys. f y ∷ ys) (map_more f xs x)
 
-module _ (p : Program) (helpers : List GroundFun) where
-  first_more : (sites : List Site) (site : Site) → first_fault p helpers (sites ++ site ∷ []) ≡ first_of (first_fault p helpers sites) (fault_at p helpers site)
-  first_more [] site = none_behind (fault_at p helpers site)
-  first_more (one ∷ sites) site =
-      ap (first_of (fault_at p helpers one)) (first_more sites site) ∙ sym (first_assoc (fault_at p helpers one) (first_fault p helpers sites) (fault_at p helpers site))
+-- of two refusals the first, where there is none before it
+first_behind : (f before whole rest : Option (Size × Span)) → first_of f before ≡ None → (before ≡ None → whole ≡ rest) → first_of f whole ≡ rest
+first_behind None before whole rest none later = later none
+first_behind (Some f) before whole rest none later = let wrong : Some f ≡ None = none in absurd cc
 
-  -- behind sites of which this is the refusal
-  first_behind : (sites : List Site) (site : Site) (first : Option Fault) (size : Option Size) → first_fault p helpers sites ≡ first → size_fault p helpers site ≡ size
-      → first_fault p helpers (sites ++ site ∷ []) ≡ first_of first (option_map (λ size. (size, site.block.span)) size)
-  first_behind sites site first size is own = first_more sites site ∙ ap₂ (λ f s. first_of f (option_map (λ size. (size, site.block.span)) s)) is own
+module _ (g : GroundProgram) where
+  abbrev first : List Site → Option (Size × Span)
+  first = first_fault g.program.now g.helpers
 
-  abbrev at_site : Site → Code → Translated
-  at_site site code = record { label = site.label; span = site.block.span; code = code }
+  none_before : (sites others : List Site) → first sites ≡ None → first (sites ++ others) ≡ first others
+  none_before [] others none = refl
+  none_before (site ∷ sites) others none = first_behind (fault_at g.program.now g.helpers site) (first sites) (first (sites ++ others)) (first others) none (none_before sites others)
 
-  each_more : (sites : List Site) (site : Site) (all : List Translated) (made : Code) → map Some all ≡ map (translated_at p helpers) sites → code_of p helpers site ≡ Some made
-      → map Some (all ++ record { label = site.label; span = site.block.span; code = made } ∷ []) ≡ map (translated_at p helpers) (sites ++ site ∷ [])
-  each_more sites site all made is own =
-      map_more Some all (record { label = site.label; span = site.block.span; code = made })
-      ∙ ap₂ (λ xs (code : Option Code). xs ++ option_map (at_site site) code ∷ []) is (sym own)
-      ∙ sym (map_more (translated_at p helpers) sites site)
+  pub one_more : (sites : List Site) (site : Site) (all : List Translated) (one : Translated) → AreMade g sites all → IsMade g site one → AreMade g (sites ++ site ∷ []) (all ++ one ∷ [])
+  one_more sites site all one before own = (
+    none_before sites (site ∷ []) before.0 ∙ ap (λ f. first_of f None) own.0,
+    map_more Some all one ∙ ap₂ (λ xs x. xs ++ x ∷ []) before.1 own.1 ∙ sym (map_more (translated_at g.program.now g.helpers) sites site),
+  )
 
--- ---- what comes of one more site
-
-module _ (g : GroundProgram) (sites : List Site) (site : Site) where
-  pub one_made : (all : List Translated) (made : Code) → MakesAt g site (Ok made) → AreDone g (progress.Translated all) sites
-      → AreDone g (progress.Translated (all ++ record { label = site.label; span = site.block.span; code = made } ∷ [])) (sites ++ site ∷ [])
-  one_made all made own done = (first_behind g.program.now g.helpers sites site None None done.0 own.0, each_more g.program.now g.helpers sites site all made done.1 own.1)
-
-  pub one_refused : (all : List Translated) (size : Size) → size_fault g.program.now g.helpers site ≡ Some size → AreDone g (progress.Translated all) sites → AreDone g (progress.Refused size site.block.span) (sites ++ site ∷ [])
-  one_refused all size own done = first_behind g.program.now g.helpers sites site None (Some size) done.0 own
-
-  -- nothing behind a refusal changes it
-  pub one_behind : (size : Size) (at : Span) → AreDone g (progress.Refused size at) sites → AreDone g (progress.Refused size at) (sites ++ site ∷ [])
-  one_behind size at done = first_behind g.program.now g.helpers sites site (Some (size, at)) (size_fault g.program.now g.helpers site) done refl
+  pub first_refused : (sites : List Site) (site : Site) (others : List Site) (all : List Translated) (fault : Size × Span) → AreMade g sites all → fault_at g.program.now g.helpers site ≡ Some fault
+      → first (sites ++ site ∷ others) ≡ Some fault
+  first_refused sites site others all fault before own = none_before sites (site ∷ others) before.0 ∙ ap (λ f. first_of f (first others)) own
 
 -- ---- one site
 

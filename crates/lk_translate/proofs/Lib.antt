@@ -5,5 +5,4 @@ pub mod Faults
 pub mod Meaning
 pub mod Ordering
 pub mod Reading
-pub mod SiteTypes
 pub mod WellFormed

@@ -1,17 +1,16 @@
 -- What the code makes of sites.
-use Rattle.std.specs.Prelude.{◌≡◌, List, [], ◌∷◌, ◌++◌, Option, Some, None, Result, Ok, Err, map}
+use Rattle.std.specs.Prelude.{◌≡◌, List, Option, Some, None, Result, Ok, Err, map}
 use Rattle.lk_ground.specs.declared.program.GroundProgram.{GroundProgram}
 use Rattle.lk_norm.specs.declared.error.NormError.{NormError}
 use Rattle.lk_norm.specs.declared.error.NormError.TheVariants as norm
 use Rattle.lk_sites.specs.Sites.{Site}
-use Rattle.lk_translate.specs.Translation.{code_of, first_fault, size_fault, translated_at}
+use Rattle.lk_translate.specs.Translation.{code_of, fault_at, first_fault, size_fault, translated_at}
 use Rattle.lk_translate.specs.declared.block.Stop.{Stop}
 use Rattle.lk_translate.specs.declared.block.Stop.TheVariants as stop
 use Rattle.lk_translate.specs.declared.error.Size.{Size}
 use Rattle.lk_translate.specs.declared.error.Size.TheVariants.{Branches, Text}
-use Rattle.lk_translate.specs.declared.program.Progress.{Progress}
-use Rattle.lk_translate.specs.declared.program.Progress.TheVariants as progress
 use Rattle.lk_translate.specs.declared.translated.Code.{Code}
+use Rattle.lk_translate.specs.declared.translated.Translated.{Translated}
 
 abbrev pub stop_of : NormError → Stop
 stop_of norm.Branches = stop.TooLarge Branches
@@ -28,11 +27,10 @@ Makes (Err stop.NoMemory) fault code = Unit {0}
 abbrev pub MakesAt : GroundProgram → Site → Result Code Stop → Type 0
 MakesAt g site result = Makes result (size_fault g.program.now g.helpers site) (code_of g.program.now g.helpers site)
 
--- this comes of these sites
-abbrev pub AreDone : GroundProgram → Progress → List Site → Type 0
-AreDone g (progress.Translated all) sites = (first_fault g.program.now g.helpers sites ≡ None) × (map Some all ≡ map (translated_at g.program.now g.helpers) sites)
-AreDone g (progress.Refused size at) sites = first_fault g.program.now g.helpers sites ≡ Some (size, at)
+-- a site isn't too large, and this stands there in SQL
+abbrev pub IsMade : GroundProgram → Site → Translated → Type 0
+IsMade g site one = (fault_at g.program.now g.helpers site ≡ None) × (Some one ≡ translated_at g.program.now g.helpers site)
 
--- one more site makes that of this
-abbrev pub Adds : GroundProgram → Site → Progress → Progress → Type 0
-Adds g site done more = (sites : List Site) → AreDone g done sites → AreDone g more (sites ++ site ∷ [])
+-- none of these sites is, and this stands at each
+abbrev pub AreMade : GroundProgram → List Site → List Translated → Type 0
+AreMade g sites all = (first_fault g.program.now g.helpers sites ≡ None) × (map Some all ≡ map (translated_at g.program.now g.helpers) sites)

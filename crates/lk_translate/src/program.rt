@@ -1,29 +1,21 @@
 //! The SQL of a ground program.
 
+ghost use Rattle.lk_ast.specs.declared.place.Span.{Span as TheSpan};
 ghost use Rattle.lk_sites.specs.SiteSeen.{shown};
-ghost use Rattle.lk_translate.specs.Tried.{Adds, AreDone};
-ghost use Rattle.lk_translate.specs.Translation.{AreTranslated, IsFirstFault};
+ghost use Rattle.lk_translate.specs.Translation.{AreTranslated, IsFirstFault, fault_at, first_fault};
+ghost use Rattle.lk_translate.specs.Tried.{AreMade, IsMade};
 ghost use Rattle.lk_translate.specs.declared.error.Size.{Size as TheSize};
 ghost use Rattle.lk_translate.specs.declared.error.TranslateError.TheVariants as errors;
-ghost use Rattle.lk_ast.specs.declared.place.Span.{Span as TheSpan};
-ghost use Rattle.lk_translate.specs.declared.program.Progress.TheVariants as progress;
-ghost use Rattle.std.specs.Prelude.{◌≡◌, ◌<◌, Err, IfOk, map};
+ghost use Rattle.std.specs.Prelude.{◌≡◌, Err, IfOk, Some, map};
 
 use crate::block::{Stop, code_at};
-use crate::error::{Size, TranslateError};
+use crate::error::TranslateError;
 use crate::translated::Translated;
-use lk_ast::{List, NoMemory, Span};
+use lk_ast::List;
 use lk_ground::GroundProgram;
 use lk_inline::Inliner;
 use lk_sites::{QuerySite, query_sites};
 use std::alloc::Global;
-
-/// What came of the sites so far: each of them in SQL, or the refusal of the first that is too large.
-#[derive(Drop)]
-enum Progress {
-    Translated(List<Translated>),
-    Refused(Size, Span),
-}
 
 /// All queries, readings of tables, updates and deletions of a ground program in SQL, in the order of their labels.
 ///
@@ -36,61 +28,44 @@ pub fn translate(alloc: Global, program: &GroundProgram) -> Result<List<Translat
 {
     let inliner = Inliner::new(alloc, program)?;
     let sites = query_sites(alloc, program)?;
-    match all_sites(alloc, &inliner, sites.as_slice())? {
-        Progress::Translated(all) => Ok(all),
-        Progress::Refused(size, at) => Err(TranslateError::TooLarge(size, at)),
-    }
+    Ok(all_sites(alloc, &inliner, sites.as_slice())?)
 }
 
-/// What comes of all these sites.
+/// All these sites in SQL, or the refusal of the first that is too large.
 fn all_sites<'g, 'p>(
     alloc: Global,
     inliner: &Inliner<'g, 'p>,
     sites: &[QuerySite<'g, 'p>],
-) -> Result<Progress, NoMemory>
-    ensures { IfOk result (λ done. AreDone inliner.now done (map shown sites.now)) }
+) -> Result<List<Translated>, TranslateError>
+    ensures translated { IfOk result (AreMade inliner.now (map shown sites.now)) }
+    ensures too_large { (size : TheSize) (at : TheSpan) → result ≡ Err (errors.TooLarge size at) → first_fault inliner.now.program.now inliner.now.helpers (map shown sites.now) ≡ Some (size, at) }
 {
-    let mut done = Progress::Translated(List::new(alloc));
+    let mut all = List::new(alloc);
     for site in sites {
-        done = with_site(alloc, inliner, site, done)?;
+        match one_site(alloc, inliner, site) {
+            Ok(one) => all.push(one)?,
+            Err(error) => return Err(error),
+        }
     }
-    Ok(done)
+    Ok(all)
 }
 
-/// What comes of one more site. Behind a refusal nothing needs to be looked at.
-fn with_site<'g, 'p>(
+/// What stands at a site in SQL, or that it is too large.
+fn one_site<'g, 'p>(
     alloc: Global,
     inliner: &Inliner<'g, 'p>,
     site: &QuerySite<'g, 'p>,
-    done: Progress,
-) -> Result<Progress, NoMemory>
-    ensures { IfOk result (Adds inliner.now (shown site.now) done) }
-{
-    match done {
-        Progress::Translated(all) => Ok(with_code(alloc, inliner, site, all)?),
-        Progress::Refused(size, at) => Ok(Progress::Refused(size, at)),
-    }
-}
-
-/// The same behind sites none of which is too large.
-fn with_code<'g, 'p>(
-    alloc: Global,
-    inliner: &Inliner<'g, 'p>,
-    site: &QuerySite<'g, 'p>,
-    mut all: List<Translated>,
-) -> Result<Progress, NoMemory>
-    ensures { IfOk result (Adds inliner.now (shown site.now) (progress.Translated all)) }
+) -> Result<Translated, TranslateError>
+    ensures translated { IfOk result (IsMade inliner.now (shown site.now)) }
+    ensures too_large { (size : TheSize) (at : TheSpan) → result ≡ Err (errors.TooLarge size at) → fault_at inliner.now.program.now inliner.now.helpers (shown site.now) ≡ Some (size, at) }
 {
     match code_at(alloc, inliner, site) {
-        Ok(code) => {
-            all.push(Translated {
-                label: site.label,
-                span: site.expr.span,
-                code,
-            })?;
-            Ok(Progress::Translated(all))
-        }
-        Err(Stop::TooLarge(size)) => Ok(Progress::Refused(size, site.expr.span)),
-        Err(Stop::NoMemory) => Err(NoMemory),
+        Ok(code) => Ok(Translated {
+            label: site.label,
+            span: site.expr.span,
+            code,
+        }),
+        Err(Stop::TooLarge(size)) => Err(TranslateError::TooLarge(size, site.expr.span)),
+        Err(Stop::NoMemory) => Err(TranslateError::NoMemory),
     }
 }

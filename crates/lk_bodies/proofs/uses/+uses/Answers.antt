@@ -1,6 +1,6 @@
 use Rattle.std.proofs.Common.{arith, ap, ap₂, sym, ◌∙◌, drop}
 use Rattle.std.specs.Option.{option_copied}
-use Rattle.lk_bodies.proofs.UseLevels.{use_step, uses_expr}
+use Rattle.lk_bodies.proofs.UsesLevels.{use_step, uses_expr}
 use Rattle.lk_bodies.specs.Uses.{uses_node}
 use Rattle.lk_bodies.specs.UsesSeen.{behind_type, used_of}
 use Rattle.lk_typing.specs.Names.{names_of}

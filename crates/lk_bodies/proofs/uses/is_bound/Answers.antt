@@ -1,5 +1,5 @@
 use Rattle.std.proofs.Common.{sym, ap, ◌∙◌, is_some}
-use Rattle.lk_bodies.proofs.UseLevels.{bound_found, some_copied}
+use Rattle.lk_bodies.proofs.UsesLevels.{bound_found, some_copied}
 use Rattle.lk_bodies.specs.Uses.{is_bound}
 use Rattle.lk_typing.specs.Names.{names_of}
 use Rattle.lk_bodies.proofs.uses.is_bound.Goals as goal
