@@ -15,9 +15,6 @@ total-sum_by : {X : Type 0} (f : X → ℕ) (xs : List X) → sum_by f xs ≡ to
 total-sum_by f [] = refl
 total-sum_by f (x ∷ xs) = sum_by-cons f x xs ∙ ap (λ n. f x + n) (total-sum_by f xs)
 
-pub bag-of_permutation : {X : Type 0} (xs ys : List X) → IsPermutation xs ys → SameBag xs ys
-bag-of_permutation xs ys p w = sym (total-sum_by w xs) ∙ sym (sum_by-IsPermutation w xs ys p) ∙ total-sum_by w ys
-
 -- ---- by a decided equality
 
 module _ {X : Type 0} (equal : X → X → Bool) (decides : (x y : X) → Decides (equal x y) (x ≡ y)) where

@@ -63,25 +63,6 @@ at_own (cell ∷ cells) e = by_tests (is_there (labels_of cells) cell.label) (ar
 at_columns : (labels : List (List ℕ)) (row : Row) → HasColumns labels row → at_labels labels row ≡ row
 at_columns labels row has = ap row_with (ap (λ labels. map (λ label. cell_with label (cell_in row.cells label)) labels) (sym has.0) ∙ at_own row.cells (ap are_distinct has.0 ∙ has.1))
 
--- a row that fits the columns of a table has them
-pub row-has : (columns : List Column) (row : Row) → cells_fit columns row.cells ≡ true → are_in_order (map (λ (column : Column). column.label) columns) ≡ true → HasColumns (map (λ (column : Column). column.label) columns) row
-row-has columns row fits ordered = (same columns row.cells fits, distinct-in_order (map (λ (column : Column). column.label) columns) ordered)
-  where
-    same : (columns : List Column) (cells : List Cell) → cells_fit columns cells ≡ true → map (λ (cell : Cell). cell.label) cells ≡ map (λ (column : Column). column.label) columns
-    same [] [] e = refl
-    same [] (cell ∷ cells) e = absurd (true≢false (sym e))
-    same (column ∷ columns) [] e = absurd (true≢false (sym e))
-    same (column ∷ columns) (cell ∷ cells) e = by_tests (bytes_eq column.label cell.label) (is_of_kind column.kind cell.value) (cells_fit columns cells) refl refl e (λ f. same columns cells f)
-      where
-        by_tests :
-            (a b c : Bool) → bytes_eq column.label cell.label ≡ a → cells_fit columns cells ≡ c → a && b && c ≡ true →
-            (cells_fit columns cells ≡ true → map (λ (cell : Cell). cell.label) cells ≡ map (λ (column : Column). column.label) columns) →
-            cell.label ∷ map (λ (cell : Cell). cell.label) cells ≡ column.label ∷ map (λ (column : Column). column.label) columns
-        by_tests true true true is fits e f = ap₂ (λ l ls. l ∷ ls) (sym ((bytes_decides column.label cell.label).0 is)) (f fits)
-        by_tests true true false is fits e f = absurd (true≢false (sym e))
-        by_tests true false c is fits e f = absurd (true≢false (sym e))
-        by_tests false b c is fits e f = absurd (true≢false (sym e))
-
 -- ---- what the SQL gives for a row
 
 module _ (tables : Tables) (params : List Base) where

@@ -6,6 +6,7 @@ use Rattle.lk_sql.specs.declared.tree.Change.{Change}
 use Rattle.lk_sql.specs.declared.tree.Out.{Out}
 use Rattle.lk_query.specs.declared.part.Part.{Part}
 use Rattle.lk_query.specs.declared.query.InlinedChange.{InlinedChange}
+use Rattle.lk_norm.specs.Limits.{most_bytes}
 use Rattle.lk_norm.specs.Made.{StopsFor, behind, paid}
 use Rattle.lk_norm.specs.Normal.{Names, norms, outputs}
 use Rattle.lk_norm.specs.declared.error.NormError.{NormError}
@@ -17,10 +18,6 @@ abbrev pub change_of : List Part → InlinedChange → Names → Change
 change_of parts change names = record { cond = (norms parts change.cond names).base 1; sets = outputs (norms parts) change.sets names 1 }
 
 -- ---- bytes
-
--- the most that the texts of scalars may have together
-abbrev pub most_bytes : ℕ
-most_bytes = 1048576
 
 -- of the texts of these scalars
 abbrev pub sets_bytes : List Out → ℕ

@@ -1,6 +1,7 @@
 //! The SQL of updates and deletions.
 
-ghost use Rattle.lk_norm.specs.Changes.{MakesChange, MakesSets, RefusesChange, change_bytes, change_of, most_bytes};
+ghost use Rattle.lk_norm.specs.Changes.{MakesChange, MakesSets, RefusesChange, change_bytes, change_of};
+ghost use Rattle.lk_norm.specs.Limits.{most_bytes};
 ghost use Rattle.lk_norm.specs.Normal.{norms, outputs};
 ghost use Rattle.lk_norm.specs.Scopes.{names_in};
 ghost use Rattle.lk_norm.specs.Sql.{change_sql};
@@ -18,7 +19,7 @@ use lk_sql::{Change, Out};
 use std::alloc::Global;
 
 /// The SQL of an update or a deletion. `SqlTooLong` exactly where the texts of its scalars together have over 1,048,576 bytes,
-/// and `Branches` never.
+/// and `Branches` never. `NoMemory` also where parts nest over 1,024 deep.
 pub fn change(alloc: Global, change: &InlinedChange) -> Result<Change, NormError>
     ensures made { IfOk result (λ sql. sql ≡ change_sql change.now) }
     ensures fits { IfOk result (λ sql. change_bytes sql ≤ most_bytes) }

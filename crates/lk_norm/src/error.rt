@@ -15,6 +15,7 @@ pub enum NormError {
     /// The text has more than 1,048,576 bytes.
     #[error("SQL that is too long")]
     SqlTooLong,
+    /// Memory ran out, or parts nest over 1,024 deep.
     #[error("out of memory")]
     NoMemory,
 }

@@ -10,7 +10,7 @@ ghost use Rattle.lk_query.specs.declared.part.Part.{Part};
 ghost use Rattle.std.specs.Option.{option_copied};
 ghost use Rattle.std.specs.Prelude.{◌≡◌, IfOk, List, slice_get};
 
-use crate::branches::{branch_counts, own};
+use crate::counting::{branch_counts, own};
 use crate::names::{Meant, Scope};
 use lk_ast::{List, NoMemory};
 use lk_query::{Captured, OrderedParts, Part};

@@ -1,6 +1,7 @@
 //! The SQL of queries.
 
-ghost use Rattle.lk_norm.specs.Limits.{IsShort, RefusedFor};
+ghost use Rattle.lk_norm.specs.Capped.{capped};
+ghost use Rattle.lk_norm.specs.Limits.{IsShort, RefusedFor, branch_count};
 ghost use Rattle.lk_norm.specs.Made.{MakesBy};
 ghost use Rattle.lk_norm.specs.Sql.{query_sql};
 ghost use Rattle.lk_norm.specs.Walks.{keys_length, keys_words, sql_over, sql_paid, total};
@@ -19,8 +20,16 @@ use lk_query::{Captured, Query};
 use lk_sql::{Key, Sql};
 use std::alloc::Global;
 
+/// How many branches the normal form of a query has, and 1,025 where there are more. It isn't made for that.
+pub fn branches(alloc: Global, query: &Query) -> Result<u32, NoMemory>
+    ensures { IfOk result (λ count. count ≡ capped (branch_count query.now)) }
+{
+    let over = Over::new(alloc, &query.parts)?;
+    Ok(over.count(query.root))
+}
+
 /// The SQL of a query, its normal form, if that has 1,024 branches at most and a text of 1,048,576 bytes at most. What is longer
-/// is refused before it is made.
+/// is refused before it is made. `NoMemory` also where parts nest over 1,024 deep.
 pub fn normalise(alloc: Global, query: &Query) -> Result<Sql, NormError>
     ensures normal { IfOk result (λ sql. sql ≡ query_sql query.now) }
     ensures short { IfOk result (λ sql. IsShort query.now) }

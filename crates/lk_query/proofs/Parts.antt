@@ -127,8 +127,3 @@ count_local f g n same (part.Append a b) l = ap₂ (λ a b. a + b) (same a l.0) 
 count_local f g n same (part.ForList list x body) l = ap₂ (λ list body. list * body) (same list l.0) (same body l.2)
 count_local f g n same (part.Table table labels) l = refl
 count_local f g n same (part.Where c list) l = same list l.1
-
--- how many a part has, by how many its own parts have
-pub counts-at : (parts : List Part) (i : ℕ) (x : Part) → AreOrdered parts → Some x ≡ slice_get parts i → counts parts i ≡ count_level (counts parts) i x
-unfolding counts
-counts-at parts i x ordered e = filled-at count_level count_local 0 parts i x ordered e

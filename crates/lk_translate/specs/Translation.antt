@@ -6,8 +6,8 @@ use Rattle.lk_bodies.specs.Nodes.{query_nodes}
 use Rattle.lk_ground.specs.declared.program.GroundFun.{GroundFun}
 use Rattle.lk_ground.specs.declared.program.GroundProgram.{GroundProgram}
 use Rattle.lk_inline.specs.Inlined.{inlined_at}
-use Rattle.lk_norm.specs.Changes.{change_bytes, most_bytes}
-use Rattle.lk_norm.specs.Limits.{branch_count, sql_length}
+use Rattle.lk_norm.specs.Changes.{change_bytes}
+use Rattle.lk_norm.specs.Limits.{branch_count, most_branches, most_bytes, sql_length}
 use Rattle.lk_norm.specs.Sql.{change_sql, query_sql}
 use Rattle.lk_query.specs.declared.query.Inlined.{Inlined}
 use Rattle.lk_query.specs.declared.query.Inlined.TheVariants as inlined
@@ -23,10 +23,6 @@ use Rattle.lk_translate.specs.declared.translated.Translated.{Translated}
 -- the most nodes of what stands at a site, with those of the bodies that it calls
 abbrev pub most_nodes : ℕ
 most_nodes = 65536
-
--- the most branches of a query
-abbrev pub most_branches : ℕ
-most_branches = 1024
 
 -- too large in this where there are more than the most, or else in what the rest is
 abbrev pub over : ℕ → ℕ → Size → Option Size → Option Size

@@ -4,6 +4,8 @@
 #[cfg(test)]
 mod captures;
 #[cfg(test)]
+mod changes;
+#[cfg(test)]
 mod conditions;
 #[cfg(test)]
 mod harness;

@@ -1,0 +1,191 @@
+#!/usr/bin/env python3
+"""Measures the built program: time and peak memory of `check`, `sql` and `source`, as lines of a Markdown table.
+
+    tools/measure.py LINKS growth     three shapes of programs at 1, 4 and 16 times a size, with the growth
+    tools/measure.py LINKS hard       texts of nearly a mebibyte of each degenerate kind, and tables files of nearly 16 MiB
+
+Each is run three times, and the least time and the most memory count. No gate runs this; docs/PERFORMANCE.md has what it printed.
+"""
+
+import json
+import os
+import resource
+import subprocess
+import sys
+import tempfile
+import time
+
+MEBIBYTE = 1 << 20
+SECONDS = 120
+
+
+def limited():
+    resource.setrlimit(resource.RLIMIT_CORE, (0, 0))
+
+
+def run_once(words):
+    start = time.perf_counter()
+    with open(os.devnull, "wb") as nothing:
+        child = subprocess.Popen(words, stdin=nothing, stdout=subprocess.PIPE, stderr=nothing, preexec_fn=limited)
+        # (what it prints is read, so that it doesn't wait)
+        printed = child.stdout.read()
+        _, status, used = os.wait4(child.pid, 0)
+        child.returncode = os.waitstatus_to_exitcode(status)
+    return time.perf_counter() - start, used.ru_maxrss / 1024, child.returncode, printed
+
+
+def measured(words, times=3):
+    """The least time, the most memory in MB, the status, and the first line that is printed."""
+    runs = [run_once(words) for _ in range(times if times == 1 or run_once(words)[0] < 5 else 1)]
+    printed = runs[0][3].split(b"\n")[0].decode(errors="replace")
+    return min(run[0] for run in runs), max(run[1] for run in runs), runs[0][2], printed if len(printed) < 50 else printed[:46] + " .."
+
+
+# ---- growth
+
+
+def functions(n):
+    """Functions, each of which calls the one before and is called twice."""
+    lines = ["fun f0(r) { r.n + 1 }"]
+    lines += [f"fun f{k}(r) {{ var x = f{k - 1 - k % 7 if k > 7 else 0}((n = r.n, t = \"a\")); if (x > 3) x else f0(r) }}" for k in range(1, n)]
+    return "\n".join([*lines, f"fun main(a) client {{ intToString(f{n - 1}((n = 1))) ^^ a }}"]), None
+
+
+def statements(n):
+    """One body of many statements."""
+    lines = ["var x0 = (n = 0, t = a);"]
+    lines += [f"var x{k} = (n = x{k - 1}.n + {k}, t = x{k - 1}.t);" for k in range(1, n)]
+    return "fun main(a) client {\n" + "\n".join(lines) + f"\nx{n - 1}.t }}", None
+
+
+def queries(n):
+    """Queries over a table, with a helper and a captured record."""
+    lines = ["table t with (n : Int, s : String);", "fun low(k) { for (x <-- t) where (x.n < k) [x] }", "fun main(a) client {", "var r = (k = 5, w = a);"]
+    lines += [f"var q{k} = query orderby (n, s desc) {{ for (x <- low({k})) where (x.s == r.w || x.n > r.k) [(n = x.n + {k}, s = x.s)] }};" for k in range(n)]
+    rows = [{"n": k % 17, "s": chr(97 + k % 26)} for k in range(50)]
+    return "\n".join([*lines, "a }"]), {"t": rows}
+
+
+SHAPES = (("functions", functions, 500), ("statements", statements, 1000), ("queries", queries, 100))
+
+
+def growth(links, folder):
+    print("| shape | command | 1x | 4x | 16x | growth of time |")
+    print("|---|---|---|---|---|---|")
+    for name, shape, size in SHAPES:
+        for command in ("check", "sql", "source"):
+            cells = []
+            for times in (1, 4, 16):
+                text, rows = shape(size * times)
+                words = [links, command, *written(folder, text, rows, command)]
+                cells.append(measured(words))
+            shown = " | ".join(f"{cell[0]:.2f} s, {cell[1]:.0f} MB" + (f", status {cell[2]}" if cell[2] else "") for cell in cells)
+            ratios = ", ".join(f"{after[0] / before[0]:.1f}" for before, after in zip(cells, cells[1:]))
+            print(f"| {size} {name} | {command} | {shown} | {ratios} |", flush=True)
+
+
+# ---- hard input
+
+
+def written(folder, text, rows, command):
+    """The words behind a command for this text and these rows."""
+    with open(f"{folder}/p.links", "w", encoding="utf-8") as file:
+        file.write(text)
+    if command != "source":
+        return [f"{folder}/p.links"]
+    if rows is None:
+        return [f"{folder}/p.links", "ann"]
+    with open(f"{folder}/t.json", "w", encoding="utf-8") as file:
+        file.write(rows if isinstance(rows, str) else json.dumps(rows, separators=(",", ":")))
+    return [f"{folder}/p.links", "ann", "--tables", f"{folder}/t.json"]
+
+
+def filled(front, piece, back, size=MEBIBYTE):
+    """A text of at most so many bytes with a piece again and again."""
+    count = (size - len((front + back).encode())) // len(piece.encode())
+    return front + piece * count + back
+
+
+def counted(front, piece_of, back, size=MEBIBYTE):
+    """The same with pieces by their numbers."""
+    pieces, left, number = [], size - len((front + back).encode()), 0
+    while left >= len(piece_of(number)):
+        left -= len(piece_of(number))
+        pieces.append(piece_of(number))
+        number += 1
+    return front + "".join(pieces) + back
+
+
+MAIN = "fun main(a) client { "
+
+
+def texts():
+    yield "one name", filled("fun main(", "a", ") client { 1 }")
+    yield "one text", filled(MAIN + '"', "a", '" }')
+    yield "one number", filled(MAIN, "1", " }")
+    yield "one comment", filled(MAIN + "a } //", "a", "")
+    yield "comments only", filled("", "// a\n", "")
+    yield "white space only", filled("", "\n ", "")
+    yield "dots only", filled("", ".", "")
+    yield "opening brackets only", filled("", "(", "")
+    yield "one list", filled(MAIN + "var l = [1", ",1", "]; a }")
+    yield "one chain", filled(MAIN + "a", "^^a", " }")
+    yield "one chain of calls", filled(MAIN + "a", "(a)", " }")
+    yield "one call of many arguments", filled("fun f(x) { x } " + MAIN + "f(a", ",a", ") }")
+    yield "nests at the limit", filled(MAIN, "(" * 198 + "a" + ")" * 198 + ";", "a }")
+    yield "lists at the limit", filled(MAIN, "var x = " + "[" * 198 + "1" + "]" * 198 + ";", "a }")
+    yield "statements", filled(MAIN, "();", "a }")
+    yield "the same name again and again", filled(MAIN, "var x = a;", "x }")
+    yield "names", counted(MAIN, lambda k: f"var x{k} = a;", "a }")
+    yield "functions", counted("", lambda k: f"fun f{k}(x) {{ x }} ", MAIN + "a }")
+    yield "one mutual block", counted("mutual { ", lambda k: f"fun f{k}(x) {{ f{max(k - 1, 0)}(x) }} ", "} " + MAIN + "a }")
+    yield "lambdas", filled(MAIN, "var f = fun (x) { x };", "f(a) }")
+    yield "one record", counted(MAIN + "var r = (l = 1", lambda k: f",l{k} = 1", "); a }")
+    yield "projections", filled(MAIN + "var r = (n = 1); ", "var x = r.n;", "a }")
+    yield "tables", counted("", lambda k: f"table t{k} with (n : Int);", MAIN + "a }")
+    yield "one table", counted("table t with (c : Int", lambda k: f",c{k} : Int", "); " + MAIN + "a }")
+    yield "readings", filled("table t with (n : Int); " + MAIN, "var q = for (x <-- t) [x.n];", "a }")
+    yield "queries", filled("table t with (n : Int); " + MAIN, "var q = query { for (x <-- t) [x] };", "a }")
+    yield "changes", filled("table t with (n : Int); " + MAIN, "update (x <-- t) where (x.n == 1) set (n = 2);", "a }")
+    yield "one query of many lists", filled("table t with (n : Int); " + MAIN + "query { []", " ++ []", " } }")
+    yield "one query of many statements", filled("table t with (n : Int); " + MAIN + "query { ", "var x = 1;", "[(n = x)] } }")
+    yield "cases", counted(MAIN + "switch (T(a)) { ", lambda k: f"case T{k}(x) -> x ", "case y -> a } }")
+    yield "signatures", counted("", lambda k: f"sig g{k} : (Int) -> Int; fun g{k}(x) {{ x }} ", MAIN + "a }")
+    yield "functions at two types", counted("fun f(r) { r.n } " + MAIN, lambda k: f"var x = f((n = {k})) + f((n = 1, m = {k}));", "a }")
+
+
+ASKS = "table t with (n : Int, s : String); " + MAIN + "var q = query orderby (s, n desc) { for (x <-- t) where (x.n > 3) [x] }; insert t values [(n = 0, s = a)]; a }"
+
+
+def tables():
+    long = "a" * 220
+    yield "65,535 rows of 250 bytes", ASKS, '{"t":[' + ",".join(f'{{"n":{k},"s":"{long}{k % 97}"}}' for k in range(65535)) + "]}"
+    yield "one text of 16 MiB", ASKS, '{"t":[{"n":7,"s":"' + "a" * (16 * MEBIBYTE - 40) + '"}]}'
+    yield "a text of escapes", ASKS, '{"t":[{"n":7,"s":"' + "\\u0001" * ((16 * MEBIBYTE - 40) // 6) + '"}]}'
+    yield "65,537 rows", ASKS, '{"t":[' + ",".join('{"n":1,"s":""}' for _ in range(65537)) + "]}"
+    yield "opening brackets", ASKS, "[" * (16 * MEBIBYTE)
+    yield "keys that aren't tables", ASKS, "{" + ",".join(f'"u{k}":[]' for k in range(1_000_000)) + "}"
+    yield "one key again and again", ASKS, "{" + ",".join('"t":[]' for _ in range(2_000_000)) + "}"
+
+
+def hard(links, folder):
+    print("| input | bytes | command | time | memory | status | first line |")
+    print("|---|---|---|---|---|---|---|")
+    cases = [(name, text, None, ("check", "sql", "source")) for name, text in texts()]
+    cases += [(name, text, rows, ("source",)) for name, text, rows in tables()]
+    for name, text, rows, commands in cases:
+        for command in commands:
+            seconds, memory, status, line = measured([links, command, *written(folder, text, rows, command)], 1)
+            size = len((rows if rows else text).encode())
+            print(f"| {name} | {size:,} | {command} | {seconds:.2f} s | {memory:.0f} MB | {status} | `{line.replace('|', '&#124;')}` |", flush=True)
+
+
+def main():
+    if len(sys.argv) != 3 or sys.argv[2] not in ("growth", "hard"):
+        sys.exit(__doc__)
+    with tempfile.TemporaryDirectory() as folder:
+        {"growth": growth, "hard": hard}[sys.argv[2]](os.path.abspath(sys.argv[1]), folder)
+
+
+if __name__ == "__main__":
+    main()
