@@ -22,7 +22,7 @@ use Rattle.lk_sound.proofs.Shapes.{IsRecord, fits_fields}
 use Rattle.lk_sound.proofs.TableRows.{IsBaseOf, base_of_fits, cell_fields}
 use Rattle.lk_sound.specs.Instances.{Instances}
 use Rattle.lk_sound.specs.Points.{AreLocals}
-use Rattle.lk_sound.specs.Values.{Fits, FieldsFit, field, no_field}
+use Rattle.lk_sound.specs.Values.{Fits, FieldsFit, field}
 use Rattle.lk_types.specs.Each.{Each}
 use Rattle.lk_types.specs.Rows.{Label}
 use Rattle.lk_types.specs.declared.ground.Ground.{Ground}

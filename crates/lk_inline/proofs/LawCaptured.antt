@@ -25,7 +25,6 @@ use Rattle.lk_inline.specs.Inlined.{change_at, inlined_by, query_at, reading_at}
 use Rattle.lk_inline.specs.Law.{CapturedLaw, Captures, captured_of, done_with}
 use Rattle.lk_locals.specs.Names.{Names, lookup_all}
 use Rattle.lk_mono.specs.Instanced.{HasInstances}
-use Rattle.lk_names.specs.Programs.{IsBound}
 use Rattle.lk_query.specs.Captured.{AreCaptured}
 use Rattle.lk_query.specs.declared.query.Inlined.{Inlined}
 use Rattle.lk_sites.specs.Blocks.{IsBlock}

@@ -90,32 +90,36 @@ abbrev pub BlockLaw : Type 0
 BlockLaw = (p : Program) → IsBound p → (g : GroundProgram) → (has : HasInstances p g) → (site : Site) → IsBlock p has.instances site.block site.types site.calls → Each IsProperType site.types
     → (found : Inlined) → inlined_at p g.helpers site ≡ Some found → Keeps p site.block (layer site.block) found
 
--- what is told of the values that it captures
+-- In the functions and the helpers of a ground program all types have.
+abbrev pub TypesLaw : Type 0
+TypesLaw = (p : Program) (schemes : List Scheme) (types : List Ty) (g : GroundProgram) → IsGrounded p schemes types g → AreProper g.funs × AreProper g.helpers
+
+-- ---- what is captured
+
+-- what is told of the values that the block captures
 abbrev pub captured_of : Inlined → List Captured
 captured_of (inlined.Query q) = q.captured
 captured_of (inlined.Change c) = c.captured
 
--- what begins at a place with these values: a reading, or a writing
+-- a reading or a writing that begins at this place, with what it captured
 abbrev pub done_with : Inlined → ℕ → List Value → Primitive
 done_with (inlined.Query q) place args = Reading place args
 done_with (inlined.Change c) place args = Writing place args
 
--- The names that the block captures have values, and these are such. With them the program's evaluation of the block reads or
--- writes tables.
+-- Under these local names the block captures values of the kinds that are told of them, and with these its evaluation in the
+-- program reads or writes tables.
 pub record Captures (p : Program) (block : Expr) (names : Names) (found : Inlined) : Type 0 where
   pub args : List Value
   pub values : lookup_all names (captured_in block) ≡ Some args
   pub are : AreCaptured (captured_of found) args
   pub does : (source p).act (under names block) [] ≡ Uses Server (done_with found block.span.start args)
 
--- so it is wherever the local names of the block have values of their types
+-- Where the program's names are bound and its instances are a closed set, so it is with what is inlined of a block in them, if the
+-- local names have values of their types.
 abbrev pub CapturedLaw : Type 0
-CapturedLaw = (p : Program) → IsBound p → (g : GroundProgram) → (has : HasInstances p g) → (site : Site) → (block : IsBlock p has.instances site.block site.types site.calls) → (names : Names) → AreLocals p has.instances block.locals names
+CapturedLaw = (p : Program) → IsBound p → (g : GroundProgram) → (has : HasInstances p g) → (site : Site) → (block : IsBlock p has.instances site.block site.types site.calls)
+    → (names : Names) → AreLocals p has.instances block.locals names
     → (found : Inlined) → inlined_at p g.helpers site ≡ Some found → Captures p site.block names found
-
--- In the functions and the helpers of a ground program all types have.
-abbrev pub TypesLaw : Type 0
-TypesLaw = (p : Program) (schemes : List Scheme) (types : List Ty) (g : GroundProgram) → IsGrounded p schemes types g → AreProper g.funs × AreProper g.helpers
 
 -- ---- kinds
 

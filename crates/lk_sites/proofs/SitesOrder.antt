@@ -1,9 +1,9 @@
 -- The labels of the sites rise: what a tour has found so far has labels below the next one.
-use Rattle.std.proofs.Common.{◌≡◌, ℕ, ◌+◌, ◌<◌, Bool, true, false, ◌||◌, List, [], ◌∷◌, ◌++◌, map, refl, sym, ◌∙◌, ap, subst, arith}
+use Rattle.std.proofs.Common.{◌≡◌, ℕ, ◌+◌, ◌<◌, Bool, true, false, ◌||◌, List, [], ◌∷◌, ◌++◌, map, sym, ◌∙◌, ap, subst, arith}
 use Rattle.std.proofs.lemmas.Map.Keys.{IsStrictlyIncreasing-from_sorted}
 use Rattle.std.specs.Cmp.{nat_cmp_is}
 use Rattle.std.specs.List.{AllByRecursion}
-use Rattle.std.specs.List.Sorted.{IsStrictlyIncreasing, IsStrictlySortedBy}
+use Rattle.std.specs.List.Sorted.{IsStrictlySortedBy}
 use Rattle.std.specs.Ordering.{nat_cmp}
 use Rattle.std.specs.declared.cmp.Ordering.TheVariants.{Less}
 use Rattle.lk_ast.specs.Layers.{Layer, layer}
@@ -11,7 +11,6 @@ use Rattle.lk_ast.specs.declared.expression.Expr.{Expr}
 use Rattle.lk_ast.specs.declared.expression.Node.TheOpen.{Node-F}
 use Rattle.lk_ground.specs.Language.{function_of}
 use Rattle.lk_ground.specs.declared.program.GroundFun.{GroundFun}
-use Rattle.lk_ground.specs.declared.program.GroundProgram.{GroundProgram}
 use Rattle.lk_sites.proofs.Visiting.{insides_level, visit_level}
 use Rattle.lk_sites.specs.Law.{SitesOrderLaw}
 use Rattle.lk_sites.specs.Sites.{Site, Tour, all, at_node, behind_node, entered, in_instance, in_instances, is_closed, labelled, noted, site_at, sites_of, start, visit}
