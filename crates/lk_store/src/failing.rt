@@ -94,9 +94,11 @@ impl Store for FailingStore {
         ensures in_order { IfOk result (λ rows.
             rows ≡ rows_of self.old.memory.tables table.now.name) }
         ensures columns { IfOk result (λ rows. all_fit table.now rows ≡ true) }
-        ensures passes { IsOk result → ¬ NextFails self.old.calls }
+        ensures numbered { NextFails self.old.calls → IsErrOf result OutFault.Failed }
         ensures fails { IsErrOf result OutFault.Failed → NextFails self.old.calls
             ⊎ HasForeignRow (Some (rows_of self.old.memory.tables)) table.now }
+        ensures counted { NextFails self.old.calls → self.new.faults ≡ next_count self.old.faults }
+        ensures uncounted { ¬ NextFails self.old.calls → self.new.faults ≡ self.old.faults }
         ensures memory { self.new.memory ≡ self.old.memory }
         ensures calls { self.new.calls ≡ calls_after self.old.calls }
         ensures cause { ScanHasCause self.old.faults self.new.faults
