@@ -59,6 +59,7 @@ pub mod RecordValues
 pub mod RowLabels
 pub mod Standing
 pub mod TableColumns
+pub mod TablesFound
 pub mod TypesOfInstances
 pub mod TypesOfRows
 pub mod TypesOfUses

@@ -2,3 +2,4 @@ pub mod Inlined
 pub mod KindsOfTypes
 pub mod Law
 pub mod Stands
+pub mod Tabled

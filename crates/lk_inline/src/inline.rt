@@ -13,6 +13,7 @@ ghost use Rattle.std.specs.Option.{option_copied};
 ghost use Rattle.std.specs.Prelude.{◌≡◌, ◌≤◌, ◌<◌, ◌∷◌, [], drop, map, IfErr, IfOk, Some};
 
 use crate::error::InlineError;
+use crate::tables::tables_by_name;
 use lk_ast::{ChangeExpr, Column, Expr, List, NoMemory, Node, SortKey, TableDef, Text, Word};
 use lk_bag::table_defs;
 use lk_bodies::{
@@ -26,17 +27,18 @@ use lk_sites::QuerySite;
 use lk_sql::Key;
 use lk_types::Ground;
 use std::alloc::Global;
+use std::collections::BTreeMap;
 use std::marker::Model;
 
 /// How many nodes a query may have, with the bodies of what it calls.
 const NODES: u32 = 65_536;
 
-/// A ground program with its functions by name and its tables. Contracts see the ground program that it was made of.
+/// A ground program with its functions and tables by their names. Contracts see the ground program that it was made of.
 #[derive(Drop)]
 pub struct Inliner<'g, 'p> {
     program: &'g GroundProgram<'p>,
     index: Index<'p>,
-    tables: List<TableDef>,
+    tables: BTreeMap<String, TableDef>,
 }
 
 impl<'g, 'p> Model for Inliner<'g, 'p> {
@@ -44,6 +46,7 @@ impl<'g, 'p> Model for Inliner<'g, 'p> {
     ghost use Rattle.lk_ast.specs.contracts.expression.Expr as e;
     ghost use Rattle.lk_ast.specs.contracts.signature.SigType as ty;
     ghost use Rattle.lk_ground.specs.declared.program.GroundProgram.{GroundProgram as TheProgram};
+    ghost use Rattle.lk_inline.specs.Tabled.{FindsTables};
     ghost use Rattle.lk_types.specs.contracts.ground.Ground as g;
     ghost use Rattle.std.specs.Coded.{codes};
     ghost use Rattle.std.specs.Prelude.{◌≡◌};
@@ -54,7 +57,7 @@ impl<'g, 'p> Model for Inliner<'g, 'p> {
 
     ghost view = { λ inliner. inliner.program.now };
 
-    ghost invariant = { λ inliner. (inliner.index ≡ inliner.program.now.program.now) × (inliner.tables ≡ table_defs inliner.program.now.program.now) };
+    ghost invariant = { λ inliner. (inliner.index ≡ inliner.program.now.program.now) × FindsTables inliner.tables (table_defs inliner.program.now.program.now) };
 }
 
 impl<'g, 'p> Inliner<'g, 'p> {
@@ -63,7 +66,7 @@ impl<'g, 'p> Inliner<'g, 'p> {
         ensures { IfOk result (λ inliner. inliner ≡ program.now) }
     {
         let index = Index::new(alloc, program.program)?;
-        let tables = table_defs(alloc, program.program)?;
+        let tables = tables_by_name(alloc, table_defs(alloc, program.program)?)?;
         Ok(Inliner {
             program,
             index,
@@ -185,8 +188,7 @@ impl<'g, 'p> Inliner<'g, 'p> {
     fn table(&self, name: &Text) -> Option<&TableDef>
         ensures { option_copied result ≡ table_at self.now.program.now name.now }
     {
-        let mut tables = self.tables.as_slice().iter();
-        tables.find(|table| table.name.equals(name))
+        self.tables.get(name.as_str())
     }
 }
 
