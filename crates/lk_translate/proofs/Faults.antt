@@ -1,6 +1,8 @@
 -- The first refusal, site by site.
-use Rattle.std.proofs.Common.{◌≡◌, ℕ, ◌<◌, ◌≤◌, true, false, List, [], ◌∷◌, ◌++◌, Option, Some, None, Result, Ok, map, nat_lt, option_map, refl, sym, ◌∙◌, ap, ap₂, subst, arith, if◌then◌else◌}
+use Rattle.std.proofs.Common.{◌≡◌, ℕ, suc, ◌+◌, ◌<◌, ◌≤◌, true, false, List, [], ◌∷◌, ◌++◌, Option, Some, None, Result, drop, get_or, length, map, nat_lt, option_map, take, take-append-drop, refl, sym, ◌∙◌, ap, ap₂, subst, arith, if◌then◌else◌}
+use Rattle.std.proofs.Math.Seq.{drop-cons, take-suc}
 use Rattle.std.proofs.lemmas.Bool.Decides.{nat_tests}
+use Rattle.std.proofs.lemmas.List.{map-append}
 use Rattle.lk_ast.specs.declared.declaration.Program.{Program}
 use Rattle.lk_ast.specs.declared.place.Span.{Span}
 use Rattle.lk_bodies.specs.Nodes.{query_nodes}
@@ -19,9 +21,17 @@ use Rattle.lk_translate.specs.declared.translated.Translated.{Translated}
 
 -- ---- one site behind others
 
-map_more : {A B : Type 0} (f : A → B) (xs : List A) (x : A) → map f (xs ++ x ∷ []) ≡ map f xs ++ f x ∷ []
-map_more f [] x = refl
-map_more f (y ∷ xs) x = ap (λ ys. f y ∷ ys) (map_more f xs x)
+-- those up to one
+pub shown_more : {A B : Type 0} (f : A → B) (xs : List A) (i : ℕ) (x : A) → i < length xs → x ≡ get_or xs i x → map f (take (i + 1) xs) ≡ map f (take i xs) ++ f x ∷ []
+shown_more f xs i x within is =
+    let next : i + 1 ≡ suc i = omega arith in
+    ap (λ k. map f (take k xs)) next ∙ ap (map f) (take-suc xs i x within) ∙ map-append f (take i xs) _ ∙ ap (λ y. map f (take i xs) ++ f y ∷ []) (sym is)
+
+-- all of them by that one
+pub shown_whole : {A B : Type 0} (f : A → B) (xs : List A) (i : ℕ) (x : A) → i < length xs → x ≡ get_or xs i x → map f xs ≡ map f (take i xs) ++ f x ∷ map f (drop (suc i) xs)
+shown_whole f xs i x within is =
+    ap (map f) (sym (take-append-drop i xs) ∙ ap (λ ys. take i xs ++ ys) (drop-cons xs i x within)) ∙ map-append f (take i xs) _
+    ∙ ap (λ y. map f (take i xs) ++ f y ∷ map f (drop (suc i) xs)) (sym is)
 
 -- of two refusals the first, where there is none before it
 first_behind : (f before whole rest : Option (Size × Span)) → first_of f before ≡ None → (before ≡ None → whole ≡ rest) → first_of f whole ≡ rest
@@ -39,7 +49,7 @@ module _ (g : GroundProgram) where
   pub one_more : (sites : List Site) (site : Site) (all : List Translated) (one : Translated) → AreMade g sites all → IsMade g site one → AreMade g (sites ++ site ∷ []) (all ++ one ∷ [])
   one_more sites site all one before own = (
     none_before sites (site ∷ []) before.0 ∙ ap (λ f. first_of f None) own.0,
-    map_more Some all one ∙ ap₂ (λ xs x. xs ++ x ∷ []) before.1 own.1 ∙ sym (map_more (translated_at g.program.now g.helpers) sites site),
+    map-append Some all (one ∷ []) ∙ ap₂ (λ xs x. xs ++ x ∷ []) before.1 own.1 ∙ sym (map-append (translated_at g.program.now g.helpers) sites (site ∷ [])),
   )
 
   pub first_refused : (sites : List Site) (site : Site) (others : List Site) (all : List Translated) (fault : Size × Span) → AreMade g sites all → fault_at g.program.now g.helpers site ≡ Some fault
