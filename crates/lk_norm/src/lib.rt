@@ -10,8 +10,8 @@
 //! is refused before it is made.
 #![tactic(auto)]
 
-mod counting;
 mod changes;
+mod counting;
 mod error;
 mod law;
 mod lengths;
