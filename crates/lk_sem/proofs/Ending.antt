@@ -23,7 +23,7 @@ use Rattle.lk_sem.specs.Frames as frames
 use Rattle.lk_sem.specs.Frames.{Frame, returned}
 use Rattle.lk_sem.specs.Histories.{AreFit, HasFollowed, HasPast, KeepsOthers, read_event, write_event}
 use Rattle.lk_sem.specs.Machine.{GoesQuietly, IsQuiet, Leads, LeadsWhole, Shows, after_read, after_write, frame_of, frame_rest, outcome, wound}
-use Rattle.lk_sem.specs.SourceRuns.{HasHistory, HasSomeHistory, IsOverfull, IsPlainEnd, IsRefusedAt, IsRunBy, IsRunOf}
+use Rattle.lk_sem.specs.SourceRuns.{HasHistory, IsOverfull, IsPlainEnd, IsRefusedAt, IsRunBy, IsRunOf}
 use Rattle.lk_sem.specs.Standing.{Ends, IsSound, Stands, run_to}
 use Rattle.lk_sem.specs.Writings.{HasChanged}
 use Rattle.lk_sem.specs.declared.machine.Frame.{Frame as MachineFrame}
@@ -34,105 +34,11 @@ use Rattle.lk_sem.specs.declared.run.Halt.{Halt}
 use Rattle.lk_sem.specs.declared.run.Halt.TheVariants as halt
 use Rattle.lk_sem.specs.declared.run.SourceEnd.{SourceEnd}
 use Rattle.lk_sem.specs.declared.run.SourceEnd.TheVariants as end
+use Rattle.lk_sem.proofs.Begun.{begun_here}
 use Rattle.lk_sem.proofs.Legality.{no_past, past_history, past_quietly, past_followed}
 use Rattle.lk_sem.proofs.Sound as sound
 use Rattle.lk_sem.proofs.Whole as whole
 use Rattle.lk_sem.proofs.Winding as winding
-
--- ---- what stands
-
-each_both : {A : Type 0} (P : A → Type 0) (xs ys : List A) → Each P xs → Each P ys → Each P (xs ++ ys)
-each_both P [] ys a b = b
-each_both P (x ∷ xs) ys a b = (a.0, each_both P xs ys a.1 b)
-
-quiet_answered : (p : Program) (more : List Event) → Each IsQuiet more → Each (IsAnswered p) more
-quiet_answered p [] calm = tt
-quiet_answered p (e ∷ more) calm = (go e calm.0, quiet_answered p more calm.1)
-  where
-    go : (e : Event) → IsQuiet e → IsAnswered p e
-    go (event.Print bytes) h = tt
-    go event.Enter h = tt
-    go event.Leave h = tt
-    go (event.Read r) h = absurd h
-    go (event.Write w) h = absurd h
-
-answered_quietly : (p : Program) (before after : List Event) → Each (IsAnswered p) before → GoesQuietly before after → Each (IsAnswered p) after
-answered_quietly p before after all q = subst (Each (IsAnswered p)) (sym q.log) (each_both (IsAnswered p) before q.more all (quiet_answered p q.more q.quiet))
-
--- where the tables are told after a writing, what it makes of them
-followed_by : (p : Program) (site : ℕ) (args : List Value) (old new : Option Tables) → HasChanged p site args old new → HasFollowed p old new (write_event site args)
-followed_by p site args None new changed = tt
-followed_by p site args (Some before) None changed = absurd changed
-followed_by p site args (Some before) (Some after) changed = changed.follows
-
--- and they fit, as before
-pub fit_by : (p : Program) (site : ℕ) (args : List Value) (old new : Option Tables) → HasChanged p site args old new → AreFit p old → AreFit p new
-fit_by p site args None new changed fit = subst (AreFit p) (sym changed) tt
-fit_by p site args (Some before) None changed fit = absurd changed
-fit_by p site args (Some before) (Some after) changed fit = changed.fit fit
-
-pub past_written : (p : Program) (old mid new : Option Tables) (site : ℕ) (args : List Value) (log : List Event) → HasPast p old mid log → HasChanged p site args mid new → HasPast p old new (log ++ write_event site args ∷ [])
-past_written p old mid new site args log past changed = past_followed p old mid new log (write_event site args) past (followed_by p site args mid new changed)
-
--- tables that the program doesn't declare are as they were, also after a writing
-kept_on : (p : Program) (site : ℕ) (args : List Value) (old told after : Option Tables) → KeepsOthers p old told → HasChanged p site args told after → KeepsOthers p old after
-kept_on p site args None told after keeps changed x undeclared = tt
-kept_on p site args (Some before) None after keeps changed x undeclared = subst (λ o. IfSome o (λ tables. tables x ≡ before x)) (sym changed) tt
-kept_on p site args (Some before) (Some tables) None keeps changed x undeclared = absurd changed
-kept_on p site args (Some before) (Some tables) (Some last) keeps changed x undeclared = changed.others x undeclared ∙ keeps x undeclared
-
-keeps_itself : (p : Program) (told : Option Tables) → KeepsOthers p told told
-keeps_itself p None x undeclared = tt
-keeps_itself p (Some tables) x undeclared = refl
-
-module _ (p : Program) (first : Machine) (o : Run → Out Value) (old told : Option Tables) where
-  -- nothing of tables was done
-  stands_quietly : (m new : Machine) (last next : Next) → LeadsWhole p first o new next → GoesQuietly m.log new.log → Stands p first o old told m last → Stands p first o old told new next
-  stands_quietly m new last next g q s = record {
-    leads = g;
-    answered = answered_quietly p m.log new.log s.answered q;
-    past = past_quietly p old told m.log new.log s.past q;
-    fit = s.fit;
-    others = s.others;
-  }
-
-  pub stands_enter : (m new : Machine) (last next : Next) (e : Bor Expr) (scope : Names) (place : Loc) → last ≡ now.Enter e scope place → Stands p first o old told m last → Leads p m (eval (source p) (under scope e.now) place) new next → Stands p first o old told new next
-  stands_enter m new last next e scope place is s l = stands_quietly m new last next (whole.goes_enter p first o m new last next e scope place is s.leads l) l.quiet s
-
-  pub stands_give : (m new : Machine) (last next : Next) (f : MachineFrame) (v : Value) (stack : List MachineFrame) → last ≡ now.Give v → m.stack ≡ stack ++ f ∷ [] → Stands p first o old told m last
-      → Leads p (record { stack = stack; log = m.log; fuel = m.fuel }) (frame_rest p f v) new next → Stands p first o old told new next
-  stands_give m new last next f v stack is popped s l = stands_quietly m new last next (whole.goes_give p first o m new last next f v stack is popped s.leads l) l.quiet s
-
-  pub stands_read : (m new : Machine) (last next : Next) (back : Loc) (site : ℕ) (args : List Value) (rows : List Row) → last ≡ now.Read back site args → Stands p first o old told m last
-      → IsAnswered p (read_event site args rows) → HasFollowed p told told (read_event site args rows)
-      → Leads p (after_read site args rows m) (returned back (rows_value rows)) new next → Stands p first o old told new next
-  stands_read m new last next back site args rows is s answer followed l = record {
-    leads = whole.goes_read p first o m new last next back site args rows is s.leads l;
-    answered = answered_quietly p (m.log ++ read_event site args rows ∷ []) new.log (each_both (IsAnswered p) m.log (read_event site args rows ∷ []) s.answered (answer, tt)) l.quiet;
-    past = past_quietly p old told (m.log ++ read_event site args rows ∷ []) new.log (past_followed p old told told m.log (read_event site args rows) s.past followed) l.quiet;
-    fit = s.fit;
-    others = s.others;
-  }
-
-  pub stands_write : (after : Option Tables) (m new : Machine) (last next : Next) (back : Loc) (site : ℕ) (args : List Value) → last ≡ now.Write back site args → Stands p first o old told m last
-      → HasChanged p site args told after → Leads p (after_write site args m) (returned back unit) new next → Stands p first o old after new next
-  stands_write after m new last next back site args is s changed l = record {
-    leads = whole.goes_write p first o m new last next back site args is s.leads l;
-    answered = answered_quietly p (m.log ++ write_event site args ∷ []) new.log (each_both (IsAnswered p) m.log (write_event site args ∷ []) s.answered (tt, tt)) l.quiet;
-    past = past_quietly p old after (m.log ++ write_event site args ∷ []) new.log (past_written p old told after site args m.log s.past changed) l.quiet;
-    fit = fit_by p site args told after changed s.fit;
-    others = kept_on p site args old told after s.others changed;
-  }
-
--- at the beginning
-pub stands_first : (p : Program) (first : Machine) (next : Next) (told : Option Tables) → first.stack ≡ [] → first.log ≡ [] → AreFit p told → Stands p first (outcome p next) told told first next
-stands_first p first next told empty none fit = record {
-  leads = whole.goes_first p first (outcome p next) next empty none;
-  answered = subst (Each (IsAnswered p)) (sym none) tt;
-  past = subst (HasPast p told told) (sym none) (no_past p told);
-  fit = fit;
-  others = keeps_itself p told;
-}
 
 -- ---- ends
 
@@ -157,6 +63,7 @@ module _ (p : Program) (first m : Machine) (o : Run → Out Value) (fuel : ℕ) 
   ends_with e run plain = record {
     left = left;
     run = run;
+    begun = begun_here p first m o fuel none is law next old told s;
     history = past_history p old told m.log s.past;
     others = s.others;
     plain = (plain, sound.plain_here p first m o fuel none is law next s.leads s.answered);
@@ -164,7 +71,7 @@ module _ (p : Program) (first m : Machine) (o : Run → Out Value) (fuel : ℕ) 
 
   -- the same machine with other frames
   restacked : (stack : List MachineFrame) (e : SourceEnd) → Ends p o fuel old told m e → Ends p o fuel old told (record { stack = stack; log = m.log; fuel = m.fuel }) e
-  restacked stack e h = record { left = h.left; run = h.run; history = h.history; others = h.others; plain = h.plain }
+  restacked stack e h = record { left = h.left; run = h.run; begun = h.begun; history = h.history; others = h.others; plain = h.plain }
 
   pub ends_value : (v : Value) (stack : List MachineFrame) → next ≡ now.Give v → m.stack ≡ [] → Ends p o fuel old told (record { stack = stack; log = m.log; fuel = m.fuel }) (end.Value v)
   ends_value v stack e empty =
@@ -213,21 +120,9 @@ module _ (p : Program) (first m : Machine) (o : Run → Out Value) (fuel : ℕ) 
 pub ends_as : (p : Program) (o : Run → Out Value) (fuel : ℕ) (old told present : Option Tables) (m : Machine) (e other : SourceEnd) → present ≡ told → other ≡ e → Ends p o fuel old told m e → Ends p o fuel old present m other
 ends_as p o fuel old told present m e other same is h = subst (λ t. Ends p o fuel old t m other) (sym same) (subst (Ends p o fuel old told m) (sym is) h)
 
--- ---- want of memory
+-- ---- what holds anyway
 
--- what holds anyway holds of an error
+-- also of an error
 pub if_err : {T E : Type 0} (H : Type 0) (result : Result T E) → H → IfErr result (λ error. H)
 if_err H (Ok x) h = tt
 if_err H (Err e) h = h
-
--- nothing has happened
-pub no_events : (p : Program) (told : Option Tables) → HasSomeHistory p told told
-no_events p told = ([], past_history p told told [] (no_past p told))
-
--- the events so far are some
-pub some_history : (p : Program) (first m : Machine) (o : Run → Out Value) (next : Next) (old told : Option Tables) → Stands p first o old told m next → HasSomeHistory p old told
-some_history p first m o next old told s = (m.log, past_history p old told m.log s.past)
-
--- and so they are with a writing that isn't in the log yet
-pub some_written : (p : Program) (first m : Machine) (o : Run → Out Value) (next : Next) (old told after : Option Tables) (site : ℕ) (args : List Value) → Stands p first o old told m next → HasChanged p site args told after → HasSomeHistory p old after
-some_written p first m o next old told after site args s changed = (m.log ++ write_event site args ∷ [], past_history p old after _ (past_written p old told after site args m.log s.past changed))

@@ -1,3 +1,4 @@
+pub mod Begun
 pub mod Changing
 pub mod Ending
 pub mod Going
@@ -10,6 +11,7 @@ pub mod SameBag
 pub mod Scanned
 pub mod Shuffles
 pub mod Sound
+pub mod Standing
 pub mod TableNames
 pub mod TablesSeen
 pub mod Unread

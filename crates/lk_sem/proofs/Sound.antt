@@ -119,7 +119,7 @@ module _ (p : Program) (first m : Machine) (o : Run → Out Value) (fuel : ℕ) 
   answered_with : (log : List Entry) → Each (IsAnswered p) (events_of log) → Kept log (run_of whole) → AreAnswered p whole
   answered_with log all k = subst (Each (λ (entry : Entry). IsAnswered p entry.event)) (sym k.is) (each_both (λ (entry : Entry). IsAnswered p entry.event) log k.more (entries_of (IsAnswered p) log all) (unread_answered p k.more k.unread))
 
-  keeps : Kept here.0.log (run_of whole)
+  pub keeps : Kept here.0.log (run_of whole)
   keeps = subst (λ (x : Out Value). Kept here.0.log (run_of x)) (sym here.3) (state_keeps here.0.log p m.stack next here.0 (kept_itself here.0.log here.0 here.1.whole here.2 refl)).kept
 
   outcome_here : IsOutcome p sound.effects (λ v. holds_function v ≡ false) (start fuel (answers_in m.log)) whole
@@ -155,13 +155,23 @@ module _ (p : Program) (first m : Machine) (o : Run → Out Value) (fuel : ℕ) 
       ∙ ap (λ answers. wound p m.stack (and_then (reading site args answers here.0) (returned back))) here.2
       ∙ winding.wound-stops (source p) (map frame_of m.stack) (Waiting site args) here.0)).0.1
 
+  -- the run with what it is about to write
+  abbrev pub with_writing : ℕ → List Value → Run
+  with_writing site args = logs (write_event site args) Within here.0
+
+  pub keeps_writing : (back : Loc) (site : ℕ) (args : List Value) → next ≡ now.Write back site args → Kept (with_writing site args).log (run_of whole)
+  keeps_writing back site args e =
+      let s : Run = here.0 in
+      let t : Run = with_writing site args in
+      subst (λ (x : Out Value). Kept t.log (run_of x)) (sym (here.3 ∙ ap (λ n. wound p m.stack (outcome p n s)) e)) (back_keeps t.log p m.stack back unit t (kept_itself t.log t here.1.whole here.2 refl)).kept
+
   -- what it is about to write is a writing of the program
   pub writing_here : (back : Loc) (site : ℕ) (args : List Value) → next ≡ now.Write back site args → IsWriting p site args
   writing_here back site args e =
       let s : Run = here.0 in
       let entry : Entry = record { number = s.steps; event = write_event site args; crossing = Within } in
-      let t : Run = logs (write_event site args) Within s in
-      let k : Kept t.log (run_of whole) = subst (λ (x : Out Value). Kept t.log (run_of x)) (sym (here.3 ∙ ap (λ n. wound p m.stack (outcome p n s)) e)) (back_keeps t.log p m.stack back unit t (kept_itself t.log t here.1.whole here.2 refl)).kept in
+      let t : Run = with_writing site args in
+      let k = keeps_writing back site args e in
       let front = each_front (λ (x : Entry). Allows p sound.effects x.event) t.log k.more (subst (Each (λ (x : Entry). Allows p sound.effects x.event)) k.is allowed) in
       (each_last (λ (x : Entry). Allows p sound.effects x.event) s.log entry front).1
 

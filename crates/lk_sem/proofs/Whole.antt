@@ -28,7 +28,7 @@ use Rattle.lk_sem.proofs.Leading.{wound-push}
 
 -- ---- the answers in a log
 
-answers_both : (front back : List Event) → answers_in (front ++ back) ≡ answers_in front ++ answers_in back
+pub answers_both : (front back : List Event) → answers_in (front ++ back) ≡ answers_in front ++ answers_in back
 answers_both [] back = refl
 answers_both (event.Read e ∷ front) back = ap (λ l. e.answer ∷ l) (answers_both front back)
 answers_both (event.Print bytes ∷ front) back = answers_both front back

@@ -1,5 +1,5 @@
 -- The runs of programs over tables.
-use Rattle.std.specs.Prelude.{◌≡◌, ℕ, ◌+◌, ◌<◌, false, List, [], ◌∷◌, Option, Some, None, length, IfSome, IsSomeAnd}
+use Rattle.std.specs.Prelude.{◌≡◌, ℕ, ◌+◌, ◌<◌, false, List, [], ◌∷◌, ◌++◌, Option, Some, None, length, IfSome, IsSomeAnd}
 use Rattle.std.specs.List.{list_any}
 use Rattle.lk_ast.specs.Functions.{main_of}
 use Rattle.lk_ast.specs.Layers.{layer}
@@ -18,6 +18,7 @@ use Rattle.lk_bag.specs.Blocks.{block_at}
 use Rattle.lk_bag.specs.Change.{after_insert}
 use Rattle.lk_bag.specs.Legal.{IsLegal, most_rows}
 use Rattle.lk_evaluation.specs.Evaluation.{Primitive, Printing, Reading, Writing, used}
+use Rattle.lk_evaluation.specs.Laws.{run_of}
 use Rattle.lk_evaluation.specs.Run.{Run, Out, Goes, Stops, Trapped, Spent, events_of, answers_in, start}
 use Rattle.lk_evaluation.specs.Source.{Point, source, session}
 use Rattle.lk_sem.specs.Frames.{Frame, wound}
@@ -82,9 +83,21 @@ IsRun p arg fuel told run = IfSome (main_of p) (λ main. IsRunBy p (session p ma
 abbrev pub HasHistory : Program → Option Tables → Option Tables → List Event → Type 0
 HasHistory p old new events = IfSome old (λ before. IsSomeAnd new (λ after. IsLegal p before events after))
 
--- the same of some events
-abbrev pub HasSomeHistory : Program → Option Tables → Option Tables → Type 0
-HasSomeHistory p old new = (events : List Event) × HasHistory p old new events
+-- these events come first in the evaluation over the answers of the readings among them
+abbrev pub HasBegun : (Run → Out Value) → ℕ → List Event → Type 0
+HasBegun evaluation fuel events = (more : List Event) × (events_of (run_of (evaluation (start fuel (answers_in events)))).log ≡ events ++ more)
+
+-- first events of an evaluation lead from the old tables to the new
+abbrev pub HasFirstHistory : Program → (Run → Out Value) → ℕ → Option Tables → Option Tables → Type 0
+HasFirstHistory p evaluation fuel old new = (events : List Event) × HasBegun evaluation fuel events × HasHistory p old new events
+
+-- these events come first in a session
+abbrev pub HasBegunSession : Program → List ℕ → ℕ → List Event → Type 0
+HasBegunSession p arg fuel events = IfSome (main_of p) (λ main. HasBegun (session p main arg) fuel events)
+
+-- first events of a session lead from the old tables to the new
+abbrev pub HasSomeHistory : Program → List ℕ → ℕ → Option Tables → Option Tables → Type 0
+HasSomeHistory p arg fuel old new = (events : List Event) × HasBegunSession p arg fuel events × HasHistory p old new events
 
 -- ---- what is shown
 

@@ -8,7 +8,7 @@ use Rattle.lk_ast.specs.declared.value.Value.{Value}
 use Rattle.lk_evaluation.specs.Run.{Run, Out, start}
 use Rattle.lk_sem.specs.Histories.{AreFit, HasPast, KeepsOthers}
 use Rattle.lk_sem.specs.Machine.{LeadsWhole}
-use Rattle.lk_sem.specs.SourceRuns.{HasHistory, IsPlainRun, IsRunBy}
+use Rattle.lk_sem.specs.SourceRuns.{HasBegun, HasHistory, IsPlainRun, IsRunBy}
 use Rattle.lk_sem.specs.declared.machine.Machine.{Machine}
 use Rattle.lk_sem.specs.declared.machine.Next.{Next}
 use Rattle.lk_sem.specs.declared.run.SourceEnd.{SourceEnd}
@@ -42,6 +42,7 @@ run_to fuel m end = record { end = end; log = m.log; used = fuel - m.fuel }
 pub record Ends (p : Program) (evaluation : Run → Out Value) (fuel : ℕ) (old now : Option Tables) (m : Machine) (end : SourceEnd) : Type 0 where
   pub left : m.fuel ≤ fuel
   pub run : IsRunBy p evaluation fuel now (run_to fuel m end) end
+  pub begun : HasBegun evaluation fuel m.log
   pub history : HasHistory p old now m.log
   pub others : KeepsOthers p old now
   pub plain : IsPlainRun (run_to fuel m end)

@@ -1,21 +1,23 @@
 use Rattle.std.proofs.Common.{rules, refl, sym, subst, ◌∙◌}
 use Rattle.lk_sem.specs.Histories.{read_event}
 use Rattle.lk_sem.specs.Machine.{outcome}
-use Rattle.lk_sem.specs.SourceRuns.{HasSomeHistory, IsOverfull}
+use Rattle.lk_sem.specs.SourceRuns.{HasFirstHistory, IsOverfull}
 use Rattle.lk_sem.specs.Standing.{Ends, Stands}
 use Rattle.lk_sem.specs.Writings.{HasChanged}
 use Rattle.lk_sem.specs.declared.run.SourceEnd.TheVariants.{TableFull}
 use Rattle.lk_sound.specs.Tables.{IsAnswered, IsReading, IsWriting}
-use Rattle.lk_sem.proofs.Ending.{ends_as, ends_full, ends_halt, ends_read, ends_value, ends_write, if_err, never_stuck, some_history, some_written, stands_enter, stands_give, stands_read, stands_write}
+use Rattle.lk_sem.proofs.Begun.{first_history, first_written}
+use Rattle.lk_sem.proofs.Ending.{ends_as, ends_full, ends_halt, ends_read, ends_value, ends_write, if_err, never_stuck}
 use Rattle.lk_sem.proofs.Sound.{reading_here, writing_here}
+use Rattle.lk_sem.proofs.Standing.{stands_enter, stands_give, stands_read, stands_write}
 use Rattle.lk_sem.proofs.Whole.{give_smaller}
 use Rattle.lk_sem.proofs.source.run.Goals as goal
 
 pub returns-in_err-next-in-Enter-clause-refused : goal.returns-in_err-next-in-Enter-clause-refused
-returns-in_err-next-in-Enter-clause-refused g c = if_err _ c.from_residual.result (some_history _ _ _ _ _ _ _ c.loop-next.invariant.stands)
+returns-in_err-next-in-Enter-clause-refused g c = if_err _ c.from_residual.result (first_history c.args.catalog.now c.args.machine.now c.loop-next.machine (outcome c.args.catalog.now c.args.first) c.args.machine.now.fuel c.requires.log refl c.requires.sound c.loop-next.next _ _ c.loop-next.invariant.stands)
 
 pub returns-in_err-next-in-Some-clause-refused : goal.returns-in_err-next-in-Some-clause-refused
-returns-in_err-next-in-Some-clause-refused g c = if_err _ c.from_residual-in_err-next-in-Some.result (some_history _ _ _ _ _ _ _ c.loop-next.invariant.stands)
+returns-in_err-next-in-Some-clause-refused g c = if_err _ c.from_residual-in_err-next-in-Some.result (first_history c.args.catalog.now c.args.machine.now c.loop-next.machine (outcome c.args.catalog.now c.args.first) c.args.machine.now.fuel c.requires.log refl c.requires.sound c.loop-next.next _ _ c.loop-next.invariant.stands)
 
 pub returns-in-None-clause-ends : goal.returns-in-None-clause-ends
 returns-in-None-clause-ends g c = ends_value c.args.catalog.now c.args.machine.now c.loop-next.machine (outcome c.args.catalog.now c.args.first) c.args.machine.now.fuel c.requires.log refl c.requires.sound c.loop-next.next _ _ c.loop-next.invariant.stands c.in-Give.value c.pop.new.self c.in-Give.is c.in-None.ensures.0
@@ -27,11 +29,11 @@ read_at-requires-clause-reading g c =
 
 pub returns-in_err-next-in-Ok-clause-refused : goal.returns-in_err-next-in-Ok-clause-refused
 returns-in_err-next-in-Ok-clause-refused g c =
-    if_err _ c.from_residual-in_err-next-in-Ok.result (subst (HasSomeHistory c.args.catalog.now _) (sym c.read_at.ensures.tables) (some_history _ _ _ _ _ _ _ c.loop-next.invariant.stands))
+    if_err _ c.from_residual-in_err-next-in-Ok.result (subst (HasFirstHistory c.args.catalog.now (outcome c.args.catalog.now c.args.first) c.args.machine.now.fuel ((goal.Store-dyn g c.args.store.now).tables c.args.store.now.1)) (sym c.read_at.ensures.tables) (first_history c.args.catalog.now c.args.machine.now c.loop-next.machine (outcome c.args.catalog.now c.args.first) c.args.machine.now.fuel c.requires.log refl c.requires.sound c.loop-next.next _ _ c.loop-next.invariant.stands))
 
 pub returns-in_err-refused-in-Err-clause-refused : goal.returns-in_err-refused-in-Err-clause-refused
 returns-in_err-refused-in-Err-clause-refused g c =
-    if_err _ c.from_residual-in_err-refused-in-Err.result (subst (HasSomeHistory c.args.catalog.now _) (sym c.read_at.ensures.tables) (some_history _ _ _ _ _ _ _ c.loop-next.invariant.stands))
+    if_err _ c.from_residual-in_err-refused-in-Err.result (subst (HasFirstHistory c.args.catalog.now (outcome c.args.catalog.now c.args.first) c.args.machine.now.fuel ((goal.Store-dyn g c.args.store.now).tables c.args.store.now.1)) (sym c.read_at.ensures.tables) (first_history c.args.catalog.now c.args.machine.now c.loop-next.machine (outcome c.args.catalog.now c.args.first) c.args.machine.now.fuel c.requires.log refl c.requires.sound c.loop-next.next _ _ c.loop-next.invariant.stands))
 
 pub write_at-requires-clause-writing : goal.write_at-requires-clause-writing
 write_at-requires-clause-writing g c =
@@ -40,7 +42,7 @@ write_at-requires-clause-writing g c =
 
 pub returns-in_err-next-in-Ok-Done-clause-refused : goal.returns-in_err-next-in-Ok-Done-clause-refused
 returns-in_err-next-in-Ok-Done-clause-refused g c =
-    if_err _ c.from_residual-in_err-next-in-Ok-Done.result (some_written _ _ _ _ _ _ _ _ c.in-Write.site c.as_slice-in-Write.result.now c.loop-next.invariant.stands (rw c.in-Ok-Done.field-0-is at c.in-Ok-Done.ensures.written))
+    if_err _ c.from_residual-in_err-next-in-Ok-Done.result (first_written c.args.catalog.now c.args.machine.now c.loop-next.machine (outcome c.args.catalog.now c.args.first) c.args.machine.now.fuel c.requires.log refl c.requires.sound c.loop-next.next _ _ c.loop-next.invariant.stands _ c.in-Write.back c.in-Write.site c.in-Write.args c.in-Write.is (rw (c.in-Ok-Done.field-0-is, c.as_slice-in-Write.ensures) at c.in-Ok-Done.ensures.written))
 
 pub returns-in-Ok-Full-clause-ends : goal.returns-in-Ok-Full-clause-ends
 returns-in-Ok-Full-clause-ends g c =
@@ -102,7 +104,7 @@ returns-in-Err-clause-ends g c =
 
 pub returns-in_err-refused-in-Err-write_at-clause-refused : goal.returns-in_err-refused-in-Err-write_at-clause-refused
 returns-in_err-refused-in-Err-write_at-clause-refused g c =
-    if_err _ c.from_residual-in_err-refused-in-Err-write_at.result (subst (HasSomeHistory c.args.catalog.now _) (sym c.in-Err-write_at.ensures.refused) (some_history _ _ _ _ _ _ _ c.loop-next.invariant.stands))
+    if_err _ c.from_residual-in_err-refused-in-Err-write_at.result (subst (HasFirstHistory c.args.catalog.now (outcome c.args.catalog.now c.args.first) c.args.machine.now.fuel ((goal.Store-dyn g c.args.store.now).tables c.args.store.now.1)) (sym c.in-Err-write_at.ensures.refused) (first_history c.args.catalog.now c.args.machine.now c.loop-next.machine (outcome c.args.catalog.now c.args.first) c.args.machine.now.fuel c.requires.log refl c.requires.sound c.loop-next.next _ _ c.loop-next.invariant.stands))
 
 pub returns-in-Err-write_at-clause-ends : goal.returns-in-Err-write_at-clause-ends
 returns-in-Err-write_at-clause-ends g c =
