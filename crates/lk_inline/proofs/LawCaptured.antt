@@ -63,8 +63,8 @@ module _ (p : Program) (g : GroundProgram) (has : HasInstances p g) (site : Site
 
   query_captures : (keys : List SortKey) (body : Expr) → layer site.block ≡ Node-F.Query keys body → Found (query_at p g.helpers site keys body)
   query_captures keys body is =
-      let alone : IsQueryAlone p i block.functions block.locals body site.types site.calls block.after =
-      query_alone p i block.functions block.locals body site.types site.calls block.after (query_block p i block.functions block.typed keys body is block.fine site.types site.calls block.after block.takes) in
+      let alone : IsQueryAlone p i block.functions block.locals keys body site.types site.calls block.after =
+      query_alone p i block.functions block.locals keys body site.types site.calls block.after (query_block p i block.functions block.typed keys body is block.fine site.types site.calls block.after block.takes) in
       by_types (query_at p g.helpers site keys body) (captured_query body) alone.names
       (captured_are block.locals (query_uses body (drop 1 site.types)) (captured_query body) alone.names
       (λ x among. (uses_typed p i.helpers (length (functions_of p)) true alone.typed refl refl (all_early p i has.closed (nodes_of true alone.typed) alone.flat) (drop 1 site.types) site.calls block.after alone.takes x among).1))
