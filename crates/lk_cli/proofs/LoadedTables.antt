@@ -7,11 +7,12 @@ use Rattle.lk_ast.specs.declared.declaration.Program.{Program}
 use Rattle.lk_ast.specs.declared.table.Row.{Row}
 use Rattle.lk_ast.specs.declared.table.TableDef.{TableDef}
 use Rattle.lk_ast.specs.declared.table.TableRows.{TableRows}
+use Rattle.lk_bag.specs.Change.{with_rows}
 use Rattle.lk_sound.specs.Tables.{AreTables}
 use Rattle.lk_tables.specs.Law.{are_distinct}
 use Rattle.lk_types.specs.Each.{Each}
 use Rattle.lk_cli.proofs.Putting.{itself, name_of, same_name, turned}
-use Rattle.lk_cli.specs.Loading.{IsOfTable, all_put, loaded_over, put, rows_if}
+use Rattle.lk_cli.specs.Loading.{IsOfTable, all_put, loaded_over, rows_if}
 
 abbrev pub AreDistinct : List TableDef → Type 0
 AreDistinct defs = are_distinct (map name_of defs) ≡ true
@@ -53,14 +54,14 @@ unfound x (def ∷ defs) new =
 
 module _ (def : TableDef) (defs : List TableDef) (table : TableRows) (tables : List TableRows) (same : table.name ≡ def.name) (new : IsNew def.name defs) (old : Tables) where
   one_more : (x : List ℕ) (b : Bool) → bytes_eq def.name x ≡ b
-      → rows_if (found defs x) (rows_of tables x) (put table.name table.rows old x)
+      → rows_if (found defs x) (rows_of tables x) (with_rows table.name table.rows old x)
       ≡ rows_if (if b then Some def else found defs x) (if b then table.rows else rows_of tables x) (old x)
   one_more x true is =
-      ap (λ o. rows_if o (rows_of tables x) (put table.name table.rows old x)) (subst (λ y. found defs y ≡ None) (same_name def.name x is) (unfound def.name defs new))
+      ap (λ o. rows_if o (rows_of tables x) (with_rows table.name table.rows old x)) (subst (λ y. found defs y ≡ None) (same_name def.name x is) (unfound def.name defs new))
       ∙ ap (λ b. if b then table.rows else old x) (ap (λ y. bytes_eq y x) same ∙ is)
   one_more x false is = ap (λ b. rows_if (found defs x) (rows_of tables x) (if b then table.rows else old x)) (ap (λ y. bytes_eq y x) same ∙ is)
 
-  over : (x : List ℕ) → rows_if (found defs x) (rows_of tables x) (put table.name table.rows old x) ≡ loaded_over (def ∷ defs) (table ∷ tables) old x
+  over : (x : List ℕ) → rows_if (found defs x) (rows_of tables x) (with_rows table.name table.rows old x) ≡ loaded_over (def ∷ defs) (table ∷ tables) old x
   over x = one_more x (bytes_eq def.name x) refl
       ∙ ap (λ b. rows_if (found (def ∷ defs) x) (if b then table.rows else rows_of tables x) (old x)) (sym (turned x table.name ∙ ap (λ y. bytes_eq y x) same))
 
@@ -70,7 +71,7 @@ put_over [] (table ∷ tables) are apart old x = absurd are
 put_over (def ∷ defs) [] are apart old x = absurd are
 put_over (def ∷ defs) (table ∷ tables) are apart old x =
     let halves = split def defs apart in
-    put_over defs tables are.1 halves.1 (put table.name table.rows old) x ∙ over def defs table tables are.0.name halves.0 old x
+    put_over defs tables are.1 halves.1 (with_rows table.name table.rows old) x ∙ over def defs table tables are.0.name halves.0 old x
 
 told_over : (defs : List TableDef) (tables : List TableRows) → AllZip IsOfTable defs tables → are_distinct (map name_of defs) ≡ true → (told : Option Tables)
     → option_map (all_put tables) told ≡ option_map (loaded_over defs tables) told

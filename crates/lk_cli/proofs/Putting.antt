@@ -5,8 +5,8 @@ use Rattle.std.proofs.lemmas.Slice.Eq.{bytes_eq-Decides}
 use Rattle.lk_ast.specs.Tables.{Tables}
 use Rattle.lk_ast.specs.declared.table.Row.{Row}
 use Rattle.lk_ast.specs.declared.table.TableDef.{TableDef}
+use Rattle.lk_bag.specs.Change.{with_rows}
 use Rattle.lk_outside.specs.Store.{Changes, Puts}
-use Rattle.lk_cli.specs.Loading.{put}
 
 -- ---- names
 
@@ -35,14 +35,14 @@ turned x y = by_tests (bytes_eq x y) (bytes_eq y x) refl refl
 
 -- ---- one table
 
-put_rows : (before after : Tables) (name : List ℕ) (rows : List Row) → Puts before after name rows → after ≡ put name rows before
+put_rows : (before after : Tables) (name : List ℕ) (rows : List Row) → Puts before after name rows → after ≡ with_rows name rows before
 put_rows before after name rows puts = λ i other. at other (bytes_eq name other) refl i
   where
     at : (other : List ℕ) (b : Bool) → bytes_eq name other ≡ b → after other ≡ (if b then rows else before other)
     at other true is = ap after (sym (same_name name other is)) ∙ puts.named
     at other false is = puts.others other (λ same. true_false (bytes_eq name other) ((bytes_eq-Decides name other).1 (sym same)) is)
 
-pub changed : (old new : Option Tables) (name : List ℕ) (rows : List Row) → Changes old new name (λ before. rows) → new ≡ option_map (put name rows) old
+pub changed : (old new : Option Tables) (name : List ℕ) (rows : List Row) → Changes old new name (λ before. rows) → new ≡ option_map (with_rows name rows) old
 changed None new name rows is = is
 changed (Some before) None name rows is = absurd is
 changed (Some before) (Some after) name rows is = ap (λ t. Some t) (put_rows before after name rows is)

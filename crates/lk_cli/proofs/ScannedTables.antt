@@ -1,5 +1,5 @@
 -- Tables that are scanned one after the other, and what a session makes of them.
-use Rattle.std.proofs.Common.{◌≡◌, ◌≢◌, ◌∙◌, refl, ap, subst, true, ℕ, List, [], ◌∷◌, ◌++◌, map}
+use Rattle.std.proofs.Common.{◌≡◌, ◌≢◌, ◌∙◌, refl, sym, ap, subst, inl, inr, true, ℕ, List, [], ◌∷◌, ◌++◌, map}
 use Rattle.std.specs.Prelude.{Option, Some, None, option_map, IfSome}
 use Rattle.std.specs.List.{AllZip}
 use Rattle.lk_ast.specs.Tables.{Tables, all_fit, rows_of, table_defs}
@@ -7,13 +7,16 @@ use Rattle.lk_ast.specs.declared.declaration.Program.{Program}
 use Rattle.lk_ast.specs.declared.event.Event.{Event}
 use Rattle.lk_ast.specs.declared.table.TableDef.{TableDef}
 use Rattle.lk_ast.specs.declared.table.TableRows.{TableRows}
+use Rattle.lk_outside.specs.declared.fault.OutFault.{OutFault}
+use Rattle.lk_outside.specs.declared.fault.OutFault.TheVariants.{Failed, NoMemory}
 use Rattle.lk_sem.specs.Histories.{KeepsOthers}
-use Rattle.lk_sem.specs.SourceRuns.{HasHistory, IsRun}
+use Rattle.lk_sem.specs.SourceRuns.{HasBegunSession, HasHistory, IsRun}
+use Rattle.lk_sem.specs.declared.run.SourceRun.{SourceRun}
 use Rattle.lk_sem.specs.declared.run.SourceEnd.TheVariants as end
 use Rattle.lk_sound.specs.Tables.{table_at}
 use Rattle.lk_types.specs.Each.{Each}
 use Rattle.lk_cli.specs.Answers.{IsSessionOver}
-use Rattle.lk_cli.specs.Loading.{FitsTold, HasRowsOf, HasToldSession, IsOfTable, IsScanned, empty_table, loaded_over, rows_if}
+use Rattle.lk_cli.specs.Loading.{AreLeft, BreaksOff, FitsTold, HasRowsOf, HasToldSession, IsOfTable, IsScanned, empty_table, loaded_over, rows_if}
 use Rattle.lk_cli.specs.declared.answer.Done.{Done}
 use Rattle.lk_cli.specs.declared.command.SourceCommand.{SourceCommand}
 
@@ -70,6 +73,37 @@ session_over program command loaded done old between new is run ended history ot
   tables = all_of_table new (table_defs program) done.tables are;
   told = told_session program loaded done.run.log done.tables old new (subst (λ told. HasHistory program told new done.run.log) is history) (subst (λ told. KeepsOthers program told new) is others) are;
 }
+
+-- ---- where a session breaks off
+
+told_others : (program : Program) (loaded : List TableRows) (old new : Option Tables) → KeepsOthers program (option_map (loaded_over (table_defs program) loaded) old) new → KeepsOthers program old new
+told_others program loaded None new others x none = tt
+told_others program loaded (Some old) None others x none = tt
+told_others program loaded (Some old) (Some new) others x none = others x none ∙ unloaded program loaded old x none
+
+keeps_itself : (program : Program) (told : Option Tables) → KeepsOthers program told told
+keeps_itself program None x none = tt
+keeps_itself program (Some tables) x none = refl
+
+-- before the rows were loaded
+pub left_before : (program : Program) (command : SourceCommand) (loaded : List TableRows) (old new : Option Tables) (fault : OutFault) → new ≡ old → AreLeft program command loaded fault old new
+left_before program command loaded old new fault is = record { become = inl is; others = subst (KeepsOthers program old) (sym is) (keeps_itself program old) }
+
+-- afterwards
+pub left_over : (program : Program) (command : SourceCommand) (loaded : List TableRows) (old between new : Option Tables) (fault : OutFault)
+    → between ≡ option_map (loaded_over (table_defs program) loaded) old → BreaksOff program command fault between new → KeepsOthers program between new → AreLeft program command loaded fault old new
+left_over program command loaded old between new fault is breaks others = record {
+  become = inr (subst (λ told. BreaksOff program command fault told new) is breaks);
+  others = told_others program loaded old new (subst (λ told. KeepsOthers program told new) is others);
+}
+
+-- at the end of a run
+pub breaks_behind : (program : Program) (command : SourceCommand) (run : SourceRun) (fault : OutFault) (loaded new : Option Tables)
+    → IsRun program command.arg command.fuel new run → HasBegunSession program command.arg command.fuel run.log → HasHistory program loaded new run.log → BreaksOff program command fault loaded new
+breaks_behind program command run Failed loaded new is begun history = (run, is, history)
+breaks_behind program command run NoMemory loaded new is begun history = (run.log, begun, history)
+
+-- ---- fits
 
 -- where the tables are told, the rows of each declared one fit it
 pub each_told : (defs : List TableDef) (told : Option Tables) → IfSome told (λ tables. Each (λ (def : TableDef). all_fit def (tables def.name) ≡ true) defs) → Each (FitsTold told) defs

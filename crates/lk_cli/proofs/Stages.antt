@@ -1,6 +1,6 @@
 -- The answers of stages as those of the whole.
 use Rattle.std.proofs.Common.{◌≡◌, ◌≤◌, refl, sym, ap, subst, inl, inr, ℕ, List, Result, Ok, Err, arith, bytes_eq, find}
-use Rattle.std.specs.Prelude.{Option, Some, None, IfOk, IsSomeAnd, OnErr, option_map}
+use Rattle.std.specs.Prelude.{Option, Some, None, IfErr, IfOk, IsErrAnd, IsSomeAnd, option_map}
 use Rattle.lk_ast.specs.Tables.{Tables, table_defs}
 use Rattle.lk_ast.specs.declared.declaration.Program.{Program}
 use Rattle.lk_ast.specs.declared.table.TableDef.{TableDef}
@@ -9,7 +9,7 @@ use Rattle.lk_outside.specs.Causes.{HasCause, Rose}
 use Rattle.lk_outside.specs.Files.{Contents}
 use Rattle.lk_outside.specs.declared.fault.OutFault.{OutFault}
 use Rattle.lk_outside.specs.declared.fault.OutFault.TheVariants.{Failed, NoMemory}
-use Rattle.lk_cli.specs.Answers.{Answers, AnswersSession, HasNoRows, HasStoreFault, IsAcceptedOf, IsSessionOver, answer_of}
+use Rattle.lk_cli.specs.Answers.{Answers, AnswersSession, HasBrokenOff, HasNoRows, IsAcceptedOf, IsSessionOver, answer_of}
 use Rattle.lk_cli.specs.Loading.{AreLeft, AreLoaded}
 use Rattle.lk_cli.specs.Seen.{CameBack, FilesSeen, StoreSeen, StoresSeen, store_seen, stores_seen}
 use Rattle.lk_cli.specs.Words.{store_of}
@@ -22,11 +22,18 @@ use Rattle.lk_cli.specs.declared.command.Command.{Command}
 use Rattle.lk_cli.specs.declared.command.Command.TheVariants.{Source}
 use Rattle.lk_cli.specs.declared.command.SourceCommand.{SourceCommand}
 
+-- ---- errors
+
+-- what holds of an error holds of the answer that hands it on
+pub handed_on : {T E : Type 0} (P : E → Type 0) (answer : Result T E) (error : E) → IsErrAnd answer (λ given. given ≡ error) → P error → IfErr answer P
+handed_on P (Ok x) error is holds = absurd is
+handed_on P (Err given) error is holds = subst P (sym is) holds
+
 -- ---- the store
 
-pub came_back : (stores : StoresSeen) (before after : StoreSeen) (P : StoreSeen → StoreSeen → Type 0) → stores.given ≡ Some before → stores.back ≡ Some after → P before after → CameBack stores P
-came_back stores before after P given back is =
-    subst (λ g. IsSomeAnd g (λ b. IsSomeAnd stores.back (λ a. P b a))) (sym given) (subst (λ k. IsSomeAnd k (λ a. P before a)) (sym back) is)
+pub came_back : (stores : StoresSeen) (before after : StoreSeen) (P : StoreSeen → StoreSeen → Type 0) → stores.given ≡ Some before → stores.back ≡ Some after → before.faults ≤ after.faults → P before after → CameBack stores P
+came_back stores before after P given back later is =
+    subst (λ g. IsSomeAnd g (λ b. IsSomeAnd stores.back (λ a. (b.faults ≤ a.faults) × P b a))) (sym given) (subst (λ k. IsSomeAnd k (λ a. (before.faults ≤ a.faults) × P before a)) (sym back) (later, is))
 
 module _ {S : Type 0} (name : S → List ℕ) (tables : S → Option Tables) (faults : S → ℕ) (stores : List S) (wanted : List ℕ) where
   pub given_none : None ≡ find (λ store. bytes_eq wanted (name store)) stores → option_map (store_seen tables faults) (find (λ store. bytes_eq wanted (name store)) stores) ≡ None
@@ -44,17 +51,17 @@ pub tried_answer : (files : FilesSeen) (stores : StoresSeen) (command : SourceCo
     → answer ≡ answer_of outcome → stores.given ≡ Some before → stores.back ≡ Some after
     → AreLoaded files command.tables (table_defs program) loaded
     → IfOk outcome (λ done. IsSessionOver program command loaded done before.tables after.tables)
-    → OnErr outcome (AreLeft program loaded before.tables after.tables)
+    → IfErr outcome (λ fault. AreLeft program command loaded fault before.tables after.tables)
     → HasCause before.faults after.faults outcome
     → AnswersSession files stores command program answer
 tried_answer files stores command program loaded outcome before after answer is given back are session left cause =
     subst (AnswersSession files stores command program) (sym is) (by_outcome outcome session left cause)
   where
     by_outcome : (outcome : Result Done OutFault) → IfOk outcome (λ done. IsSessionOver program command loaded done before.tables after.tables)
-        → OnErr outcome (AreLeft program loaded before.tables after.tables) → HasCause before.faults after.faults outcome → AnswersSession files stores command program (answer_of outcome)
-    by_outcome (Ok done) session left cause = (loaded, are, came_back stores before after (λ b a. IsSessionOver program command loaded done b.tables a.tables) given back session)
-    by_outcome (Err Failed) session left cause = inr (inr (loaded, are, came_back stores before after (λ b a. Rose b.faults a.faults × AreLeft program loaded b.tables a.tables) given back (cause.failed refl, left)))
-    by_outcome (Err NoMemory) session left cause = inr (inr tt)
+        → IfErr outcome (λ fault. AreLeft program command loaded fault before.tables after.tables) → HasCause before.faults after.faults outcome → AnswersSession files stores command program (answer_of outcome)
+    by_outcome (Ok done) session left cause = (loaded, are, came_back stores before after (λ b a. IsSessionOver program command loaded done b.tables a.tables) given back cause.later session)
+    by_outcome (Err Failed) session left cause = inr (inr (loaded, are, came_back stores before after (λ b a. Rose b.faults a.faults × AreLeft program command loaded Failed b.tables a.tables) given back cause.later (cause.failed refl, left)))
+    by_outcome (Err NoMemory) session left cause = inr (inr (loaded, are, came_back stores before after (λ b a. AreLeft program command loaded NoMemory b.tables a.tables) given back cause.later left))
 
 -- ---- the files
 
@@ -94,9 +101,8 @@ module _ (contents : Option Contents) (failed : List ℕ) (before middle after :
   loaded_earlier None defs loaded are = are
   loaded_earlier (Some file) defs loaded are = are
 
-  fault_earlier : (stores : StoresSeen) (file : Option (List ℕ)) (program : Program) (why : Refusal) → HasStoreFault later stores file program why → HasStoreFault whole stores file program why
-  fault_earlier stores None program why is = is
-  fault_earlier stores (Some file) program why is = is
+  broken_earlier : (stores : StoresSeen) (command : SourceCommand) (program : Program) (why : Refusal) → HasBrokenOff later stores command program why → HasBrokenOff whole stores command program why
+  broken_earlier stores command program why (loaded, are, back) = (loaded, loaded_earlier command.tables (table_defs program) loaded are, back)
 
   answer_earlier : (stores : StoresSeen) (command : SourceCommand) (program : Program) (answer : Result Answer Refusal) → IsAcceptedOf whole command.program program
       → AnswersSession later stores command program answer → Answers whole stores (Some (Source command)) answer
@@ -105,7 +111,7 @@ module _ (contents : Option Contents) (failed : List ℕ) (before middle after :
   answer_earlier stores command program (Ok (Queries checked)) accepted is = absurd is
   answer_earlier stores command program (Err why) accepted (inl none) = inr (program, accepted, inl none)
   answer_earlier stores command program (Err why) accepted (inr (inl rows)) = inr (program, accepted, inr (inl (rows_earlier command.tables (table_defs program) why rows.0, rows.1)))
-  answer_earlier stores command program (Err why) accepted (inr (inr fault)) = inr (program, accepted, inr (inr (fault_earlier stores command.tables program why fault)))
+  answer_earlier stores command program (Err why) accepted (inr (inr broken)) = inr (program, accepted, inr (inr (broken_earlier stores command program why broken)))
 
 -- the answer of a session as that of its command, whose program was read before
 pub whole_answer : (contents between : Option Contents) (failed : List ℕ) (before middle after : ℕ) → between ≡ contents → before ≤ middle

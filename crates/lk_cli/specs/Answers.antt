@@ -231,24 +231,27 @@ IsUntouched stores = CameBack stores (λ before after. after ≡ before)
 -- no store has the name that is asked for, and none comes back
 abbrev pub HasNoStore : StoresSeen → List ℕ → Refusal → Type 0
 HasNoStore stores wanted (NoStore name) = (name ≡ wanted) × (stores.given ≡ None) × (stores.back ≡ None)
-HasNoStore stores wanted NoMemory = Unit {0}
+HasNoStore stores wanted NoMemory = (stores.given ≡ None) × (stores.back ≡ None)
 HasNoStore stores wanted refusal = ⊥
 
--- a call of the store failed, and what it has now is what some events made of the rows that the session was to begin with
-abbrev pub HasStoreFault : FilesSeen → StoresSeen → Option (List ℕ) → Program → Refusal → Type 0
-HasStoreFault files stores tables program StoreFault =
-    (loaded : List TableRows) × AreLoaded files tables (table_defs program) loaded
-    × CameBack stores (λ before after. Rose before.faults after.faults × AreLeft program loaded before.tables after.tables)
-HasStoreFault files stores tables program NoMemory = Unit {0}
-HasStoreFault files stores tables program refusal = ⊥
+-- the store came back with what its session had made of these rows when a call of the store failed, or when memory ran out
+abbrev pub CameBackFrom : StoresSeen → SourceCommand → Program → List TableRows → Refusal → Type 0
+CameBackFrom stores command program loaded StoreFault =
+    CameBack stores (λ before after. Rose before.faults after.faults × AreLeft program command loaded outside.Failed before.tables after.tables)
+CameBackFrom stores command program loaded NoMemory = CameBack stores (λ before after. AreLeft program command loaded outside.NoMemory before.tables after.tables)
+CameBackFrom stores command program loaded refusal = ⊥
+
+-- the session broke off, which was to begin with the rows that are asked for
+abbrev pub HasBrokenOff : FilesSeen → StoresSeen → SourceCommand → Program → Refusal → Type 0
+HasBrokenOff files stores command program refusal = (loaded : List TableRows) × AreLoaded files command.tables (table_defs program) loaded × CameBackFrom stores command program loaded refusal
 
 -- why a session of an accepted program isn't answered: there is no store; or there are no rows to begin with, and the store comes
--- back as it was; or the store failed
+-- back as it was; or it broke off
 abbrev pub IsUnanswered : FilesSeen → StoresSeen → SourceCommand → Program → Refusal → Type 0
 IsUnanswered files stores command program refusal =
     HasNoStore stores command.store refusal
     ⊎ ((HasNoRows files command.tables (table_defs program) refusal × IsUntouched stores)
-    ⊎ HasStoreFault files stores command.tables program refusal)
+    ⊎ HasBrokenOff files stores command program refusal)
 
 -- the answer to `source` where a session came to this over its store
 abbrev pub answer_of : Result Done OutFault → Result Answer Refusal

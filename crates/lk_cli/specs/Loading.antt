@@ -1,5 +1,5 @@
 -- The tables of a session: with which rows it begins, what becomes of them, and what is read of them at its end.
-use Rattle.std.specs.Prelude.{◌≡◌, ◌⊎◌, true, ℕ, List, [], ◌∷◌, Option, Some, None, IfSome, IsSomeAnd, IsPermutation, bytes_eq, find, map, option_map, if◌then◌else◌}
+use Rattle.std.specs.Prelude.{◌≡◌, ◌⊎◌, true, ℕ, List, [], ◌∷◌, Option, Some, None, IfSome, IsSomeAnd, IsPermutation, bytes_eq, find, map, option_map}
 use Rattle.std.specs.List.{AllZip}
 use Rattle.lk_ast.specs.Tables.{Tables, all_fit, rows_of, table_defs}
 use Rattle.lk_ast.specs.declared.declaration.Program.{Program}
@@ -7,11 +7,17 @@ use Rattle.lk_ast.specs.declared.event.Event.{Event}
 use Rattle.lk_ast.specs.declared.table.Row.{Row}
 use Rattle.lk_ast.specs.declared.table.TableDef.{TableDef}
 use Rattle.lk_ast.specs.declared.table.TableRows.{TableRows}
+use Rattle.lk_bag.specs.Change.{with_rows}
 use Rattle.lk_bag.specs.Legal.{IsLegal}
-use Rattle.lk_sem.specs.SourceRuns.{HasSomeHistory}
+use Rattle.lk_outside.specs.declared.fault.OutFault.{OutFault}
+use Rattle.lk_outside.specs.declared.fault.OutFault.TheVariants.{Failed, NoMemory}
+use Rattle.lk_sem.specs.Histories.{KeepsOthers}
+use Rattle.lk_sem.specs.SourceRuns.{HasHistory, HasSomeHistory, IsRun}
+use Rattle.lk_sem.specs.declared.run.SourceRun.{SourceRun}
 use Rattle.lk_sound.specs.Tables.{table_at}
 use Rattle.lk_tables.specs.Reading.{refusal, tables_in}
 use Rattle.lk_cli.specs.Seen.{FilesSeen, HasText}
+use Rattle.lk_cli.specs.declared.command.SourceCommand.{SourceCommand}
 
 -- ---- the rows that a session begins with
 
@@ -33,14 +39,10 @@ rows_if None rows others = others
 abbrev pub loaded_over : List TableDef → List TableRows → Tables → Tables
 loaded_over defs loaded old name = rows_if (find (λ (def : TableDef). bytes_eq def.name name) defs) (rows_of loaded name) (old name)
 
--- one table has these rows, and all others their old ones
-abbrev pub put : List ℕ → List Row → Tables → Tables
-put named rows old name = if bytes_eq named name then rows else old name
-
 -- these tables have their rows, put in one after the other, and all others their old ones
 abbrev pub all_put : List TableRows → Tables → Tables
 all_put [] old = old
-all_put (table ∷ tables) old = all_put tables (put table.name table.rows old)
+all_put (table ∷ tables) old = all_put tables (with_rows table.name table.rows old)
 
 -- where the tables are told, the rows of this one fit it
 abbrev pub FitsTold : Option Tables → TableDef → Type 0
@@ -73,7 +75,14 @@ pub record HasSession (program : Program) (loaded : List TableRows) (events : Li
 abbrev pub HasToldSession : Program → List TableRows → List Event → List TableRows → Option Tables → Option Tables → Type 0
 HasToldSession program loaded events printed old new = IfSome old (λ before. IsSomeAnd new (λ after. HasSession program loaded events printed before after))
 
--- the tables that a session leaves which isn't answered: those from before, or where they were told, those that some events make
--- of the rows loaded
-abbrev pub AreLeft : Program → List TableRows → Option Tables → Option Tables → Type 0
-AreLeft program loaded old new = (new ≡ old) ⊎ HasSomeHistory program (option_map (loaded_over (table_defs program) loaded) old) new
+-- What a session made of the rows loaded before it broke off. The store failed: what the log of its run makes of them, which is whole,
+-- or goes to the reading or writing that was refused. Memory ran out: what some first events of the session make of them.
+abbrev pub BreaksOff : Program → SourceCommand → OutFault → Option Tables → Option Tables → Type 0
+BreaksOff program command Failed loaded new = (run : SourceRun) × IsRun program command.arg command.fuel new run × HasHistory program loaded new run.log
+BreaksOff program command NoMemory loaded new = HasSomeHistory program command.arg command.fuel loaded new
+
+-- The tables that a session leaves which isn't answered: those from before, or what it made of the rows loaded. Tables that aren't
+-- declared are as they were.
+pub record AreLeft (program : Program) (command : SourceCommand) (loaded : List TableRows) (fault : OutFault) (old new : Option Tables) : Type 0 where
+  pub become : (new ≡ old) ⊎ BreaksOff program command fault (option_map (loaded_over (table_defs program) loaded) old) new
+  pub others : KeepsOthers program old new

@@ -1,6 +1,6 @@
 -- What commands print. `check`: a line for each function in text order. `sql`: a line for each query and each reading of a table, in
--- the order of their labels. `source`: a line for each event in order, a line for the
--- declared tables, and a last line for the end; values and tables are JSON texts.
+-- the order of their labels. `source`: a line for each event in order, a line for the declared tables, and a last line for the end;
+-- values and tables are JSON texts.
 use Rattle.std.specs.Prelude.{◌≡◌, ℕ, List, [], ◌∷◌, ◌++◌, codes, decimal}
 use Rattle.std.specs.List.{flat_map}
 use Rattle.lk_ast.specs.JsonText.{value_text_of}

@@ -1,5 +1,5 @@
 -- What a run saw of the files and of the store that the words ask for.
-use Rattle.std.specs.Prelude.{◌≡◌, ℕ, List, Option, Some, IfSome, IsSomeAnd, bytes_eq, find, option_map}
+use Rattle.std.specs.Prelude.{◌≡◌, ◌≤◌, ℕ, List, Option, Some, IfSome, IsSomeAnd, bytes_eq, find, option_map}
 use Rattle.std.specs.FinMap.{get}
 use Rattle.lk_ast.specs.Tables.{Tables}
 use Rattle.lk_outside.specs.Files.{Contents}
@@ -37,6 +37,6 @@ stores_seen name tables faults stores back wanted = record {
   back = option_map (store_seen tables faults) back;
 }
 
--- the store that was asked for was handed in and came back, and this holds of it before and after
+-- the store that was asked for was handed in and came back, its count didn't fall, and this holds of it before and after
 abbrev pub CameBack : StoresSeen → (StoreSeen → StoreSeen → Type 0) → Type 0
-CameBack stores P = IsSomeAnd stores.given (λ before. IsSomeAnd stores.back (λ after. P before after))
+CameBack stores P = IsSomeAnd stores.given (λ before. IsSomeAnd stores.back (λ after. (before.faults ≤ after.faults) × P before after))

@@ -12,6 +12,7 @@ mod schemes;
 mod session;
 mod top;
 
+// No public call takes or gives an answer, a refusal or a command: they are public for the clauses of the top call.
 pub use answer::{Answer, Checked, Done, Refusal};
 pub use command::{CheckCommand, Command, SourceCommand, SqlCommand};
 pub use top::{Ran, links_main};

@@ -4,8 +4,9 @@ ghost use Rattle.std.specs.List.{AllZip};
 ghost use Rattle.std.specs.Prelude.{◌≡◌, ◌≤◌, false, true, IfErr, IfOk, IfSome, OnErr, OnOk, map, option_map};
 ghost use Rattle.lk_ast.specs.Tables.{all_fit};
 ghost use Rattle.lk_ast.specs.declared.table.TableDef.{TableDef as TheTableDef};
+ghost use Rattle.lk_bag.specs.Change.{with_rows};
 ghost use Rattle.lk_cli.specs.Answers.{HasNoRows};
-ghost use Rattle.lk_cli.specs.Loading.{AreLoaded, IsOfTable, IsScanned, all_put, empty_table, FitsTold, loaded_over, put};
+ghost use Rattle.lk_cli.specs.Loading.{AreLoaded, IsOfTable, IsScanned, all_put, empty_table, FitsTold, loaded_over};
 ghost use Rattle.lk_cli.specs.Seen.{seen};
 ghost use Rattle.lk_outside.specs.Causes.{HasCause};
 ghost use Rattle.lk_tables.specs.Law.{are_distinct};
@@ -152,7 +153,7 @@ fn put_rows(
     requires fit { all_fit def.now rows ≡ true }
     ensures name { name store.new ≡ name store.old }
     ensures under_way { is_open store.new ≡ true }
-    ensures put { OnOk result (tables store.new ≡ option_map (put def.now.name rows) (tables store.old)) }
+    ensures put { OnOk result (tables store.new ≡ option_map (with_rows def.now.name rows) (tables store.old)) }
     ensures kept { kept store.new ≡ kept store.old }
     ensures cause { HasCause (faults store.old) (faults store.new) result }
 {
@@ -176,16 +177,9 @@ pub fn last_scan(
     ensures cause { HasCause (faults store.old) (faults store.new) result }
 {
     store.begin(alloc)?;
-    match scan_all(alloc, defs, store) {
-        Ok(scanned) => {
-            store.abort();
-            Ok(scanned)
-        }
-        Err(fault) => {
-            store.abort();
-            Err(fault)
-        }
-    }
+    let scanned = scan_all(alloc, defs, store);
+    store.abort();
+    scanned
 }
 
 /// The declared tables with their rows where a transaction is under way.

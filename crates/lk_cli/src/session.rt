@@ -1,13 +1,13 @@
 //! The session of a program over a store.
 
 ghost use Rattle.std.specs.List.{AllZip};
-ghost use Rattle.std.specs.Prelude.{◌≡◌, ◌≢◌, false, IfOk, IfSome, OnErr};
+ghost use Rattle.std.specs.Prelude.{◌≡◌, ◌≢◌, false, IfErr, IfOk, IfSome};
 ghost use Rattle.lk_ast.specs.Tables.{table_defs as declared_tables};
 ghost use Rattle.lk_cli.specs.Answers.{IsSessionOver};
-ghost use Rattle.lk_cli.specs.Loading.{AreLeft, IsOfTable, IsScanned};
+ghost use Rattle.lk_cli.specs.Loading.{AreLeft, BreaksOff, IsOfTable, IsScanned};
 ghost use Rattle.lk_outside.specs.Causes.{HasCause};
 ghost use Rattle.lk_sem.specs.Histories.{KeepsOthers};
-ghost use Rattle.lk_sem.specs.SourceRuns.{HasHistory, HasSomeHistory, IsPlainRun, IsRun};
+ghost use Rattle.lk_sem.specs.SourceRuns.{HasBegunSession, HasHistory, IsPlainRun, IsRun};
 ghost use Rattle.lk_sem.specs.declared.run.SourceEnd.TheVariants.{StoreFault as store_fault};
 ghost use Rattle.lk_sound.specs.Instances.{IsShaped};
 ghost use Rattle.lk_sound.specs.Law.{AreBoundAndApart};
@@ -52,7 +52,7 @@ pub fn run_in_box(
     ensures idle { is_open result.store ≡ false }
     ensures session { IfOk result.outcome (λ done. IsSessionOver program.now command.now rows.loaded done (tables store) (tables result.store)) }
     ensures plain { IfOk result.outcome (λ done. IsPlainRun done.run) }
-    ensures refused { OnErr result.outcome (AreLeft program.now rows.loaded (tables store) (tables result.store)) }
+    ensures refused { IfErr result.outcome (λ fault. AreLeft program.now command.now rows.loaded fault (tables store) (tables result.store)) }
     ensures cause { HasCause (faults store) (faults result.store) result.outcome }
 {
     let mut store = store;
@@ -77,7 +77,7 @@ fn run_over(
     ensures idle { is_open store.new ≡ false }
     ensures session { IfOk result (λ done. IsSessionOver program.now command.now rows.loaded done (tables store.old) (tables store.new)) }
     ensures plain { IfOk result (λ done. IsPlainRun done.run) }
-    ensures refused { OnErr result (AreLeft program.now rows.loaded (tables store.old) (tables store.new)) }
+    ensures refused { IfErr result (λ fault. AreLeft program.now command.now rows.loaded fault (tables store.old) (tables store.new)) }
     ensures cause { HasCause (faults store.old) (faults store.new) result }
 {
     let Rows { defs, loaded } = rows;
@@ -103,10 +103,10 @@ fn run_loaded(
     ensures run { IfOk result (λ done. IsRun program.now command.now.arg command.now.fuel (tables store.new) done.run) }
     ensures ended { IfOk result (λ done. done.run.end ≢ store_fault) }
     ensures history { IfOk result (λ done. HasHistory program.now (tables store.old) (tables store.new) done.run.log) }
-    ensures others { IfOk result (λ done. KeepsOthers program.now (tables store.old) (tables store.new)) }
+    ensures others { KeepsOthers program.now (tables store.old) (tables store.new) }
     ensures scanned { IfOk result (λ done. AllZip (IsScanned (tables store.new)) defs.now done.tables) }
     ensures plain { IfOk result (λ done. IsPlainRun done.run) }
-    ensures refused { OnErr result (HasSomeHistory program.now (tables store.old) (tables store.new)) }
+    ensures refused { IfErr result (λ fault. BreaksOff program.now command.now fault (tables store.old) (tables store.new)) }
     ensures cause { HasCause (faults store.old) (faults store.new) result }
 {
     let run = evaluate(alloc, program, command, store)?;
@@ -130,10 +130,11 @@ fn evaluate(
     ensures run { IfOk result (IsRun program.now command.now.arg command.now.fuel (tables store.new)) }
     ensures ended { IfOk result (λ run. run.end ≢ store_fault) }
     ensures history { IfOk result (λ run. HasHistory program.now (tables store.old) (tables store.new) run.log) }
-    ensures others { IfOk result (λ run. KeepsOthers program.now (tables store.old) (tables store.new)) }
+    ensures begun { IfOk result (λ run. HasBegunSession program.now command.now.arg command.now.fuel run.log) }
+    ensures others { KeepsOthers program.now (tables store.old) (tables store.new) }
     ensures plain { IfOk result IsPlainRun }
     ensures fit { IfSome (tables store.new) (AreTables program.now) }
-    ensures refused { OnErr result (HasSomeHistory program.now (tables store.old) (tables store.new)) }
+    ensures refused { IfErr result (λ fault. BreaksOff program.now command.now fault (tables store.old) (tables store.new)) }
     ensures cause { HasCause (faults store.old) (faults store.new) result }
 {
     let run = source_run(alloc, program, &command.arg, store, command.fuel)?;

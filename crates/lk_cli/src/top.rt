@@ -50,6 +50,9 @@ pub fn links_main<F: Files, O: Sink>(
     out: &mut O,
 ) -> Ran
     requires idle { All (λ store. is_open store ≡ false) stores.items }
+    ensures contents { F.contents files.new ≡ F.contents files.old }
+    ensures files_later { F.faults files.old ≤ F.faults files.new }
+    ensures sink_later { O.faults out.old ≤ O.faults out.new }
     ensures answer { (answer : Result TheAnswer TheRefusal)
         × Answers (seen F.contents F.failed F.faults files.old files.new)
         (stores_seen (λ store. name store) (λ store. tables store) (λ store. (⟦<dyn Store as Store>⟧ store.vtable).faults store.value) stores.items result.store (store_of (form_of (map string_bytes words.now))))
@@ -66,7 +69,8 @@ pub fn links_main<F: Files, O: Sink>(
 /// Prints an answer and gives its status, or that of a sink that failed, or of want of memory.
 fn deliver<O: Sink>(alloc: Global, answer: &Result<Answer, Refusal>, out: &mut O) -> u8
     requires shown { IsShown answer.now }
-    ensures { Ends answer.now (O.taken out.old) (O.taken out.new) (O.faults out.old) (O.faults out.new) result }
+    ensures later { O.faults out.old ≤ O.faults out.new }
+    ensures ends { Ends answer.now (O.taken out.old) (O.taken out.new) (O.faults out.old) (O.faults out.new) result }
 {
     let Ok(text) = print_answer(alloc, answer) else {
         return 5;
@@ -86,6 +90,8 @@ fn answer_words<F: Files>(
     stores: Vec<Box<dyn Store + Drop>>,
 ) -> Answered
     requires idle { All (λ store. is_open store ≡ false) stores.items }
+    ensures contents { F.contents files.new ≡ F.contents files.old }
+    ensures later { F.faults files.old ≤ F.faults files.new }
     ensures shown { IsShown result.answer }
     ensures answers { Answers (seen F.contents F.failed F.faults files.old files.new)
         (stores_seen (λ store. name store) (λ store. tables store) (λ store. (⟦<dyn Store as Store>⟧ store.vtable).faults store.value) stores.items result.store (store_of (form_of (map string_bytes words.now))))
@@ -120,6 +126,8 @@ fn answer_check<F: Files>(
     command: &CheckCommand,
     files: &mut F,
 ) -> Result<Answer, Refusal>
+    ensures contents { F.contents files.new ≡ F.contents files.old }
+    ensures later { F.faults files.old ≤ F.faults files.new }
     ensures shown { IsShown result }
     ensures answers { (stores : StoresSeen) → stores.back ≡ None → Answers (seen F.contents F.failed F.faults files.old files.new) stores (Some (Check command.now)) result }
 {
@@ -132,6 +140,8 @@ fn answer_sql<F: Files>(
     command: &SqlCommand,
     files: &mut F,
 ) -> Result<Answer, Refusal>
+    ensures contents { F.contents files.new ≡ F.contents files.old }
+    ensures later { F.faults files.old ≤ F.faults files.new }
     ensures shown { IsShown result }
     ensures answers { (stores : StoresSeen) → stores.back ≡ None → Answers (seen F.contents F.failed F.faults files.old files.new) stores (Some (Sql command.now)) result }
 {
@@ -146,6 +156,8 @@ fn answer_source<F: Files>(
     stores: Vec<Box<dyn Store + Drop>>,
 ) -> Answered
     requires idle { All (λ store. is_open store ≡ false) stores.items }
+    ensures contents { F.contents files.new ≡ F.contents files.old }
+    ensures later { F.faults files.old ≤ F.faults files.new }
     ensures shown { IsShown result.answer }
     ensures answers { Answers (seen F.contents F.failed F.faults files.old files.new)
         (stores_seen (λ store. name store) (λ store. tables store) (λ store. (⟦<dyn Store as Store>⟧ store.vtable).faults store.value) stores.items result.store command.now.store)

@@ -1,4 +1,4 @@
-use Rattle.std.proofs.Common.{◌≡◌, refl, inl, inr, Some, None}
+use Rattle.std.proofs.Common.{◌≡◌, arith, refl, inl, inr, Some, None}
 use Rattle.lk_cli.proofs.Stages.{came_back, given_none, given_some, told_back, tried_answer}
 use Rattle.lk_cli.specs.Seen.{seen, store_seen, stores_seen}
 use Rattle.lk_cli.proofs.top.answer_session.Goals as goal
@@ -13,7 +13,7 @@ pub returns-in-Err-clause-answers : goal.returns-in-Err-clause-answers
 returns-in-Err-clause-answers g c =
     let stores = stores_seen (λ store. (goal.Store-dyn g (store.vtable, store.value)).name store.value) (λ store. (goal.Store-dyn g (store.vtable, store.value)).tables store.value) (λ store. (goal.Store-dyn g (store.vtable, store.value)).faults store.value) c.args.stores.items (Some c.in-Some.store) c.args.command.now.store in
     let before = store_seen (λ store. (goal.Store-dyn g (store.vtable, store.value)).tables store.value) (λ store. (goal.Store-dyn g (store.vtable, store.value)).faults store.value) c.in-Some.store in
-    inr (inl (c.in-Err.ensures.refused, came_back stores before before (λ b a. a ≡ b) (given_some (λ store. (goal.Store-dyn g (store.vtable, store.value)).name store.value) (λ store. (goal.Store-dyn g (store.vtable, store.value)).tables store.value) (λ store. (goal.Store-dyn g (store.vtable, store.value)).faults store.value) c.args.stores.items c.args.command.now.store c.in-Some.store (rw c.as_str.ensures at c.in-Some.ensures.first)) refl refl))
+    inr (inl (c.in-Err.ensures.refused, came_back stores before before (λ b a. a ≡ b) (given_some (λ store. (goal.Store-dyn g (store.vtable, store.value)).name store.value) (λ store. (goal.Store-dyn g (store.vtable, store.value)).tables store.value) (λ store. (goal.Store-dyn g (store.vtable, store.value)).faults store.value) c.args.stores.items c.args.command.now.store c.in-Some.store (rw c.as_str.ensures at c.in-Some.ensures.first)) refl (omega arith) refl))
 
 pub returns-clause-answers : goal.returns-clause-answers
 returns-clause-answers g c =
