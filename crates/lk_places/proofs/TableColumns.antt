@@ -1,7 +1,7 @@
 -- Each table of a program of a text has a column, since the grammar asks for one.
-use Rattle.std.proofs.Common.{◌≡◌, refl, sym, subst, List, [], ◌∷◌, ◌++◌, map}
+use Rattle.std.proofs.Common.{sym, subst, List, [], ◌∷◌, ◌++◌, map}
 use Rattle.std.specs.List.{flat_map}
-use Rattle.std.specs.Prelude.{◌≢◌, Bool, true, false}
+use Rattle.std.specs.Prelude.{◌≢◌}
 use Rattle.lk_ast.specs.Tables.{tables_in}
 use Rattle.lk_ast.specs.declared.declaration.ColumnDecl.{ColumnDecl}
 use Rattle.lk_ast.specs.declared.declaration.Decl.{Decl}
