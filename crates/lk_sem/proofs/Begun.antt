@@ -13,10 +13,8 @@ use Rattle.lk_ast.specs.declared.value.Value.{Value}
 use Rattle.lk_evaluation.specs.Laws.{run_of}
 use Rattle.lk_evaluation.specs.Run.{Run, Entry, Out, Within, answers_in, events_of, start}
 use Rattle.lk_evaluation.specs.Source.{session}
-use Rattle.lk_sound.specs.Tables.{IsAnswered}
-use Rattle.lk_types.specs.Each.{Each}
 use Rattle.lk_sem.specs.Histories.{write_event}
-use Rattle.lk_sem.specs.SourceRuns.{HasBegun, HasBegunSession, HasFirstHistory, HasSomeHistory}
+use Rattle.lk_sem.specs.SourceRuns.{HasBegun, HasFirstHistory, HasSomeHistory}
 use Rattle.lk_sem.specs.Standing.{IsSound, Stands}
 use Rattle.lk_sem.specs.Writings.{HasChanged}
 use Rattle.lk_sem.specs.declared.machine.Machine.{Machine}

@@ -1,31 +1,19 @@
 -- From the end of the evaluator's loop to the run of a program.
-use Rattle.std.proofs.Common.{◌≡◌, ℕ, ◌+◌, ◌-◌, ◌<◌, ◌≤◌, List, [], ◌∷◌, ◌++◌, Option, Some, None, map, refl, sym, ◌∙◌, ap, subst, arith}
-use Rattle.std.specs.Borrow.{Bor}
-use Rattle.std.specs.Prelude.{Result, Ok, Err, IfErr, IfSome}
+use Rattle.std.proofs.Common.{◌≡◌, ℕ, ◌+◌, ◌-◌, ◌≤◌, List, [], ◌∷◌, ◌++◌, Option, Some, None, map, sym, ◌∙◌, ap, subst, arith}
+use Rattle.std.specs.Prelude.{Result, Ok, Err, IfErr}
 use Rattle.lk_ast.specs.Tables.{Tables}
 use Rattle.lk_ast.specs.declared.declaration.Program.{Program}
-use Rattle.lk_ast.specs.declared.event.Event.{Event}
-use Rattle.lk_ast.specs.declared.event.Event.TheVariants as event
-use Rattle.lk_ast.specs.declared.expression.Expr.{Expr}
 use Rattle.lk_ast.specs.declared.place.Loc.{Loc}
-use Rattle.lk_ast.specs.declared.table.Row.{Row}
 use Rattle.lk_ast.specs.declared.value.Value.{Value}
-use Rattle.lk_evaluation.specs.Evaluation.{Primitive, Reading, Writing, eval, used}
-use Rattle.lk_evaluation.specs.Run.{Run, Out, Goes, Stops, Stop, Trapped, Spent, Stuck, and_then, answers_in, start}
-use Rattle.lk_evaluation.specs.Source.{Point, source, under}
-use Rattle.lk_locals.specs.Names.{Names}
-use Rattle.lk_operators.specs.Values.{unit}
-use Rattle.lk_ast.specs.Rows.{rows_value}
-use Rattle.lk_sound.specs.Tables.{IsAnswered}
-use Rattle.lk_types.specs.Each.{Each}
+use Rattle.lk_evaluation.specs.Evaluation.{Primitive, Reading, Writing, used}
+use Rattle.lk_evaluation.specs.Run.{Run, Out, Goes, Stops, Trapped, Spent, and_then, answers_in, start}
+use Rattle.lk_evaluation.specs.Source.{source}
 use Rattle.lk_sem.specs.Ends.{end_of, stop_of}
 use Rattle.lk_sem.specs.Frames as frames
-use Rattle.lk_sem.specs.Frames.{Frame, returned}
-use Rattle.lk_sem.specs.Histories.{AreFit, HasFollowed, HasPast, KeepsOthers, read_event, write_event}
-use Rattle.lk_sem.specs.Machine.{GoesQuietly, IsQuiet, Leads, LeadsWhole, Shows, after_read, after_write, frame_of, frame_rest, outcome, wound}
-use Rattle.lk_sem.specs.SourceRuns.{HasHistory, IsOverfull, IsPlainEnd, IsRefusedAt, IsRunBy, IsRunOf}
+use Rattle.lk_sem.specs.Frames.{returned}
+use Rattle.lk_sem.specs.Machine.{Shows, frame_of, outcome, wound}
+use Rattle.lk_sem.specs.SourceRuns.{IsOverfull, IsPlainEnd, IsRefusedAt, IsRunBy, IsRunOf}
 use Rattle.lk_sem.specs.Standing.{Ends, IsSound, Stands, run_to}
-use Rattle.lk_sem.specs.Writings.{HasChanged}
 use Rattle.lk_sem.specs.declared.machine.Frame.{Frame as MachineFrame}
 use Rattle.lk_sem.specs.declared.machine.Machine.{Machine}
 use Rattle.lk_sem.specs.declared.machine.Next.{Next}
@@ -35,9 +23,8 @@ use Rattle.lk_sem.specs.declared.run.Halt.TheVariants as halt
 use Rattle.lk_sem.specs.declared.run.SourceEnd.{SourceEnd}
 use Rattle.lk_sem.specs.declared.run.SourceEnd.TheVariants as end
 use Rattle.lk_sem.proofs.Begun.{begun_here}
-use Rattle.lk_sem.proofs.Legality.{no_past, past_history, past_quietly, past_followed}
+use Rattle.lk_sem.proofs.Legality.{past_history}
 use Rattle.lk_sem.proofs.Sound as sound
-use Rattle.lk_sem.proofs.Whole as whole
 use Rattle.lk_sem.proofs.Winding as winding
 
 -- ---- ends

@@ -1,6 +1,6 @@
 -- What the soundness of a session says at each state of the machine that evaluates it.
-use Rattle.std.proofs.Common.{◌≡◌, ℕ, ◌+◌, ◌≤◌, true, false, List, [], ◌∷◌, ◌++◌, map, refl, sym, ◌∙◌, ap, subst, append_assoc, append-nil}
-use Rattle.std.specs.Prelude.{Some, None}
+use Rattle.std.proofs.Common.{◌≡◌, ℕ, ◌+◌, false, List, [], ◌∷◌, ◌++◌, map, refl, sym, ◌∙◌, ap, subst, append-nil}
+use Rattle.std.specs.Prelude.{Some}
 use Rattle.lk_ast.specs.Functions.{main_of}
 use Rattle.lk_ast.specs.Plain.{holds_function}
 use Rattle.lk_ast.specs.declared.declaration.FunDef.{FunDef}

@@ -1,11 +1,9 @@
 use Rattle.std.proofs.Common.{rules, refl, sym, subst, ◌∙◌}
-use Rattle.lk_sem.specs.Histories.{read_event}
 use Rattle.lk_sem.specs.Machine.{outcome}
 use Rattle.lk_sem.specs.SourceRuns.{HasFirstHistory, IsOverfull}
 use Rattle.lk_sem.specs.Standing.{Ends, Stands}
-use Rattle.lk_sem.specs.Writings.{HasChanged}
 use Rattle.lk_sem.specs.declared.run.SourceEnd.TheVariants.{TableFull}
-use Rattle.lk_sound.specs.Tables.{IsAnswered, IsReading, IsWriting}
+use Rattle.lk_sound.specs.Tables.{IsReading, IsWriting}
 use Rattle.lk_sem.proofs.Begun.{first_history, first_written}
 use Rattle.lk_sem.proofs.Ending.{ends_as, ends_full, ends_halt, ends_read, ends_value, ends_write, if_err, never_stuck}
 use Rattle.lk_sem.proofs.Sound.{reading_here, writing_here}
