@@ -3,7 +3,8 @@ use Rattle.std.proofs.Common.{◌≡◌, ℕ, zero, suc, ◌<◌, ◌≤◌, Lis
 use Rattle.lk_sql.specs.Text.{scalar_text}
 use Rattle.lk_sql.specs.declared.tree.Change.{Change}
 use Rattle.lk_sql.specs.declared.tree.Out.{Out}
-use Rattle.lk_norm.specs.Changes.{change_bytes, change_paid, most_bytes, sets_bytes, sets_paid}
+use Rattle.lk_norm.specs.Changes.{change_bytes, change_paid, sets_bytes, sets_paid}
+use Rattle.lk_norm.specs.Limits.{most_bytes}
 use Rattle.lk_norm.specs.Made.{behind, paid, taken}
 use Rattle.lk_norm.proofs.Budget.{taken_both}
 

@@ -1,5 +1,6 @@
 use Rattle.std.proofs.Common.{◌≤◌, sym, subst}
-use Rattle.lk_norm.specs.Changes.{change_bytes, change_paid, most_bytes}
+use Rattle.lk_norm.specs.Changes.{change_bytes, change_paid}
+use Rattle.lk_norm.specs.Limits.{most_bytes}
 use Rattle.lk_norm.specs.Made.{StopsFor}
 use Rattle.lk_norm.specs.Sql.{change_sql}
 use Rattle.lk_norm.proofs.ChangeBytes.{change-fits, change-refused}
