@@ -9,7 +9,7 @@ use lk_names::{Scoped, resolve};
 use lk_parse::parse;
 use lk_sql::{Change, Select, Sql};
 use lk_sqltext::print_sql;
-use lk_translate::{Code, translate};
+use lk_translate::{Code, Translated, translate};
 use std::alloc::Global;
 use std::process::Abort;
 use std::test::Fail;
@@ -84,17 +84,26 @@ fn shown(alloc: Global, change: Change) -> Result<Text, NoMemory> {
     print_sql(alloc, &Sql { selects, keys })
 }
 
+/// Puts the line of a change onto others.
+fn push_change(alloc: Global, lines: &mut String, code: Code) -> Result<(), Fail> {
+    match code {
+        Code::Select(_sql) => Ok(()),
+        Code::Change(change) => {
+            lines.push_str(shown(alloc, change)?.as_str())?;
+            Ok(lines.push_str("\n")?)
+        }
+    }
+}
+
 /// The changes of a typed program, a line for each.
-fn changes_of(alloc: Global, program: &Scoped, typed: &Typed) -> Result<String, Fail>
+fn changes_of<'x>(alloc: Global, program: &'x Scoped, typed: &'x Typed) -> Result<String, Fail>
     requires { HasTypes program.now typed.now.schemes typed.now.types }
 {
     let ground = ground(alloc, program, typed)?;
     let mut lines = String::new(alloc);
     for one in translate(alloc, &ground)?.into_vec() {
-        if let Code::Change(change) = one.code {
-            lines.push_str(shown(alloc, change)?.as_str())?;
-            lines.push_str("\n")?;
-        }
+        let Translated { code, .. } = one;
+        push_change(alloc, &mut lines, code)?;
     }
     Ok(lines)
 }
