@@ -12,6 +12,7 @@ import argparse
 import collections
 import os
 import random
+import re
 import resource
 import subprocess
 import sys
@@ -65,8 +66,44 @@ def cut(rng, text):
     return first, min(last, first + 40)
 
 
+TOKEN = re.compile(rb"[A-Za-z_][A-Za-z0-9_]*|[0-9]+|\"(?:[^\"\\\\]|\\\\.)*\"|[-+*/=<>|&^:]+|[^\s]")
+KINDS = (
+    (b"Int", b"Bool", b"String"),
+    (b"+", b"-", b"*", b"^^", b"++", b"==", b"<>", b"<", b"<=", b">", b">=", b"&&", b"||", b"::"),
+    (b"true", b"false"),
+    (b"client", b"server"),
+    (b"hd", b"tl", b"not", b"empty", b"intToString", b"print"),
+)
+
+
+def alike(token, others):
+    """Tokens that may stand where this one does."""
+    for kind in KINDS:
+        if token in kind:
+            return list(kind)
+    if token[:1].isdigit():
+        return [b"0", b"1", b"2", b"9223372036854775807"]
+    if token[:1].islower() and token.decode() not in WORDS:
+        return [other for other in others if other[:1].islower() and other.decode() not in WORDS] + [b"x", b"a", b"t"]
+    if token[:1] == b'"':
+        return [b'""', b'"a"', b'"it\'s"']
+    return [token]
+
+
+def replaced(rng, text):
+    """The text with one token in place of one like it."""
+    found = list(TOKEN.finditer(text))
+    if not found:
+        return text
+    one = rng.choice(found)
+    other = rng.choice(alike(one.group(), [it.group() for it in found]))
+    return text[: one.start()] + other + text[one.end() :]
+
+
 def mutated(rng, text, others):
     """The text with one change."""
+    if rng.random() < 0.6:
+        return replaced(rng, text)
     first, last = cut(rng, text)
     kind = rng.randrange(9)
     if kind == 0:
