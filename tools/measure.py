@@ -4,31 +4,27 @@
     tools/measure.py LINKS growth     three shapes of programs at 1, 4 and 16 times a size, with the growth
     tools/measure.py LINKS hard       texts of nearly a mebibyte of each degenerate kind, and tables files of nearly 16 MiB
 
-Each is run three times, and the least time and the most memory count. No gate runs this; docs/PERFORMANCE.md has what it printed.
+Each is run three times, and the least time and the most memory count. No gate runs this.
 """
 
 import json
 import os
-import resource
 import subprocess
 import sys
 import tempfile
 import time
 
 MEBIBYTE = 1 << 20
-SECONDS = 120
-
-
-def limited():
-    resource.setrlimit(resource.RLIMIT_CORE, (0, 0))
 
 
 def run_once(words):
     start = time.perf_counter()
     with open(os.devnull, "wb") as nothing:
-        child = subprocess.Popen(words, stdin=nothing, stdout=subprocess.PIPE, stderr=nothing, preexec_fn=limited)
-        # (what it prints is read, so that it doesn't wait)
-        printed = child.stdout.read()
+        child = subprocess.Popen(words, stdin=nothing, stdout=subprocess.PIPE, stderr=nothing)
+        # (what it prints is read, so that it doesn't wait, and only its front is kept)
+        printed = child.stdout.read(4096)
+        while child.stdout.read(1 << 16):
+            pass
         _, status, used = os.wait4(child.pid, 0)
         child.returncode = os.waitstatus_to_exitcode(status)
     return time.perf_counter() - start, used.ru_maxrss / 1024, child.returncode, printed
@@ -76,9 +72,11 @@ def growth(links, folder):
         for command in ("check", "sql", "source"):
             cells = []
             for times in (1, 4, 16):
-                text, rows = shape(size * times)
-                words = [links, command, *written(folder, text, rows, command)]
-                cells.append(measured(words))
+                apart(lambda made: written(folder, *made), shape(size * times))
+                asked = [f"{folder}/p.links"] + (["ann"] if command == "source" else [])
+                if command == "source" and shape is queries:
+                    asked += ["--tables", f"{folder}/t.json"]
+                cells.append(measured([links, command, *asked]))
             shown = " | ".join(f"{cell[0]:.2f} s, {cell[1]:.0f} MB" + (f", status {cell[2]}" if cell[2] else "") for cell in cells)
             ratios = ", ".join(f"{after[0] / before[0]:.1f}" for before, after in zip(cells, cells[1:]))
             print(f"| {size} {name} | {command} | {shown} | {ratios} |", flush=True)
@@ -87,17 +85,11 @@ def growth(links, folder):
 # ---- hard input
 
 
-def written(folder, text, rows, command):
-    """The words behind a command for this text and these rows."""
-    with open(f"{folder}/p.links", "w", encoding="utf-8") as file:
-        file.write(text)
-    if command != "source":
-        return [f"{folder}/p.links"]
-    if rows is None:
-        return [f"{folder}/p.links", "ann"]
-    with open(f"{folder}/t.json", "w", encoding="utf-8") as file:
-        file.write(rows if isinstance(rows, str) else json.dumps(rows, separators=(",", ":")))
-    return [f"{folder}/p.links", "ann", "--tables", f"{folder}/t.json"]
+def written(folder, text, rows):
+    """The program, and the rows where there are some, in their files."""
+    put(f"{folder}/p.links", lambda: text)
+    if rows is not None:
+        put(f"{folder}/t.json", lambda: json.dumps(rows, separators=(",", ":")))
 
 
 def filled(front, piece, back, size=MEBIBYTE):
@@ -119,65 +111,88 @@ def counted(front, piece_of, back, size=MEBIBYTE):
 MAIN = "fun main(a) client { "
 
 
-def texts():
-    yield "one name", filled("fun main(", "a", ") client { 1 }")
-    yield "one text", filled(MAIN + '"', "a", '" }')
-    yield "one number", filled(MAIN, "1", " }")
-    yield "one comment", filled(MAIN + "a } //", "a", "")
-    yield "comments only", filled("", "// a\n", "")
-    yield "white space only", filled("", "\n ", "")
-    yield "dots only", filled("", ".", "")
-    yield "opening brackets only", filled("", "(", "")
-    yield "one list", filled(MAIN + "var l = [1", ",1", "]; a }")
-    yield "one chain", filled(MAIN + "a", "^^a", " }")
-    yield "one chain of calls", filled(MAIN + "a", "(a)", " }")
-    yield "one call of many arguments", filled("fun f(x) { x } " + MAIN + "f(a", ",a", ") }")
-    yield "nests at the limit", filled(MAIN, "(" * 198 + "a" + ")" * 198 + ";", "a }")
-    yield "lists at the limit", filled(MAIN, "var x = " + "[" * 198 + "1" + "]" * 198 + ";", "a }")
-    yield "statements", filled(MAIN, "();", "a }")
-    yield "the same name again and again", filled(MAIN, "var x = a;", "x }")
-    yield "names", counted(MAIN, lambda k: f"var x{k} = a;", "a }")
-    yield "functions", counted("", lambda k: f"fun f{k}(x) {{ x }} ", MAIN + "a }")
-    yield "one mutual block", counted("mutual { ", lambda k: f"fun f{k}(x) {{ f{max(k - 1, 0)}(x) }} ", "} " + MAIN + "a }")
-    yield "lambdas", filled(MAIN, "var f = fun (x) { x };", "f(a) }")
-    yield "one record", counted(MAIN + "var r = (l = 1", lambda k: f",l{k} = 1", "); a }")
-    yield "projections", filled(MAIN + "var r = (n = 1); ", "var x = r.n;", "a }")
-    yield "tables", counted("", lambda k: f"table t{k} with (n : Int);", MAIN + "a }")
-    yield "one table", counted("table t with (c : Int", lambda k: f",c{k} : Int", "); " + MAIN + "a }")
-    yield "readings", filled("table t with (n : Int); " + MAIN, "var q = for (x <-- t) [x.n];", "a }")
-    yield "queries", filled("table t with (n : Int); " + MAIN, "var q = query { for (x <-- t) [x] };", "a }")
-    yield "changes", filled("table t with (n : Int); " + MAIN, "update (x <-- t) where (x.n == 1) set (n = 2);", "a }")
-    yield "one query of many lists", filled("table t with (n : Int); " + MAIN + "query { []", " ++ []", " } }")
-    yield "one query of many statements", filled("table t with (n : Int); " + MAIN + "query { ", "var x = 1;", "[(n = x)] } }")
-    yield "cases", counted(MAIN + "switch (T(a)) { ", lambda k: f"case T{k}(x) -> x ", "case y -> a } }")
-    yield "signatures", counted("", lambda k: f"sig g{k} : (Int) -> Int; fun g{k}(x) {{ x }} ", MAIN + "a }")
-    yield "functions at two types", counted("fun f(r) { r.n } " + MAIN, lambda k: f"var x = f((n = {k})) + f((n = 1, m = {k}));", "a }")
+# Each by its name, as a function that makes the text.
+TEXTS = (
+    ("one name", lambda: filled("fun main(", "a", ") client { 1 }")),
+    ("one text", lambda: filled(MAIN + '"', "a", '" }')),
+    ("one number", lambda: filled(MAIN, "1", " }")),
+    ("one comment", lambda: filled(MAIN + "a } //", "a", "")),
+    ("comments only", lambda: filled("", "// a\n", "")),
+    ("white space only", lambda: filled("", "\n ", "")),
+    ("dots only", lambda: filled("", ".", "")),
+    ("opening brackets only", lambda: filled("", "(", "")),
+    ("one list", lambda: filled(MAIN + "var l = [1", ",1", "]; a }")),
+    ("one chain", lambda: filled(MAIN + "a", "^^a", " }")),
+    ("one chain of calls", lambda: filled(MAIN + "a", "(a)", " }")),
+    ("one call of many arguments", lambda: filled("fun f(x) { x } " + MAIN + "f(a", ",a", ") }")),
+    ("nests at the limit", lambda: filled(MAIN, "(" * 198 + "a" + ")" * 198 + ";", "a }")),
+    ("lists at the limit", lambda: filled(MAIN, "var x = " + "[" * 198 + "1" + "]" * 198 + ";", "a }")),
+    ("statements", lambda: filled(MAIN, "();", "a }")),
+    ("the same name again and again", lambda: filled(MAIN, "var x = a;", "x }")),
+    ("names", lambda: counted(MAIN, lambda k: f"var x{k} = a;", "a }")),
+    ("functions", lambda: counted("", lambda k: f"fun f{k}(x) {{ x }} ", MAIN + "a }")),
+    ("one mutual block", lambda: counted("mutual { ", lambda k: f"fun f{k}(x) {{ f{max(k - 1, 0)}(x) }} ", "} " + MAIN + "a }")),
+    ("lambdas", lambda: filled(MAIN, "var f = fun (x) { x };", "f(a) }")),
+    ("one record", lambda: counted(MAIN + "var r = (l = 1", lambda k: f",l{k} = 1", "); a }")),
+    ("projections", lambda: filled(MAIN + "var r = (n = 1); ", "var x = r.n;", "a }")),
+    ("tables", lambda: counted("", lambda k: f"table t{k} with (n : Int);", MAIN + "a }")),
+    ("one table", lambda: counted("table t with (c : Int", lambda k: f",c{k} : Int", "); " + MAIN + "a }")),
+    ("readings", lambda: filled("table t with (n : Int); " + MAIN, "var q = for (x <-- t) [x.n];", "a }")),
+    ("queries", lambda: filled("table t with (n : Int); " + MAIN, "var q = query { for (x <-- t) [x] };", "a }")),
+    ("changes", lambda: filled("table t with (n : Int); " + MAIN, "update (x <-- t) where (x.n == 1) set (n = 2);", "a }")),
+    ("one query of many lists", lambda: filled("table t with (n : Int); " + MAIN + "query { []", " ++ []", " } }")),
+    ("one query of many statements", lambda: filled("table t with (n : Int); " + MAIN + "query { ", "var x = 1;", "[(n = x)] } }")),
+    ("cases", lambda: counted(MAIN + "switch (T(a)) { ", lambda k: f"case T{k}(x) -> x ", "case y -> a } }")),
+    ("signatures", lambda: counted("", lambda k: f"sig g{k} : (Int) -> Int; fun g{k}(x) {{ x }} ", MAIN + "a }")),
+    ("functions at two types", lambda: counted("fun f(r) { r.n } " + MAIN, lambda k: f"var x = f((n = {k})) + f((n = 1, m = {k}));", "a }")),
+)
 
 
 ASKS = "table t with (n : Int, s : String); " + MAIN + "var q = query orderby (s, n desc) { for (x <-- t) where (x.n > 3) [x] }; insert t values [(n = 0, s = a)]; a }"
 
 
-def tables():
-    long = "a" * 220
-    yield "65,535 rows of 250 bytes", ASKS, '{"t":[' + ",".join(f'{{"n":{k},"s":"{long}{k % 97}"}}' for k in range(65535)) + "]}"
-    yield "one text of 16 MiB", ASKS, '{"t":[{"n":7,"s":"' + "a" * (16 * MEBIBYTE - 40) + '"}]}'
-    yield "a text of escapes", ASKS, '{"t":[{"n":7,"s":"' + "\\u0001" * ((16 * MEBIBYTE - 40) // 6) + '"}]}'
-    yield "65,537 rows", ASKS, '{"t":[' + ",".join('{"n":1,"s":""}' for _ in range(65537)) + "]}"
-    yield "opening brackets", ASKS, "[" * (16 * MEBIBYTE)
-    yield "keys that aren't tables", ASKS, "{" + ",".join(f'"u{k}":[]' for k in range(1_000_000)) + "}"
-    yield "one key again and again", ASKS, "{" + ",".join('"t":[]' for _ in range(2_000_000)) + "}"
+LONG = "a" * 220
+
+# Each by its name, as a function that makes the tables file.
+TABLES = (
+    ("65,535 rows of 250 bytes", lambda: '{"t":[' + ",".join(f'{{"n":{k},"s":"{LONG}{k % 97}"}}' for k in range(65535)) + "]}"),
+    ("one text of 16 MiB", lambda: '{"t":[{"n":7,"s":"' + "a" * (16 * MEBIBYTE - 40) + '"}]}'),
+    ("a text of escapes", lambda: '{"t":[{"n":7,"s":"' + "\\u0001" * ((16 * MEBIBYTE - 40) // 6) + '"}]}'),
+    ("65,537 rows", lambda: '{"t":[' + ",".join('{"n":1,"s":""}' for _ in range(65537)) + "]}"),
+    ("opening brackets", lambda: "[" * (16 * MEBIBYTE)),
+    ("keys that aren't tables", lambda: "{" + ",".join(f'"u{k}":[]' for k in range(1_000_000)) + "}"),
+    ("one key again and again", lambda: "{" + ",".join('"t":[]' for _ in range(2_000_000)) + "}"),
+)
+
+
+def apart(call, *given):
+    """Does it in a process of its own: the memory of a child is counted from its parent's on, so this one stays small."""
+    child = os.fork()
+    if not child:
+        call(*given)
+        os._exit(0)
+    if os.waitpid(child, 0)[1]:
+        sys.exit("an input couldn't be made")
+
+
+def put(path, make):
+    with open(path, "w", encoding="utf-8") as file:
+        file.write(make())
 
 
 def hard(links, folder):
     print("| input | bytes | command | time | memory | status | first line |")
     print("|---|---|---|---|---|---|---|")
-    cases = [(name, text, None, ("check", "sql", "source")) for name, text in texts()]
-    cases += [(name, text, rows, ("source",)) for name, text, rows in tables()]
-    for name, text, rows, commands in cases:
+    program, rows = f"{folder}/p.links", f"{folder}/t.json"
+    cases = [(name, program, make, ("check", "sql", "source")) for name, make in TEXTS] + [(name, rows, make, ("source",)) for name, make in TABLES]
+    for name, path, make, commands in cases:
+        apart(put, path, make)
+        if path == rows:
+            put(program, lambda: ASKS)
         for command in commands:
-            seconds, memory, status, line = measured([links, command, *written(folder, text, rows, command)], 1)
-            size = len((rows if rows else text).encode())
-            print(f"| {name} | {size:,} | {command} | {seconds:.2f} s | {memory:.0f} MB | {status} | `{line.replace('|', '&#124;')}` |", flush=True)
+            words = [links, command, program] + (["ann"] if command == "source" else []) + (["--tables", rows] if path == rows else [])
+            seconds, memory, status, line = measured(words, 1)
+            print(f"| {name} | {os.path.getsize(path):,} | {command} | {seconds:.2f} s | {memory:.0f} MB | {status} | `{line.replace('|', '&#124;')}` |", flush=True)
 
 
 def main():
