@@ -2,20 +2,23 @@
 use Rattle.std.proofs.Common.{◌≡◌, arith, zero, suc, refl, ap, ap₂, ◌∙◌, ℕ, List, [], ◌∷◌, ◌++◌, map, flat_map, Option, Some, None, Bool, true, false}
 use Rattle.std.specs.Prelude.{if◌then◌else◌}
 use Rattle.lk_ast.specs.Functions.{function_named}
-use Rattle.lk_ast.specs.Layers.{Layer, layer}
+use Rattle.lk_ast.specs.Layers.{Layer, before, layer}
 use Rattle.lk_ast.specs.Tables.{Tables}
 use Rattle.lk_ast.specs.declared.declaration.FunDef.{FunDef}
 use Rattle.lk_ast.specs.declared.declaration.Program.{Program}
 use Rattle.lk_ast.specs.declared.expression.Expr.{Expr}
 use Rattle.lk_ast.specs.declared.expression.Node.TheOpen.{Node-F}
+use Rattle.lk_ast.specs.declared.expression.Node.TheVariants as node
 use Rattle.lk_ast.specs.declared.expression.PartExpr.{PartExpr}
+use Rattle.lk_ast.specs.declared.place.Span.{Span}
+use Rattle.lk_ast.specs.declared.place.Word.{Word}
 use Rattle.lk_ast.specs.declared.value.Value.{Value}
 use Rattle.lk_ast.specs.declared.value.Value.TheVariants as value
 use Rattle.lk_bag.specs.Bag.{Gives, called, called_function, chosen, entered, value_of, given, level, parts_given}
 use Rattle.lk_bag.specs.Change.{is_true}
 use Rattle.lk_bag.specs.Forms.{all_given, exprs_of, form_given, operands}
 use Rattle.lk_bag.proofs.Given.{beside, given_level, of_part, part_level}
-use Rattle.lk_locals.specs.Names.{Names, bind_all, no_names}
+use Rattle.lk_locals.specs.Names.{Names, bind, bind_all, no_names}
 use Rattle.lk_operators.specs.Operators.{operated}
 
 abbrev own : Expr × Gives → List Gives
@@ -58,6 +61,21 @@ module _ (tables : Tables) (calls : List ℕ → List Value → Value) where
 
   pub given_by_form : (e : Expr) (names : Names) → given tables calls e names ≡ form_given tables calls (layer e) names
   given_by_form e names = given_level tables calls e names ∙ form_level (layer e) names
+
+  -- a block whose first statement binds a name, and one whose first statement doesn't
+  pub given_behind_name : (e : Expr) (span : Span) (x : Word) (first rest : Expr) (names : Names)
+      → e ≡ before (record { span = span; name = Some x; expr = first }) rest → given tables calls e names ≡ given tables calls rest (bind x.text (given tables calls first names) names)
+  given_behind_name e span x first rest names is =
+      ap (λ e. given tables calls e names) is
+      ∙ given_by_form (before (record { span = span; name = Some x; expr = first }) rest) names
+      ∙ ap (λ l. form_given tables calls l names) (node.outs-Var x first rest)
+
+  pub given_behind_none : (e : Expr) (span : Span) (first rest : Expr) (names : Names)
+      → e ≡ before (record { span = span; name = None; expr = first }) rest → given tables calls e names ≡ given tables calls rest names
+  given_behind_none e span first rest names is =
+      ap (λ e. given tables calls e names) is
+      ∙ given_by_form (before (record { span = span; name = None; expr = first }) rest) names
+      ∙ ap (λ l. form_given tables calls l names) (node.outs-Seq first rest)
 
 -- ---- calls
 

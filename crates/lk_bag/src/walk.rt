@@ -13,14 +13,15 @@ ghost use Rattle.std.specs.Prelude.{◌≡◌, ◌++◌, IfOk, OnOk, unwrap_or};
 
 use lk_ast::{
     Base, Expr, List, NoMemory, Node, PartExpr, Row, TableRows, Text, Value, Word, copy_value,
-    rows_value,
+    first_statement, rows_value,
 };
 use lk_index::Index;
 use lk_locals::Locals;
 use lk_operators::{Outcome, operate};
 use std::alloc::Global;
 
-/// How deep parts and calls may stand in one another, each of which takes a piece of the stack.
+/// How deep parts and calls may stand in one another, each of which takes a piece of the stack. The statements of a block
+/// are one level together.
 const ROOM: usize = 2048;
 
 /// What a query is over: a program with its index, and tables.
@@ -50,7 +51,8 @@ pub fn query_value<'p>(
     Ok(value(&over, index.function_count(), ROOM, e, &names)?)
 }
 
-/// What an expression gives where so many calls may stand one in the other.
+/// What an expression gives where so many calls may stand one in the other. The loop goes down the rests of a block, of
+/// which there may be more than the stack has room for.
 #[cycle(walk)]
 #[tactic(auto, using(crate::proofs::Forms::given_by_form))]
 fn value<'p>(
@@ -65,7 +67,16 @@ fn value<'p>(
     if room == 0 {
         return Err(NoMemory);
     }
-    Ok(form(over, calls, room - 1, e.node.get(), names)?)
+    let mut inner = names.share()?;
+    let mut rest = e;
+    while let Some((name, statement, next)) = first_statement(rest) {
+        if let Some(name) = name {
+            let bound = value(over, calls, room - 1, statement, &inner)?;
+            inner = inner.bind(over.alloc, name.text.as_str(), bound)?;
+        }
+        rest = next;
+    }
+    Ok(form(over, calls, room - 1, rest.node.get(), &inner)?)
 }
 
 /// What a node gives.

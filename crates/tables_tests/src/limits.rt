@@ -1,4 +1,4 @@
-//! The limits: bytes of a tables file, rows of a table.
+//! The limits: bytes of a tables file, rows of a table, how deep what stands in a query nests.
 
 ghost use Rattle.std.specs.Prelude.{◌≡◌, IfOk, IfSome, false};
 
@@ -170,4 +170,40 @@ fn room_again(rt: HostRuntime) -> Result<(), Fail> {
         0,
     );
     check(&rt, alloc, &ended, "[{\"n\":7}]", want)
+}
+
+/// What `source` does for a program whose query calls a helper that calls a second one, and so on, so many of them. What the
+/// query gives has four levels more: the list, the record, the first call and the body of the last helper.
+fn run_calls(alloc: Global, calls: u64) -> Result<Ended, Fail> {
+    let mut program = String::from_str(alloc, "fun f0() { 7 } ")?;
+    for k in 0..calls {
+        let next = k + 1;
+        let helper = format!(in alloc; "fun f{next}() {{ f{k}() }} ")?;
+        program.push_str(helper.as_str())?;
+    }
+    let main = format!(in alloc; "fun main(a) client {{ query {{ [(n = f{calls}())] }} }}")?;
+    program.push_str(main.as_str())?;
+    run_source(alloc, program.as_str(), "", "memory", memory(alloc)?)
+}
+
+#[test]
+fn as_many_calls_in_calls_as_may_be(rt: HostRuntime) -> Result<(), Fail> {
+    let alloc = rt.alloc();
+    let ended = run_calls(alloc, 2_043)?;
+    let read = "read @46851 [] [{\"n\":7}]";
+    let lines = ["enter", read, "leave", "done 1 [{\"n\":7}]"];
+    check_ended(&rt, alloc, &ended, (&lines, 0), "2,047 levels")?;
+    let ended = run_calls(alloc, 2_044)?;
+    check_ended(&rt, alloc, &ended, (&[], 5), "2,048 levels")
+}
+
+// Statements that follow one another are no levels.
+#[test]
+fn thousands_of_statements(rt: HostRuntime) -> Result<(), Fail> {
+    let alloc = rt.alloc();
+    let statements = times(alloc, "var x = 1; ", 4_999)?;
+    let main = format!(in alloc; "fun main(a) client {{ query {{ {statements}var x = 7; for (y <-- t) [(n = y.n + x)] }} }}")?;
+    let ended = run_over(alloc, main.as_str(), "[{\"n\":3}]")?;
+    let want = ("enter\nread @45 [] [{\"n\":10}]\nleave\n", "done 1 [{\"n\":10}]", 0);
+    check(&rt, alloc, &ended, "[{\"n\":3}]", want)
 }

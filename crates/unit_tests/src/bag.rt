@@ -236,3 +236,39 @@ fn a_deletion_keeps_the_others(rt: HostRuntime) -> Result<(), Fail> {
     assert_eq!(rt; changed(alloc, &program)?.as_str(), "[{\"k\":1,\"v\":5}]");
     Ok(())
 }
+
+/// A query of one row, in which 1 is negated so many times. It has three levels more: the list, the record and the number.
+fn negations(alloc: Global, count: u64) -> Result<Expr, Fail> {
+    let mut e = expr(alloc, Node::Int(1))?;
+    for _ in 0..count {
+        e = expr(alloc, Node::Neg(e))?;
+    }
+    let label = word(alloc, "v")?;
+    let fields = List::from_vec(vec![in alloc; PartExpr { label, expr: e }]?);
+    let row = expr(alloc, Node::Record(fields))?;
+    let rows = List::from_vec(vec![in alloc; row]?);
+    Ok(expr(alloc, Node::List(rows))?)
+}
+
+/// Whether a query with so many negations is answered.
+fn is_answered(alloc: Global, count: u64) -> Result<bool, Fail> {
+    let keys = List::new(alloc);
+    let query = expr(alloc, Node::Query(keys, negations(alloc, count)?))?;
+    let program = program(alloc, name(alloc, "n")?)?;
+    Ok(is_answer_of(alloc, &program, &query)?)
+}
+
+/// Whether a query of a program without tables is answered.
+fn is_answer_of(alloc: Global, program: &Program, query: &Expr) -> Result<bool, Fail> {
+    let index = Index::new(alloc, program)?;
+    Ok(answer(alloc, &index, &[], query, &[]).is_ok())
+}
+
+// One level more than 2,048 ends as want of memory.
+#[test]
+fn as_deep_as_may_be(rt: HostRuntime) -> Result<(), Fail> {
+    let alloc = rt.alloc();
+    assert!(rt; is_answered(alloc, 2_045)?);
+    assert!(rt; !is_answered(alloc, 2_046)?);
+    Ok(())
+}

@@ -1,6 +1,7 @@
 use Rattle.std.proofs.Common.{◌≡◌, ℕ, ◌+◌, ◌*◌, ◌++◌, map, flat_map, take}
 use Rattle.std.specs.Vec.Iter.{into_iter_items}
 use Rattle.lk_ast.specs.Tables.{rows_of}
+use Rattle.lk_ast.specs.declared.expression.Expr.{size-Expr}
 use Rattle.lk_bag.specs.Bag.{called, given, items}
 use Rattle.lk_bag.specs.Forms.{all_given, exprs_of}
 use Rattle.lk_locals.specs.Names.{bind}
@@ -33,6 +34,12 @@ decreases-for_each l = level l.room + 1
 
 abbrev pub decreases-call : goal.decreases-call
 decreases-call l = level l.room + 1
+
+abbrev pub invariant-value-loop-name : goal.invariant-value-loop-name
+invariant-value-loop-name l = given (rows_of l.over.tables.now) (called l.over.index.now (rows_of l.over.tables.now) l.calls) l.rest l.inner ≡ given (rows_of l.over.tables.now) (called l.over.index.now (rows_of l.over.tables.now) l.calls) l.e l.names
+
+abbrev pub decreases-value-loop-name : goal.decreases-value-loop-name
+decreases-value-loop-name l = size-Expr l.rest
 
 abbrev pub invariant-values-loop-e : goal.invariant-values-loop-e
 invariant-values-loop-e l = l.found ≡ all_given (rows_of l.over.tables.now) (called l.over.index.now (rows_of l.over.tables.now) l.calls) (take l.e-index l.list) l.names
