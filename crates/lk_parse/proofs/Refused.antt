@@ -1,14 +1,15 @@
--- A text that is refused has no program, want of memory aside.
+-- A text that is refused has no program, one without tokens none, and heavy tokens are not light, want of memory aside.
 use Rattle.std.proofs.Common.{◌≡◌, ◌<◌, ◌≤◌, ℕ, List, length, refl, sym, subst, arith}
 use Rattle.std.specs.Prelude.{Result, Ok, Err, IfErr, IsUtf8}
 use Rattle.std.specs.Str.{IsValidUpTo}
 use Rattle.std.proofs.lemmas.List.{take_all}
 use Rattle.lk_ast.specs.declared.declaration.Program.{Program}
 use Rattle.lk_ast.specs.declared.place.Span.{Span}
+use Rattle.lk_ast.specs.declared.token.Token.{Token}
 use Rattle.lk_grammar.specs.Programs.{IsProgram}
 use Rattle.lk_parse.specs.Nesting.{IsLight}
-use Rattle.lk_parse.specs.Refusals.{IsProgramText, IsRefused, NestsTooDeep, IsNoProgram}
-use Rattle.lk_parse.specs.Tokens.{text_limit}
+use Rattle.lk_parse.specs.Refusals.{HasNoTokens, IsNoProgram, IsProgramText, IsRefused, IsTooHeavy, NestsTooDeep}
+use Rattle.lk_parse.specs.Tokens.{HasTokens, text_limit}
 use Rattle.lk_parse.specs.declared.error.ParseError.{ParseError}
 use Rattle.lk_parse.specs.declared.error.ParseError.TheVariants.{TextTooLong, NotUtf8, BadToken, TooNested, Unexpected, NoMemory}
 use Rattle.lk_parse.proofs.Readings.{tokens_same, no_bad_token}
@@ -19,6 +20,22 @@ short text over fits = omega (arith, over, fits)
 
 ill_formed : (text : List ℕ) (at : ℕ) → IsValidUpTo text at → IsUtf8 text → ⊥
 ill_formed text at h utf8 = h.longest (length text) h.short (subst IsUtf8 (sym (take_all (length text) text (omega arith))) utf8)
+
+pub no_tokens_has_none : (text : List ℕ) (why : ParseError) (tokens : List Token) → HasNoTokens text why → HasTokens text tokens → why ≡ NoMemory
+no_tokens_has_none text (TextTooLong bytes) tokens h has = absurd (short text h.0 has.fits)
+no_tokens_has_none text (NotUtf8 at) tokens h has = absurd (ill_formed text at h.1 has.utf8)
+no_tokens_has_none text (BadToken span) tokens h has = absurd (no_bad_token text tokens span has.read h.2)
+no_tokens_has_none text NoMemory tokens h has = refl
+no_tokens_has_none text (TooNested span) tokens h has = absurd h
+no_tokens_has_none text (Unexpected span) tokens h has = absurd h
+
+pub heavy_not_light : (tokens : List Token) (why : ParseError) → IsTooHeavy tokens why → IsLight tokens → why ≡ NoMemory
+heavy_not_light tokens (TooNested span) h light = absurd (light_not_nested tokens span light h)
+heavy_not_light tokens NoMemory h light = refl
+heavy_not_light tokens (TextTooLong bytes) h light = absurd h
+heavy_not_light tokens (NotUtf8 at) h light = absurd h
+heavy_not_light tokens (BadToken span) h light = absurd h
+heavy_not_light tokens (Unexpected span) h light = absurd h
 
 too_deep : (text : List ℕ) (program : Program) (span : Span) → NestsTooDeep text span → IsProgramText text program → ⊥
 too_deep text program span h p =

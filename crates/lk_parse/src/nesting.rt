@@ -2,6 +2,7 @@
 
 ghost use Rattle.lk_parse.specs.Nesting.{is_sign_of, opening, closing, adds, begins_part, begins_declaration, no_load, opened_load, closed_load, base_of, grown_load, next_load, IsLight, IsSmall, nesting_limit};
 ghost use Rattle.lk_parse.specs.Refusals.{IsTooHeavy};
+ghost use Rattle.lk_parse.specs.declared.error.ParseError.TheVariants as refusal;
 ghost use Rattle.std.specs.Prelude.{◌≡◌, ◌≤◌, ◌∷◌, [], codes, IsTrue, ◌↔◌, IfErr, OnOk};
 
 use crate::error::ParseError;
@@ -186,6 +187,8 @@ impl Load {
 pub fn check_nesting(alloc: Global, tokens: &[Token]) -> Result<(), ParseError>
     ensures light { OnOk result (IsLight tokens.now) }
     ensures refused { IfErr result (IsTooHeavy tokens.now) }
+    // Light tokens are refused only for want of memory.
+    ensures complete { IfErr result (λ why. IsLight tokens.now → why ≡ refusal.NoMemory) }
 {
     let mut load = Load::new(alloc);
     for token in tokens {

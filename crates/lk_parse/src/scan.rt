@@ -3,6 +3,7 @@
 ghost use Rattle.lk_ast.specs.declared.token.Token.{Token as TheToken};
 ghost use Rattle.lk_parse.specs.Refusals.{HasNoTokens};
 ghost use Rattle.lk_parse.specs.Tokens.{HasTokens, IsFirstCharacter, LieBetween, Reads, text_limit, token_at};
+ghost use Rattle.lk_parse.specs.declared.error.ParseError.TheVariants as refusal;
 ghost use Rattle.std.specs.Prelude.{◌≡◌, ◌+◌, ◌<◌, ◌≤◌, ◌++◌, [], List, length, encode_utf8, IfOk, IfErr, OnOk, IsUtf8};
 
 use crate::error::ParseError;
@@ -65,6 +66,7 @@ fn read(alloc: Global, text: &str) -> Result<List<Token>, ParseError>
 }
 
 /// The tokens of a program's text.
+#[tactic(auto, using(crate::proofs::Refused::no_tokens_has_none))]
 pub fn tokens(alloc: Global, text: &[u8]) -> Result<List<Token>, ParseError>
     // They are the text's tokens, which has no others.
     ensures found { IfOk result (HasTokens text.now) }
@@ -72,6 +74,8 @@ pub fn tokens(alloc: Global, text: &[u8]) -> Result<List<Token>, ParseError>
     ensures in_order { IfOk result (λ found. LieBetween 0 found (length text.now)) }
     // When each refusal comes: of these reasons the first.
     ensures refused { IfErr result (HasNoTokens text.now) }
+    // A text that has tokens is refused only for want of memory.
+    ensures complete { (others : List TheToken) → IfErr result (λ why. HasTokens text.now others → why ≡ refusal.NoMemory) }
 {
     if text.len() > TEXT_LIMIT {
         return Err(ParseError::TextTooLong(text.len() as u64));

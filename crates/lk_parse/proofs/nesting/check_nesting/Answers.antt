@@ -1,5 +1,6 @@
 use Rattle.std.proofs.Common.{refl}
 use Rattle.lk_parse.proofs.Weights.{nothing_read, more_read, all_light, too_nested}
+use Rattle.lk_parse.proofs.Refused.{heavy_not_light}
 use Rattle.lk_parse.proofs.nesting.check_nesting.Goals as goal
 
 pub loop-token-init : goal.loop-token-init
@@ -10,6 +11,9 @@ read-requires c = c.loop-token.invariant.small
 
 pub returns-then-not-is_light-clause-refused : goal.returns-then-not-is_light-clause-refused
 returns-then-not-is_light-clause-refused c = too_nested _ _ _ _ _ c.loop-token-test.true c.token-item.is c.loop-token.invariant c.in_ok-read.ensures (λ light. let bad = c.if-not-is_light.ensures.1 light in absurd cc)
+
+pub returns-then-not-is_light-clause-complete : goal.returns-then-not-is_light-clause-complete
+returns-then-not-is_light-clause-complete c = λ all_are. heavy_not_light _ _ (too_nested _ _ _ _ _ c.loop-token-test.true c.token-item.is c.loop-token.invariant c.in_ok-read.ensures (λ light. let bad = c.if-not-is_light.ensures.1 light in absurd cc)) all_are
 
 pub loop-token-preserved : goal.loop-token-preserved
 loop-token-preserved c = more_read _ _ _ _ _ c.loop-token-test.true c.token-item.is c.loop-token.invariant c.in_ok-read.ensures (c.if-not-is_light.ensures.0 refl)
