@@ -1,6 +1,7 @@
 pub mod Ascending
 pub mod Forms
 pub mod Given
+pub mod InOrder
 pub mod Levels
 pub mod Readings
 pub mod Records
