@@ -1,5 +1,5 @@
--- What the contract of `read_sig` owes, from the laws of the reader of all tokens.
-use Rattle.std.proofs.Common.{◌≡◌, ℕ, ◌+◌, ◌-◌, ◌≤◌, List, [], length, Result, Ok, Err, IfOk, refl, ◌∙◌, arith}
+-- What the contracts of `read_sig` and `read_type` owe, from the laws of the reader of all tokens.
+use Rattle.std.proofs.Common.{◌≡◌, ℕ, ◌+◌, ◌-◌, ◌<◌, ◌≤◌, List, [], length, Result, Ok, Err, IfErr, IfOk, refl, ◌∙◌, arith}
 use Rattle.std.proofs.lemmas.List.{append-nil}
 use Rattle.std.specs.Borrow.{Bor}
 use Rattle.lk_ast.specs.declared.signature.SigType.{SigType}
@@ -8,7 +8,7 @@ use Rattle.lk_read.specs.Exact.{IsUnexpected, IsFront, IsOnly}
 use Rattle.lk_read.specs.Gives.{Gives}
 use Rattle.lk_read.specs.Reader.{finish}
 use Rattle.lk_read.specs.declared.stop.Stop.{Stop}
-use Rattle.lk_read.specs.declared.stop.Stop.TheVariants.{At, Spent}
+use Rattle.lk_read.specs.declared.stop.Stop.TheVariants.{At, NoMemory, Spent}
 use Rattle.lk_read.proofs.Below.{◌⊑◌, bind-finds}
 use Rattle.lk_read.proofs.Laws.{Reads, Just, weaken, bind-reads}
 use Rattle.lk_read.proofs.Moves.{moved, after, along}
@@ -17,7 +17,7 @@ use Rattle.lk_rows.specs.Reading.{type_at, sig_at}
 use Rattle.lk_rows.specs.Types.{IsType}
 use Rattle.lk_rows.proofs.Sound.{type_at-reads}
 use Rattle.lk_rows.proofs.Complete.{type_finds, whole}
-use Rattle.lk_rows.proofs.Room.{sig-lasts}
+use Rattle.lk_rows.proofs.Room.{sig-lasts, type_at-lasts}
 
 sig-reads : (n : ℕ) → Reads (sig_at n) IsType
 unfolding sig_at
@@ -46,6 +46,13 @@ refused_at n left ts h = unexpected (sig_at n) IsType (decides n) ts left h
 
 pub room_lasts : (ts : List Token) → sig_at (length ts + 1) ts ≡ Err Spent → ⊥
 room_lasts ts h = sig-lasts (length ts + 1) ts (omega arith) h
+
+-- with room for more than the tokens it isn't room that is wanted
+pub roomy : (n : ℕ) (ts : List Token) (result : Result (SigType × Bor (List Token)) Stop) → Gives result (type_at n ts) → length ts < n → IfErr result (λ why. why ≡ Spent → ⊥)
+roomy n ts (Ok read) h lt = tt
+roomy n ts (Err Spent) h lt = λ is. type_at-lasts n ts lt h
+roomy n ts (Err NoMemory) h lt = λ is. absurd cc
+roomy n ts (Err (At left)) h lt = λ is. absurd cc
 
 -- what is read off the front of the tokens
 pub fronts : (n : ℕ) (ts : List Token) (result : Result (SigType × Bor (List Token)) Stop) → Gives result (type_at n ts) → IfOk result (λ read. IsFront IsType ts read.0 read.1.now)

@@ -5,7 +5,8 @@ ghost use Rattle.lk_read.specs.Gives.{Gives, GivesToken};
 ghost use Rattle.lk_read.specs.Reader.{many, one};
 ghost use Rattle.lk_rows.specs.Reading.{comma, is_label, field_with, fields_turn, fields_with, types_turn, types_with, unit_with, record_with, function_with, round_with, list_with, no_tags, some_tags_with, tags_with, named, base, type_at};
 ghost use Rattle.lk_rows.specs.Types.{IsType};
-ghost use Rattle.std.specs.Prelude.{IfOk};
+ghost use Rattle.lk_read.specs.declared.stop.Stop.TheVariants.{Spent};
+ghost use Rattle.std.specs.Prelude.{◌≡◌, ◌<◌, IfErr, IfOk, length};
 
 use lk_ast::{Boxed, List, SigField, SigType, Token};
 use lk_read::{
@@ -326,13 +327,14 @@ fn read_any(alloc: Global, room: usize, tokens: &[Token]) -> Result<(SigType, &[
     }
 }
 
-/// A type off the front of the tokens, and the tokens that are left. With room of one more than the tokens it is never
-/// `Stop::Spent`.
+/// A type off the front of the tokens, and the tokens that are left.
 pub fn read_type(alloc: Global, room: usize, tokens: &[Token]) -> Result<(SigType, &[Token]), Stop>
     // What is taken off the front is the type that is answered.
     ensures found { IfOk result (λ read. IsFront IsType tokens.now read.0 read.1.now) }
     // Which of the types that begin here, and where reading stops.
     ensures reads { Gives result (type_at room tokens.now) }
+    // Room for one more than the tokens suffices.
+    ensures lasts { length tokens.now < room → IfErr result (λ why. why ≡ Spent → ⊥) }
 {
     read_any(alloc, room, tokens)
 }
