@@ -21,7 +21,7 @@ layer e = out-Node e.node
 
 -- ---- operators with other operands
 
--- the node with two operands that this one is, with these in place of its own
+-- the node with these two operands in place of its own, of an operator with two; a `where` of any other node
 abbrev pub with_operands : Layer → Expr → Expr → Node
 with_operands (Node-F.Seq c d) a b = node.Seq a b
 with_operands (Node-F.And c d) a b = node.And a b
@@ -42,7 +42,8 @@ with_operands (Node-F.Gt c d) a b = node.Gt a b
 with_operands (Node-F.Ge c d) a b = node.Ge a b
 with_operands other a b = node.Where a b
 
--- the node with one operand that this one is, with this in its place
+-- the node with this operand in place of its own, of an operator or a function of the language with one; a `print` of any
+-- other node
 abbrev pub with_operand : Layer → Expr → Node
 with_operand (Node-F.Neg d) e = node.Neg e
 with_operand (Node-F.Not d) e = node.Not e

@@ -6,7 +6,7 @@ ghost use Rattle.std.specs.Prelude.{◌≡◌};
 
 use crate::expression::{Expr, Node};
 
-/// The node with these two operands in place of its own.
+/// The node with these two operands in place of its own, of an operator with two; a `where` of any other node.
 pub fn with_operands(node: &Node, a: Expr, b: Expr) -> Node
     ensures { result ≡ with_operands (out-Node node.now) a b }
 {
@@ -32,7 +32,8 @@ pub fn with_operands(node: &Node, a: Expr, b: Expr) -> Node
     }
 }
 
-/// The node with this operand in place of its own.
+/// The node with this operand in place of its own, of an operator or a function of the language with one; a `print` of any
+/// other node.
 pub fn with_operand(node: &Node, e: Expr) -> Node
     ensures { result ≡ with_operand (out-Node node.now) e }
 {

@@ -21,7 +21,7 @@ pub fn base_order(a: &Base, b: &Base) -> Ordering
 }
 
 /// Whether both are the same value, functions included: those are the same where they were made at one place in the
-/// text over the same values.
+/// text over the same values. The language's own `==` is `same` of `lk_operators`, of which a function is the same as nothing.
 #[cycle(equals)]
 pub fn equal(a: &Value, b: &Value) -> bool
     ensures { IsTrue result ↔ (a.now ≡ b.now) }

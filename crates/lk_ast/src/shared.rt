@@ -45,7 +45,8 @@ impl<T: Drop> Shared<T> {
         })
     }
 
-    /// The value, out of its last owner; where it has others, this owner again.
+    /// The value, or this owner again. It is the value where there is no other owner, which no clause says: how many owners
+    /// there are is no part of what contracts see.
     pub fn try_unwrap(self) -> Result<T, Shared<T>>
         ensures ok { IfOk result (λ value. value ≡ self) }
         ensures err { IfErr result (λ shared. shared ≡ self) }

@@ -348,7 +348,7 @@ fn read_whole(alloc: Global, room: usize, tokens: &[Token]) -> Result<Program, S
 /// itself once for each level of nesting, so tokens from outside are to be weighed before.
 ///
 /// # Errors
-/// `Unexpected` where they are none, with the number of the first token that begins no program.
+/// `Unexpected` where they are none, with the number of the first token with which they begin no program.
 pub fn read_program(alloc: Global, tokens: &[Token]) -> Result<Program, GrammarError>
     // What is read is the program that the grammar gives the tokens, and it gives them no other.
     ensures found { IfOk result (λ program. IsOnly IsProgram tokens.now program) }

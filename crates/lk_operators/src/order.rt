@@ -56,7 +56,8 @@ fn one_kind(a: &Base, b: &Base) -> bool
     }
 }
 
-/// Whether two values are the same, part by part. A function is the same as nothing, itself included.
+/// Whether two values are the same, part by part. A function is the same as nothing, itself included; `equal` of `lk_ast` is
+/// equality of values.
 #[cycle(same)]
 pub fn same(a: &Value, b: &Value) -> bool
     ensures { result ≡ same_value a.now b.now }

@@ -1,5 +1,5 @@
 -- How deeply a text nests, counted from its tokens. Brackets, operators and forms are what one expression can stand in
--- another by; so a limit on the weight bounds how deep the tree of any program is.
+-- another by; so a limit on the weight is meant to bound how deep the tree of any program is, which no lemma says.
 use Rattle.std.specs.Prelude.{◌≡◌, ◌+◌, ◌<◌, ◌≤◌, ◌||◌, ◌&&◌, ℕ, Bool, false, if◌then◌else◌, List, [], ◌∷◌, ◌++◌, take, fold, codes, All}
 use Rattle.lk_ast.specs.declared.place.Span.{Span}
 use Rattle.lk_ast.specs.declared.token.Token.{Token}
@@ -27,7 +27,7 @@ operators =
     codes "||" ∷ codes "&&" ∷ codes "==" ∷ codes "<>" ∷ codes "<" ∷ codes "<=" ∷ codes ">" ∷ codes ">=" ∷ codes "::"
     ∷ codes "++" ∷ codes "^^" ∷ codes "+" ∷ codes "-" ∷ codes "*" ∷ codes "/" ∷ codes "." ∷ []
 
--- the word that is an operator, and the words of the forms whose last part is an expression or a block
+-- the word that is an operator, and the words of forms
 abbrev pub forms : List (List ℕ)
 forms =
     codes "mod" ∷ codes "if" ∷ codes "else" ∷ codes "for" ∷ codes "where" ∷ codes "switch" ∷ codes "query"

@@ -376,7 +376,7 @@ pub fn make_binary(
     })
 }
 
-/// `l = e` of a record whose label is read as an expression.
+/// `l = e`, of a record, an extension or a change.
 pub fn part_of(label: Word, e: Part) -> PartExpr
     ensures { result ≡ part_of label e }
 {

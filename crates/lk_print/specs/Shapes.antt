@@ -1,4 +1,5 @@
--- How an expression stands alone and as a part, by what kind of expression it is.
+-- How an expression stands alone and as a part, by what kind of expression it is, as the code asks for it; Printed has the
+-- claim.
 use Rattle.lk_print.specs.Printed.{Kinds, in_round, in_braces}
 use Rattle.lk_print.specs.declared.shape.Shape.{Shape}
 use Rattle.lk_print.specs.declared.shape.Shape.TheVariants.{Primary, Compound, Block}

@@ -1,4 +1,5 @@
--- The sign or word of an operator, the word before parentheses, and what binds a name in a block.
+-- The sign or word of an operator, the word before parentheses, and what binds a name in a block, as the code asks for them;
+-- Printed has the claim.
 use Rattle.std.specs.Prelude.{ℕ, Bool, true, false, List, [], ◌∷◌, Option, Some, None, codes}
 use Rattle.lk_ast.specs.Layers.{Layer}
 use Rattle.lk_ast.specs.declared.expression.Node.TheOpen.{Node-F}

@@ -7,7 +7,7 @@ use Rattle.lk_ast.specs.declared.token.TokenKind.{TokenKind}
 use Rattle.lk_ast.specs.declared.token.TokenKind.TheVariants.{Word, Tag, Int, Text, Sign}
 use Rattle.lk_read.specs.Keywords.{is_keyword}
 
--- the same tests of what a token is
+-- tests of what a token is, without its place
 abbrev pub is_sign_kind : List ℕ → TokenKind → Bool
 is_sign_kind wanted (Sign sign) = bytes_eq sign wanted
 is_sign_kind wanted kind = false

@@ -30,7 +30,7 @@ fn read_whole(alloc: Global, room: usize, tokens: &[Token]) -> Result<SigType, S
 /// nesting, so tokens from outside are to be weighed before.
 ///
 /// # Errors
-/// `Unexpected` where they are none, with the number of the first token that begins no signature.
+/// `Unexpected` where they are none, with the number of the first token with which they begin no signature.
 pub fn read_sig(alloc: Global, tokens: &[Token]) -> Result<SigType, SigError>
     // What is read is the type that the grammar gives the tokens, and it gives them no other.
     ensures found { IfOk result (λ ty. IsOnly IsType tokens.now ty) }

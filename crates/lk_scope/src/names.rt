@@ -11,7 +11,8 @@ use std::alloc::Global;
 use std::collections::BTreeSet;
 use std::marker::Model;
 
-/// A set of names, as of the local names in scope.
+/// A set of names, as of the local names in scope. Where memory runs out in a method, the set and what was noted are of no
+/// use any more: nothing is said of them.
 #[derive(Drop)]
 pub struct Names {
     names: BTreeSet<String>,
