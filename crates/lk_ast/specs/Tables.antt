@@ -1,5 +1,5 @@
 -- Tables: which a program declares, which rows one may hold, and the rows of several by name.
-use Rattle.std.specs.Prelude.{ℕ, List, [], ◌∷◌, Bool, true, false, ◌&&◌, bytes_eq, if◌then◌else◌, map}
+use Rattle.std.specs.Prelude.{◌≢◌, ℕ, List, [], ◌∷◌, Bool, true, false, ◌&&◌, bytes_eq, if◌then◌else◌, map}
 use Rattle.std.specs.Cmp.Lexicographic.{slice_cmp}
 use Rattle.std.specs.FinMap as finite
 use Rattle.std.specs.List.{flat_map, list_all}
@@ -58,6 +58,15 @@ tables_in (Mutual functions) = []
 -- the tables that a program declares, in text order
 abbrev pub tables_of : Program → List TableDecl
 tables_of program = flat_map tables_in program.decls
+
+-- each of these tables has a column
+abbrev pub EachHasColumns : List TableDecl → Type 0
+EachHasColumns [] = Unit {0}
+EachHasColumns (table ∷ tables) = (table.columns ≢ []) × EachHasColumns tables
+
+-- each table of the program has a column, as those of a text have
+abbrev pub HaveColumns : Program → Type 0
+HaveColumns program = EachHasColumns (tables_of program)
 
 -- the kinds of columns by their labels
 abbrev pub kinds : List ColumnDecl → finite.FinMap (slice_cmp nat_cmp) BaseKind

@@ -1,12 +1,12 @@
 //! The program of a command: read, with its names bound, typed, with a ground program, and with its queries as SQL.
 
 ghost use Rattle.std.specs.Prelude.{◌≡◌, ◌≤◌, ◌⊎◌, IfErr, IfOk};
+ghost use Rattle.lk_ast.specs.Tables.{HaveColumns};
 ghost use Rattle.lk_bag.specs.Blocks.{AreBlocksApart};
 ghost use Rattle.lk_cli.specs.Answers.{HasNoProgram, IsAccepted, IsNotAccepted, IsNotGround, IsNotTranslated, IsNotTyped, IsProgram, IsTranslated, IsTyped};
 ghost use Rattle.lk_cli.specs.Seen.{seen};
 ghost use Rattle.lk_ground.specs.UsesApart.{AreUsesApart};
 ghost use Rattle.lk_index.specs.Places.{ArePlaced};
-ghost use Rattle.lk_places.specs.Law.{HaveColumns};
 
 use crate::READ_MAX;
 use crate::answer::{Checked, Refusal};

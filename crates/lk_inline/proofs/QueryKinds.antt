@@ -2,7 +2,7 @@
 use Rattle.std.proofs.Common.{◌≡◌, refl, sym, ap, ap₂, ◌∙◌, subst, arith, ℕ, zero, suc, ◌+◌, ◌<◌, true, false, ◌&&◌, List, [], ◌∷◌, drop, length, map, Option, Some, None, slice_get, true≢false, inl, inr}
 use Rattle.std.specs.List.{list_all}
 use Rattle.lk_ast.specs.Functions.{functions_of}
-use Rattle.lk_ast.specs.Tables.{tables_of}
+use Rattle.lk_ast.specs.Tables.{HaveColumns, tables_of}
 use Rattle.lk_ast.specs.declared.declaration.Program.{Program}
 use Rattle.lk_ast.specs.declared.expression.Expr.{Expr}
 use Rattle.lk_ast.specs.declared.expression.SortKey.{SortKey}
@@ -29,7 +29,7 @@ use Rattle.lk_inline.proofs.TableColumns.{row_there}
 use Rattle.lk_inline.specs.Inlined.{calls_of, first_columns, key_of, state_at}
 use Rattle.lk_inline.specs.KindsOfTypes.{IsInOrder, kind_level, kind_of_type}
 use Rattle.lk_inline.specs.Law as kinded
-use Rattle.lk_inline.specs.Law.{HasKinds, HaveColumns}
+use Rattle.lk_inline.specs.Law.{HasKinds}
 use Rattle.lk_mono.specs.Instanced.{HasInstances}
 use Rattle.lk_names.specs.Programs.{IsBound}
 use Rattle.lk_query.specs.Kinds.{AreColumns, Is, Kind, OfList, kinds_from}

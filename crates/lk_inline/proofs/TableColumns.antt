@@ -4,7 +4,7 @@ use Rattle.std.proofs.Common.{◌≡◌, refl, sym, ap, ap₂, ◌∙◌, subst,
 use Rattle.std.specs.FinMap as fin
 use Rattle.std.specs.Prelude.{◌≢◌}
 use Rattle.lk_ast.specs.Rows.{row_value}
-use Rattle.lk_ast.specs.Tables.{cells_fit, is_of_kind, tables_of}
+use Rattle.lk_ast.specs.Tables.{EachHasColumns, HaveColumns, cells_fit, is_of_kind, tables_of}
 use Rattle.lk_ast.specs.declared.declaration.ColumnDecl.{ColumnDecl}
 use Rattle.lk_ast.specs.declared.declaration.Program.{Program}
 use Rattle.lk_ast.specs.declared.declaration.TableDecl.{TableDecl}
@@ -22,13 +22,12 @@ use Rattle.lk_ground_types.specs.Shapes.{is_base, is_there}
 use Rattle.lk_inline.proofs.BlockSets.{field_base}
 use Rattle.lk_inline.proofs.RecordRules.{got}
 use Rattle.lk_inline.proofs.RowLabels.{bytes_itself, cell_labels, fields_fit_labels, labels_are}
-use Rattle.lk_inline.specs.Law.{HaveColumns}
 use Rattle.lk_sound.proofs.FieldRows.{get_among}
 use Rattle.lk_sound.proofs.TableRows.{table_found}
 use Rattle.lk_sound.specs.Instances.{Instances}
 use Rattle.lk_sound.specs.Tables.{table_at}
 use Rattle.lk_sound.specs.Values.{Fits}
-use Rattle.lk_types.specs.Each.{Each, OneOf}
+use Rattle.lk_types.specs.Each.{OneOf}
 use Rattle.lk_types.specs.Rows as rows
 use Rattle.lk_types.specs.Rows.{Label, fields_of, no_fields}
 use Rattle.lk_types.specs.declared.ground.Ground.{Ground}
@@ -101,7 +100,7 @@ proper_there (Some table) all row has = by_known (is_some (row_known table)) has
     by_known true known = known_there table.columns (all table refl) row known
     by_known false known = absurd known
 
-found_there : (x : Label) (tables : List TableDecl) → Each (λ (table : TableDecl). table.columns ≢ []) tables → (table : TableDecl) → find (λ (table : TableDecl). bytes_eq table.name.text x) tables ≡ Some table → table.columns ≢ []
+found_there : (x : Label) (tables : List TableDecl) → EachHasColumns tables → (table : TableDecl) → find (λ (table : TableDecl). bytes_eq table.name.text x) tables ≡ Some table → table.columns ≢ []
 found_there x [] all table is = let wrong : None ≡ Some table = is in absurd cc
 found_there x (t ∷ tables) all table is = by_test (bytes_eq t.name.text x) is (found_there x tables all.1 table)
   where

@@ -1,10 +1,9 @@
 -- The laws of inlining: what stands at a site gives what the program's text says (Cooper, The script-writer's dream, DBPL 2009).
-use Rattle.std.specs.Prelude.{◌≡◌, ◌≢◌, Bool, true, ℕ, List, [], map, Some}
+use Rattle.std.specs.Prelude.{◌≡◌, Bool, true, ℕ, List, [], map, Some}
 use Rattle.lk_ast.specs.Layers.{Layer, layer}
 use Rattle.lk_ast.specs.Rows.{row_value}
-use Rattle.lk_ast.specs.Tables.{Tables, row_fits, tables_of}
+use Rattle.lk_ast.specs.Tables.{HaveColumns, Tables, row_fits}
 use Rattle.lk_ast.specs.declared.declaration.Program.{Program}
-use Rattle.lk_ast.specs.declared.declaration.TableDecl.{TableDecl}
 use Rattle.lk_ast.specs.declared.expression.ChangeExpr.{ChangeExpr, out-ChangeExpr}
 use Rattle.lk_ast.specs.declared.expression.Expr.{Expr}
 use Rattle.lk_ast.specs.declared.expression.Node.TheOpen.{Node-F}
@@ -122,10 +121,6 @@ CapturedLaw = (p : Program) → IsBound p → (g : GroundProgram) → (has : Has
     → (found : Inlined) → inlined_at p g.helpers site ≡ Some found → Captures p site.block names found
 
 -- ---- kinds
-
--- each table of the program has a column, as those of a text have
-abbrev pub HaveColumns : Program → Type 0
-HaveColumns p = Each (λ (table : TableDecl). table.columns ≢ []) (tables_of p)
 
 -- Each part of what is inlined stands behind its own parts and gives a thing of its kind, that of a query where tables have columns,
 -- since a reading gives all columns of its table. A change reads no table.

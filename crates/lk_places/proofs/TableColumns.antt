@@ -2,17 +2,15 @@
 use Rattle.std.proofs.Common.{sym, subst, List, [], ◌∷◌, ◌++◌, map}
 use Rattle.std.specs.List.{flat_map}
 use Rattle.std.specs.Prelude.{◌≢◌}
-use Rattle.lk_ast.specs.Tables.{tables_in}
+use Rattle.lk_ast.specs.Tables.{EachHasColumns, HaveColumns, tables_in}
 use Rattle.lk_ast.specs.declared.declaration.ColumnDecl.{ColumnDecl}
 use Rattle.lk_ast.specs.declared.declaration.Decl.{Decl}
 use Rattle.lk_ast.specs.declared.declaration.Decl.TheVariants.{Table, Fun, Mutual}
 use Rattle.lk_ast.specs.declared.declaration.Program.{Program}
-use Rattle.lk_ast.specs.declared.declaration.TableDecl.{TableDecl}
 use Rattle.lk_ast.specs.declared.token.Token.{Token}
 use Rattle.lk_grammar.specs.Programs.{IsColumns, IsDecl, IsDecls, IsProgram}
-use Rattle.lk_places.specs.Law.{ColumnsLaw, HaveColumns}
+use Rattle.lk_places.specs.Law.{ColumnsLaw}
 use Rattle.lk_scope.specs.Scoped.{scoped_decl, scoped_program}
-use Rattle.lk_types.specs.Each.{Each}
 
 some : (columns : List ColumnDecl) (column : ColumnDecl) → columns ++ column ∷ [] ≢ []
 some [] column is = cc
@@ -24,7 +22,7 @@ columns_there (IsColumns.next s {columns = columns} {column = column} ds sign d)
 
 -- the tables of declarations, as they are where names are resolved
 abbrev Have : List Decl → Type 0
-Have ds = Each (λ (table : TableDecl). table.columns ≢ []) (flat_map tables_in (map scoped_decl ds))
+Have ds = EachHasColumns (flat_map tables_in (map scoped_decl ds))
 
 behind : (ds : List Decl) (d : Decl) → Have ds → Have (d ∷ []) → Have (ds ++ d ∷ [])
 behind [] d all one = one

@@ -1,14 +1,12 @@
 -- The laws of places, for a program that a text stands for. Each function's name and each lambda begins at a place of its own,
 -- and so does each use of a function in a body, and what reads or changes tables. Each table has a column.
-use Rattle.std.specs.Prelude.{◌≢◌, ℕ, List, []}
-use Rattle.lk_ast.specs.Tables.{tables_of}
+use Rattle.std.specs.Prelude.{ℕ, List}
+use Rattle.lk_ast.specs.Tables.{HaveColumns}
 use Rattle.lk_ast.specs.declared.declaration.Program.{Program}
-use Rattle.lk_ast.specs.declared.declaration.TableDecl.{TableDecl}
 use Rattle.lk_bag.specs.Blocks.{AreBlocksApart}
 use Rattle.lk_ground.specs.UsesApart.{AreUsesApart}
 use Rattle.lk_index.specs.Places.{ArePlaced}
 use Rattle.lk_parse.specs.Refusals.{IsProgramText}
-use Rattle.lk_types.specs.Each.{Each}
 
 abbrev pub PlacesLaw : Type 0
 PlacesLaw = (text : List ℕ) (program : Program) → IsProgramText text program → ArePlaced program
@@ -18,10 +16,6 @@ UsesLaw = (text : List ℕ) (program : Program) → IsProgramText text program �
 
 abbrev pub BlocksLaw : Type 0
 BlocksLaw = (text : List ℕ) (program : Program) → IsProgramText text program → AreBlocksApart program
-
--- each table of the program has a column
-abbrev pub HaveColumns : Program → Type 0
-HaveColumns p = Each (λ (table : TableDecl). table.columns ≢ []) (tables_of p)
 
 abbrev pub ColumnsLaw : Type 0
 ColumnsLaw = (text : List ℕ) (program : Program) → IsProgramText text program → HaveColumns program

@@ -1,8 +1,9 @@
 -- The SQL of what is inlined is well formed, since its parts have kinds.
 use Rattle.std.proofs.Common.{sym, subst, List, [], ◌∷◌}
+use Rattle.lk_ast.specs.Tables.{HaveColumns}
 use Rattle.lk_ast.specs.declared.declaration.Program.{Program}
 use Rattle.lk_ground.specs.declared.program.GroundProgram.{GroundProgram}
-use Rattle.lk_inline.specs.Law.{HasKinds, HaveColumns, KindsLaw}
+use Rattle.lk_inline.specs.Law.{HasKinds, KindsLaw}
 use Rattle.lk_inline.specs.Law as kinded
 use Rattle.lk_norm.specs.Law as norm
 use Rattle.lk_query.specs.declared.query.Inlined.{Inlined}

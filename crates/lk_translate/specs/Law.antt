@@ -2,7 +2,7 @@
 -- program changes, and the SQL is well formed.
 use Rattle.std.specs.Prelude.{◌≡◌, true, List, Some}
 use Rattle.lk_ast.specs.Layers.{Layer, layer}
-use Rattle.lk_ast.specs.Tables.{Tables, row_fits}
+use Rattle.lk_ast.specs.Tables.{HaveColumns, Tables, row_fits}
 use Rattle.lk_ast.specs.declared.declaration.Program.{Program}
 use Rattle.lk_ast.specs.declared.expression.ChangeExpr.{ChangeExpr, out-ChangeExpr}
 use Rattle.lk_ast.specs.declared.expression.Node.TheOpen.{Node-F}
@@ -15,7 +15,7 @@ use Rattle.lk_bag.specs.Legal as legal
 use Rattle.lk_bag.specs.Legal.{names_in}
 use Rattle.lk_ground.specs.declared.program.GroundProgram.{GroundProgram}
 use Rattle.lk_inline.specs.Inlined.{inlined_at}
-use Rattle.lk_inline.specs.Law.{AreProper, HaveColumns, IsProperType}
+use Rattle.lk_inline.specs.Law.{AreProper, IsProperType}
 use Rattle.lk_mono.specs.Grounded.{IsGrounded}
 use Rattle.lk_mono.specs.Instanced.{HasInstances}
 use Rattle.lk_names.specs.Programs.{IsBound}
