@@ -1,9 +1,15 @@
--- What stands in a node, in text order, where it is known what stands in each of its parts.
-use Rattle.std.specs.Prelude.{List, [], ◌∷◌, ◌++◌, Option, Some, None}
+-- What stands in a node, in text order, where it is known what stands in each of its parts. The expressions of fields.
+use Rattle.std.specs.Prelude.{List, [], ◌∷◌, ◌++◌, Option, Some, None, map}
 use Rattle.std.specs.List.{flat_map}
+use Rattle.lk_ast.specs.declared.expression.Expr.{Expr}
 use Rattle.lk_ast.specs.declared.expression.Node.TheOpen.{Node-F}
+use Rattle.lk_ast.specs.declared.expression.PartExpr.{PartExpr}
 
-abbrev in_some : {A S : Type 0} → (S → List A) → Option S → List A
+-- the expressions of `l = e, m = d`
+abbrev pub exprs_of : List PartExpr → List Expr
+exprs_of parts = map (λ (part : PartExpr). part.expr) parts
+
+abbrev pub in_some : {A S : Type 0} → (S → List A) → Option S → List A
 in_some inside None = []
 in_some inside (Some part) = inside part
 

@@ -1,6 +1,7 @@
 -- One level of what a query gives, form by form.
 use Rattle.std.proofs.Common.{◌≡◌, arith, zero, suc, refl, ap, ap₂, ◌∙◌, ℕ, List, [], ◌∷◌, ◌++◌, map, flat_map, Option, Some, None, Bool, true, false}
 use Rattle.std.specs.Prelude.{if◌then◌else◌}
+use Rattle.lk_ast.specs.Children.{exprs_of}
 use Rattle.lk_ast.specs.Functions.{function_named}
 use Rattle.lk_ast.specs.Layers.{Layer, before, layer}
 use Rattle.lk_ast.specs.Tables.{Tables}
@@ -16,7 +17,7 @@ use Rattle.lk_ast.specs.declared.value.Value.{Value}
 use Rattle.lk_ast.specs.declared.value.Value.TheVariants as value
 use Rattle.lk_bag.specs.Bag.{Gives, called, called_function, chosen, entered, value_of, given, level, parts_given}
 use Rattle.lk_bag.specs.Change.{is_true}
-use Rattle.lk_bag.specs.Forms.{all_given, exprs_of, form_given, operands}
+use Rattle.lk_bag.specs.Forms.{all_given, form_given, operands}
 use Rattle.lk_bag.proofs.Given.{beside, given_level, of_part, part_level}
 use Rattle.lk_locals.specs.Names.{Names, bind, bind_all, no_names}
 use Rattle.lk_operators.specs.Operators.{operated}

@@ -3,7 +3,7 @@
 use Rattle.std.proofs.Common.{◌≡◌, arith, refl, sym, ap, ap₂, ◌∙◌, Bool, true, false, List, [], ◌∷◌, ◌++◌, map, flat_map, append-nil, append_assoc, Option, Some, None}
 use Rattle.std.proofs.lemmas.List.Folds.{flat_map-map}
 use Rattle.std.proofs.lemmas.Grind.{flat_map-append}
-use Rattle.lk_ast.specs.Children.{children}
+use Rattle.lk_ast.specs.Children.{children, exprs_of}
 use Rattle.lk_ast.specs.Layers.{Layer, layer}
 use Rattle.lk_ast.specs.declared.expression.Case.{Case, para-Case, para-roll-Case}
 use Rattle.lk_ast.specs.declared.expression.ChangeExpr.{ChangeExpr, out-ChangeExpr, roll-out-ChangeExpr, para-ChangeExpr, para-roll-ChangeExpr}
@@ -17,9 +17,6 @@ use Rattle.lk_ast.specs.declared.expression.PartExpr.{PartExpr, para-PartExpr, p
 use Rattle.lk_bag.specs.Blocks.{acts_on_tables, blocks_in}
 
 -- ---- the expressions right inside an expression
-
-abbrev exprs_of : List PartExpr → List Expr
-exprs_of parts = map (λ (part : PartExpr). part.expr) parts
 
 abbrev bodies_of : List Case → List Expr
 bodies_of cases = map (λ (case : Case). case.body) cases

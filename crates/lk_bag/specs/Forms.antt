@@ -1,6 +1,6 @@
 -- What each form of a query gives, by what its parts give.
 use Rattle.std.specs.Prelude.{ℕ, true, false, List, [], ◌∷◌, ◌++◌, map, unwrap_or}
-use Rattle.lk_ast.specs.Children.{children}
+use Rattle.lk_ast.specs.Children.{children, exprs_of}
 use Rattle.lk_ast.specs.Layers.{Layer}
 use Rattle.lk_ast.specs.Rows.{rows_value}
 use Rattle.lk_ast.specs.Tables.{Tables}
@@ -13,10 +13,6 @@ use Rattle.lk_bag.specs.Bag.{chosen, for_each, given, items, value_of}
 use Rattle.lk_locals.specs.Names.{Names, bind, lookup}
 use Rattle.lk_operators.specs.Operators.{operated}
 use Rattle.lk_operators.specs.Values.{bool_in, truth, unit}
-
--- the expressions of `l = e, m = d`
-abbrev pub exprs_of : List PartExpr → List Expr
-exprs_of parts = map (λ (part : PartExpr). part.expr) parts
 
 -- the parts of an operation, in text order
 abbrev pub operands : Layer → List Expr

@@ -1,5 +1,5 @@
 -- What acts on tables inside a node, by what does so in each of its parts; and a map of such blocks by their places.
-use Rattle.std.specs.Prelude.{◌≡◌, ℕ, Bool, true, false, List, [], ◌∷◌, ◌++◌, Option, Some, None, find, map}
+use Rattle.std.specs.Prelude.{◌≡◌, ℕ, Bool, true, false, List, [], ◌∷◌, ◌++◌, find, map}
 use Rattle.std.specs.Borrow.{Bor}
 use Rattle.std.specs.BTreeMap.{BTreeMap, get}
 use Rattle.std.specs.List.{flat_map}
@@ -29,10 +29,6 @@ in_case case = blocks_in case.body
 
 abbrev pub in_last : LastCase → List Expr
 in_last last = blocks_in last.body
-
-abbrev pub in_some : Option LastCase → List Expr
-in_some None = []
-in_some (Some last) = in_last last
 
 abbrev pub in_change : ChangeExpr → List Expr
 in_change change = blocks_in (out-ChangeExpr change).cond ++ flat_map in_part (out-ChangeExpr change).sets

@@ -1,8 +1,9 @@
 //! The queries, readings of tables and changes in a program's text, by the places where they begin.
 
+ghost use Rattle.lk_ast.specs.Children.{in_some};
 ghost use Rattle.lk_ast.specs.declared.expression.Node.{out-Node};
 ghost use Rattle.lk_bag.specs.Blocks.{acts_on_tables, block_at, blocks_in, blocks_of};
-ghost use Rattle.lk_bag.specs.Inside.{FindsBlocks, in_case, in_change, in_function, in_lambda, in_part, in_some, inside, itself, shown};
+ghost use Rattle.lk_bag.specs.Inside.{FindsBlocks, in_case, in_change, in_function, in_lambda, in_last, in_part, inside, itself, shown};
 ghost use Rattle.lk_index.specs.Places.{shown as functions_shown};
 ghost use Rattle.std.specs.List.{flat_map};
 ghost use Rattle.std.specs.Option.{option_copied};
@@ -239,7 +240,7 @@ fn cases<'p>(found: &mut List<&'p Expr>, list: &'p [Case]) -> Result<(), NoMemor
 /// The blocks in `case x -> e`.
 #[cycle(blocks)]
 fn last_case<'p>(found: &mut List<&'p Expr>, last: &'p Option<LastCase>) -> Result<(), NoMemory>
-    ensures { OnOk result (shown found.new ≡ shown found.old ++ in_some last.now) }
+    ensures { OnOk result (shown found.new ≡ shown found.old ++ in_some in_last last.now) }
 {
     match last {
         None => Ok(()),

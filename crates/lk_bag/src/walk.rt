@@ -1,11 +1,12 @@
 //! What a query gives over tables.
 
+ghost use Rattle.lk_ast.specs.Children.{exprs_of};
 ghost use Rattle.lk_ast.specs.Tables.{rows_of};
 ghost use Rattle.lk_ast.specs.declared.expression.Node.{out-Node};
 ghost use Rattle.lk_ast.specs.declared.value.Value.TheVariants as value_at;
 ghost use Rattle.lk_bag.specs.Bag.{called, for_each, given, gives, items, value_of};
 ghost use Rattle.lk_bag.specs.Change.{is_true};
-ghost use Rattle.lk_bag.specs.Forms.{all_given, choice_given, exprs_of, form_given, operation_given};
+ghost use Rattle.lk_bag.specs.Forms.{all_given, choice_given, form_given, operation_given};
 ghost use Rattle.lk_operators.specs.Operators.{operated};
 ghost use Rattle.lk_operators.specs.Values.{bool_in, unit};
 ghost use Rattle.lk_locals.specs.Names.{lookup};

@@ -1,13 +1,9 @@
 -- The parts of an expression.
-use Rattle.std.specs.Prelude.{Bool, true, false, List, [], ◌∷◌, ◌++◌, map}
+use Rattle.std.specs.Prelude.{Bool, true, false, List, [], ◌∷◌, ◌++◌}
+use Rattle.lk_ast.specs.Children.{exprs_of}
 use Rattle.lk_ast.specs.Layers.{Layer}
 use Rattle.lk_ast.specs.declared.expression.Expr.{Expr}
 use Rattle.lk_ast.specs.declared.expression.Node.TheOpen.{Node-F}
-use Rattle.lk_ast.specs.declared.expression.PartExpr.{PartExpr}
-
--- the expressions of `l = e, m = d`
-abbrev pub exprs_of : List PartExpr → List Expr
-exprs_of parts = map (λ part. part.expr) parts
 
 -- The parts that are evaluated first, in order; the others, as the branches of an `if`, are evaluated in the stead of
 -- their node or not at all. What stands in a query, an update or a deletion isn't evaluated here.

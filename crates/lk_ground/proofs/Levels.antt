@@ -1,6 +1,7 @@
 -- What begins in an expression, by what begins in the expressions right inside it.
 use Rattle.std.proofs.Common.{◌≡◌, refl, sym, ap, ap₂, ◌∙◌, ℕ, List, [], ◌∷◌, ◌++◌, map, flat_map, append-nil, Some, None}
 use Rattle.std.proofs.lemmas.List.Folds.{flat_map-map}
+use Rattle.lk_ast.specs.Children.{exprs_of}
 use Rattle.lk_ast.specs.Layers.{Layer, layer}
 use Rattle.lk_ast.specs.declared.expression.Case.{Case, fold-Case, fold_out-Case}
 use Rattle.lk_ast.specs.declared.expression.ChangeExpr.{ChangeExpr, out-ChangeExpr, fold-ChangeExpr, fold_out-ChangeExpr}
@@ -11,7 +12,6 @@ use Rattle.lk_ast.specs.declared.expression.Node.{Node, fold-Node, fold_out-Node
 use Rattle.lk_ast.specs.declared.expression.Node.TheFolds.{map-Node}
 use Rattle.lk_ast.specs.declared.expression.Node.TheOpen.{Node-F}
 use Rattle.lk_ast.specs.declared.expression.PartExpr.{PartExpr, fold-PartExpr, fold_out-PartExpr}
-use Rattle.lk_typing.specs.Typing.{exprs_of}
 use Rattle.lk_sound.proofs.Inside.{insides, bodies_of}
 use Rattle.lk_ground.specs.Sites.{PlacedUse, all, inner, in_case, in_change, in_expr, in_lambda, in_last, in_part, use_at, outer_node_uses, outer_uses, node_labelled, labelled_in}
 

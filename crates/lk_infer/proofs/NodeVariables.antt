@@ -1,5 +1,6 @@
 -- The types of the nodes in a walk are variables.
 use Rattle.std.proofs.Common.{◌≡◌, ℕ, ◌+◌, Bool, List, [], ◌∷◌, ◌++◌, map, length, refl, sym, subst, ap, ◌∙◌, Option, Some, None}
+use Rattle.lk_ast.specs.Children.{exprs_of}
 use Rattle.lk_ast.specs.Functions.{functions_in}
 use Rattle.lk_ast.specs.declared.declaration.Decl.{Decl}
 use Rattle.lk_ast.specs.declared.declaration.FunDef.{FunDef}
@@ -33,7 +34,7 @@ use Rattle.lk_typing.specs.Heads.{Head}
 use Rattle.lk_typing.specs.Names.{Named, Entry, table_named}
 use Rattle.lk_typing.specs.Steps.{same_at}
 use Rattle.lk_typing.specs.Types.{labelled}
-use Rattle.lk_typing.specs.Typing.{exprs_of, is_marked, is_there, parts_of}
+use Rattle.lk_typing.specs.Typing.{is_marked, is_there, parts_of}
 use Rattle.lk_typing.specs.Unknowns.{effects_of, row_of, same, variant_of}
 use Rattle.lk_typing.specs.Walk.{Walking, WalkedAll, Walked, Told, has_if, params_from, keys_told, for_ended, query_ended, all_types, WalkedCases, walk_all, walk_cases, held_by, one_type}
 use Rattle.lk_typing.specs.Walk.{switch_ended, set_own, change_ended, plain_walked, walk, walk_case, walk_change, walk_part, lambda_walked, var_walked, switch_walked, for_list_walked}

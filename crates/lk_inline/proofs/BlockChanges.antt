@@ -1,5 +1,6 @@
 -- An update and a deletion keep what their condition and their new values say of a row.
 use Rattle.std.proofs.Common.{◌≡◌, refl, sym, ap, ap₂, ◌∙◌, subst, arith, ℕ, ◌+◌, true, List, [], ◌∷◌, drop, length, map, Some, if◌then◌else◌}
+use Rattle.lk_ast.specs.Children.{exprs_of}
 use Rattle.lk_ast.specs.Functions.{functions_of}
 use Rattle.lk_ast.specs.Rows.{row_value}
 use Rattle.lk_ast.specs.Tables.{all_fit, row_fits, table_defs, tables_of}
@@ -70,7 +71,7 @@ use Rattle.lk_typing.proofs.Values.{just}
 use Rattle.lk_typing.specs.Names.{Entry, HasRows, Named, named, types_of}
 use Rattle.lk_typing.specs.Types as types
 use Rattle.lk_typing.specs.Types.{record_of}
-use Rattle.lk_typing.specs.Typing.{HasField, IsChange, exprs_of, labels_of, changed as is_change, more}
+use Rattle.lk_typing.specs.Typing.{HasField, IsChange, labels_of, changed as is_change, more}
 
 -- ---- no table has rows
 

@@ -1,6 +1,7 @@
 -- What a change makes of a row, by its parts: they stand for what its condition and its new values give.
 use Rattle.std.proofs.Common.{◌≡◌, refl, sym, ap, ap₂, ◌∙◌, subst, ℕ, Bool, true, false, List, [], ◌∷◌, map, find, Some, None, bytes_eq, if◌then◌else◌}
 use Rattle.std.specs.Prelude.{unwrap_or}
+use Rattle.lk_ast.specs.Children.{exprs_of}
 use Rattle.lk_ast.specs.Rows.{row_value}
 use Rattle.lk_ast.specs.declared.declaration.Program.{Program}
 use Rattle.lk_ast.specs.declared.expression.Expr.{Expr}
@@ -38,7 +39,7 @@ use Rattle.lk_typing.proofs.Inverses.{mapped_was}
 use Rattle.lk_typing.specs.Names.{Named}
 use Rattle.lk_typing.specs.Types as types
 use Rattle.lk_typing.specs.Types.{record_of}
-use Rattle.lk_typing.specs.Typing.{HasField, exprs_of, labels_of}
+use Rattle.lk_typing.specs.Typing.{HasField, labels_of}
 
 -- ---- the row that may change
 

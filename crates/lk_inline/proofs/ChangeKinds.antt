@@ -1,5 +1,6 @@
 -- The parts of an update or a deletion have kinds, and none of them reads a table.
 use Rattle.std.proofs.Common.{◌≡◌, refl, sym, ap, ◌∙◌, subst, arith, ℕ, zero, suc, ◌+◌, ◌≤◌, ◌<◌, Bool, true, false, List, [], ◌∷◌, drop, length, map, Option, Some, None, is_some, if◌then◌else◌, bytes_eq}
+use Rattle.lk_ast.specs.Children.{exprs_of}
 use Rattle.lk_ast.specs.Functions.{functions_of}
 use Rattle.lk_ast.specs.Tables.{tables_of}
 use Rattle.lk_ast.specs.declared.declaration.Program.{Program}
@@ -59,7 +60,7 @@ use Rattle.lk_typing.proofs.Inverses.{mapped_was}
 use Rattle.lk_typing.specs.Names.{Entry, HasRows, Named, named, names_of, types_of}
 use Rattle.lk_typing.specs.Types as types
 use Rattle.lk_typing.specs.Types.{record_of}
-use Rattle.lk_typing.specs.Typing.{HasField, IsChange, exprs_of, labels_of, changed as is_change, more}
+use Rattle.lk_typing.specs.Typing.{HasField, IsChange, labels_of, changed as is_change, more}
 
 -- ---- kinds of types
 

@@ -1,5 +1,6 @@
 -- The types of captured names: what a query or a change uses of a name from outside has the type that the name has there.
 use Rattle.std.proofs.Common.{◌≡◌, ℕ, refl, sym, ap, ◌∙◌, subst, Bool, true, false, List, [], ◌∷◌, ◌++◌, drop, map, Some}
+use Rattle.lk_ast.specs.Children.{exprs_of}
 use Rattle.lk_ast.specs.Tables.{tables_of}
 use Rattle.lk_ast.specs.declared.declaration.Program.{Program}
 use Rattle.lk_ast.specs.declared.declaration.TableDecl.{TableDecl}
@@ -38,7 +39,7 @@ use Rattle.lk_typing.specs.Names.{Entry, Named, named}
 use Rattle.lk_typing.specs.Rules.{Rule}
 use Rattle.lk_typing.specs.Rules as rule
 use Rattle.lk_typing.specs.Types.{record_of}
-use Rattle.lk_typing.specs.Typing.{HasType, HaveTypes, IsChange, exprs_of, plain, lambda, var, switch, switch_open, for_list, for_table, query, update, delete, none, more, changed}
+use Rattle.lk_typing.specs.Typing.{HasType, HaveTypes, IsChange, plain, lambda, var, switch, switch_open, for_list, for_table, query, update, delete, none, more, changed}
 
 -- each has a type that may stand in a query
 abbrev pub AreFlat : List TypedNode → Type 0

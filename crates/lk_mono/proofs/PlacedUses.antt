@@ -5,6 +5,7 @@ use Rattle.std.specs.Prelude.{not}
 use Rattle.std.specs.List.{filter}
 use Rattle.std.proofs.lemmas.Grind.{flat_map-append}
 use Rattle.std.proofs.lemmas.List.Elements.{filter-append}
+use Rattle.lk_ast.specs.Children.{exprs_of}
 use Rattle.lk_ast.specs.declared.declaration.TableDecl.{TableDecl}
 use Rattle.lk_ast.specs.declared.expression.Case.{Case}
 use Rattle.lk_ast.specs.declared.expression.ChangeExpr.{ChangeExpr, out-ChangeExpr}
@@ -19,7 +20,7 @@ use Rattle.lk_typing.specs.Heads.{Head}
 use Rattle.lk_typing.specs.Names.{Entry, Named}
 use Rattle.lk_typing.specs.Rules.{Rule}
 use Rattle.lk_typing.specs.Rules as rule
-use Rattle.lk_typing.specs.Typing.{HasType, HaveTypes, HaveCases, IsChange, plain, lambda, var, switch, switch_open, for_list, for_table, query, update, delete, none, more, no_cases, case_of, changed, exprs_of}
+use Rattle.lk_typing.specs.Typing.{HasType, HaveTypes, HaveCases, IsChange, plain, lambda, var, switch, switch_open, for_list, for_table, query, update, delete, none, more, no_cases, case_of, changed}
 
 -- a use of a function, where it begins
 abbrev pub use_placed : ℕ → Option Use → List PlacedUse

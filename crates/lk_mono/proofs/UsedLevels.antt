@@ -1,6 +1,7 @@
 -- The functions that an expression uses, by its level: its own use, and those in its parts.
 use Rattle.std.proofs.Common.{◌≡◌, List, [], ◌∷◌, ◌++◌, map, Some, refl, ap, ap₂, ◌∙◌}
 use Rattle.std.proofs.lemmas.Option.{none-some}
+use Rattle.lk_ast.specs.Children.{exprs_of}
 use Rattle.lk_ast.specs.Layers.{Layer, layer}
 use Rattle.lk_ast.specs.declared.expression.Case.{Case, fold-Case, fold_out-Case}
 use Rattle.lk_ast.specs.declared.expression.ChangeExpr.{ChangeExpr, out-ChangeExpr, fold-ChangeExpr, fold_out-ChangeExpr}
@@ -13,7 +14,7 @@ use Rattle.lk_ast.specs.declared.expression.Node.TheOpen.{Node-F}
 use Rattle.lk_ast.specs.declared.expression.PartExpr.{PartExpr, fold-PartExpr, fold_out-PartExpr}
 use Rattle.lk_typing.proofs.Levels.{parts_mapped}
 use Rattle.lk_typing.specs.Heads.{Head, head, parts}
-use Rattle.lk_typing.specs.Typing.{label_of, expr_of, exprs_of, head_of, parts_of}
+use Rattle.lk_typing.specs.Typing.{label_of, expr_of, head_of, parts_of}
 use Rattle.lk_typing.specs.Uses.{Uses, all, case_uses, change_uses, expr_uses, functions_used, inner, lambda_uses, last_uses, node_uses, own_use, part_uses}
 
 abbrev pub of_case : Case → Uses

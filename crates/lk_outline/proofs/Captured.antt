@@ -1,6 +1,7 @@
 -- The names that a block captures, the free ones of what stands in it, are those in its outline whose binders stand before it.
 use Rattle.std.proofs.Common.{◌≡◌, refl, sym, ap, ap₂, ◌∙◌, ℕ, ◌+◌, ◌≤◌, ◌<◌, Bool, true, false, cond, List, [], ◌∷◌, ◌++◌, length, append_assoc, Option, Some, None, nat_le, arith}
 use Rattle.std.proofs.lemmas.Grind.{flat_map-append}
+use Rattle.lk_ast.specs.Children.{exprs_of}
 use Rattle.lk_ast.specs.Layers.{Layer, layer}
 use Rattle.lk_ast.specs.declared.declaration.TableDecl.{TableDecl}
 use Rattle.lk_ast.specs.declared.expression.Case.{Case}
@@ -18,7 +19,7 @@ use Rattle.lk_typing.specs.Heads.{Head}
 use Rattle.lk_typing.specs.Names.{Named, named, Entry}
 use Rattle.lk_typing.specs.Rules.{Rule}
 use Rattle.lk_typing.specs.Types.{record_of, variant_of}
-use Rattle.lk_typing.specs.Typing.{HasType, HaveTypes, HaveCases, IsChange, plain, lambda, var, switch, switch_open, for_list, for_table, query, update, delete, none, more, no_cases, case_of, changed, exprs_of, parts_of}
+use Rattle.lk_typing.specs.Typing.{HasType, HaveTypes, HaveCases, IsChange, plain, lambda, var, switch, switch_open, for_list, for_table, query, update, delete, none, more, no_cases, case_of, changed, parts_of}
 use Rattle.lk_sound.specs.Nodes.{type_before, known_in}
 use Rattle.lk_outline.specs.Outline.{Around, Context, In, Site, before, binder_of, with_names, with_some, where_bound, outline, outline_case, outline_change}
 use Rattle.lk_outline.specs.Typed.{type_at, or_unit, captured_at, captured_in}

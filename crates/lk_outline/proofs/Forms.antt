@@ -2,6 +2,7 @@
 -- form that binds names has those of its parts where these names are bound by it.
 use Rattle.std.proofs.Common.{◌≡◌, refl, sym, ap, ap₂, ◌∙◌, ℕ, ◌+◌, List, [], ◌∷◌, ◌++◌, map, length, append-nil, append_assoc, add_assoc, length-append, Option, Some, None, is_some, IsSome, true, arith}
 use Rattle.std.proofs.lemmas.List.{map-append}
+use Rattle.lk_ast.specs.Children.{exprs_of}
 use Rattle.lk_ast.specs.Layers.{Layer, layer}
 use Rattle.lk_ast.specs.declared.expression.Case.{Case, fold_out-Case}
 use Rattle.lk_ast.specs.declared.expression.ChangeExpr.{ChangeExpr, out-ChangeExpr, fold_out-ChangeExpr}
@@ -18,7 +19,7 @@ use Rattle.lk_ast.specs.declared.place.Word.{Word}
 use Rattle.lk_typing.specs.Heads as operator
 use Rattle.lk_typing.specs.Heads.{Head, head, parts}
 use Rattle.lk_typing.specs.Names.{Named, named}
-use Rattle.lk_typing.specs.Typing.{label_of, expr_of, head_of, parts_of, exprs_of}
+use Rattle.lk_typing.specs.Typing.{label_of, expr_of, head_of, parts_of}
 use Rattle.lk_outline.specs.Outline.{Around, Kind, Site, Context, In, Bound, before, all, starts, with_names, with_some, where_bound, in_lambda, binder_of, site, all_bound, binding, node_in, case_in, change_in, expr_in, lambda_in, last_in, part_in, outline, outline_node, outline_part, outline_lambda, outline_case, outline_last, outline_change}
 
 -- a level with the outlines of its parts

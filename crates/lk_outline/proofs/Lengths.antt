@@ -1,5 +1,6 @@
 -- A typed expression has as many nodes as its outline, wherever it stands.
 use Rattle.std.proofs.Common.{◌≡◌, refl, sym, ap, ◌∙◌, ℕ, suc, ◌+◌, List, [], ◌∷◌, ◌++◌, length, length-append}
+use Rattle.lk_ast.specs.Children.{exprs_of}
 use Rattle.lk_ast.specs.declared.declaration.TableDecl.{TableDecl}
 use Rattle.lk_ast.specs.declared.expression.Case.{Case}
 use Rattle.lk_ast.specs.declared.expression.ChangeExpr.{ChangeExpr, out-ChangeExpr}
@@ -9,7 +10,7 @@ use Rattle.lk_types.specs.declared.ground.Ground.{Ground}
 use Rattle.lk_types.specs.declared.ground.Ground.TheVariants as known
 use Rattle.lk_typing.specs.Names.{Named, Entry}
 use Rattle.lk_typing.specs.Types.{variant_of}
-use Rattle.lk_typing.specs.Typing.{HasType, HaveTypes, HaveCases, IsChange, plain, lambda, var, switch, switch_open, for_list, for_table, query, update, delete, none, more, no_cases, case_of, changed, exprs_of}
+use Rattle.lk_typing.specs.Typing.{HasType, HaveTypes, HaveCases, IsChange, plain, lambda, var, switch, switch_open, for_list, for_table, query, update, delete, none, more, no_cases, case_of, changed}
 use Rattle.lk_outline.specs.Outline.{Context, Around, In, before, with_names, with_some, where_bound, outline, outline_case, outline_change}
 use Rattle.lk_outline.proofs.Forms.{outlines, case_outlines, case_level, change_level, lambda_context, bound_context, block_context, outline_plain, outline_lambda_form, outline_var, outline_for_list, outline_for_table, outline_switch, outline_switch_open, outline_query, outline_update, outline_delete}
 

@@ -1,6 +1,7 @@
 -- The nodes of a typed expression are those of its outline with the types of the nodes.
 use Rattle.std.proofs.Common.{◌≡◌, refl, sym, ap, ap₂, ◌∙◌, subst, ℕ, ◌+◌, ◌≤◌, true, List, [], ◌∷◌, ◌++◌, map, length, Some, None, le_trans, arith}
 use Rattle.std.proofs.lemmas.List.{map-append}
+use Rattle.lk_ast.specs.Children.{exprs_of}
 use Rattle.lk_ast.specs.Layers.{layer}
 use Rattle.lk_ast.specs.declared.declaration.TableDecl.{TableDecl}
 use Rattle.lk_ast.specs.declared.expression.Case.{Case}
@@ -16,7 +17,7 @@ use Rattle.lk_typing.specs.Heads.{Head}
 use Rattle.lk_typing.specs.Names.{Named, types_of, Entry}
 use Rattle.lk_typing.specs.Rules.{Rule}
 use Rattle.lk_typing.specs.Types.{function_of, variant_of}
-use Rattle.lk_typing.specs.Typing.{HasType, HaveTypes, HaveCases, IsChange, plain, lambda, var, switch, switch_open, for_list, for_table, query, update, delete, none, more, no_cases, case_of, changed, exprs_of, parts_of as exprs_in}
+use Rattle.lk_typing.specs.Typing.{HasType, HaveTypes, HaveCases, IsChange, plain, lambda, var, switch, switch_open, for_list, for_table, query, update, delete, none, more, no_cases, case_of, changed, parts_of as exprs_in}
 use Rattle.lk_sound.specs.Nodes.{TypedNode, parts_of, other_part, other_node, block_node, known_in, used_by, compared_by, nodes_of, each_nodes, case_nodes, change_nodes}
 use Rattle.lk_outline.specs.Outline.{Around, Context, In, Site, Kind, site, before, starts, with_names, with_some, where_bound, outline, outline_case, outline_change}
 use Rattle.lk_outline.specs.Typed.{type_at, effects_in, effects_around, part_at, captured_in, behind, node_at}

@@ -2,8 +2,9 @@
 
 ghost use Rattle.std.specs.Prelude.{◌≡◌, ◌∷◌, ◌++◌, [], slice_get};
 ghost use Rattle.std.specs.Option.{option_copied};
+ghost use Rattle.lk_ast.specs.Children.{exprs_of};
 ghost use Rattle.lk_ast.specs.Layers.{layer};
-ghost use Rattle.lk_evaluation.specs.Syntax.{parts_of, exprs_of};
+ghost use Rattle.lk_evaluation.specs.Syntax.{parts_of};
 
 use lk_ast::{Expr, Node, PartExpr};
 

@@ -2,6 +2,7 @@
 use Rattle.std.proofs.Common.{◌≡◌, ℕ, Bool, true, false, ◌||◌, List, [], ◌∷◌, ◌++◌, append-nil, map, Some, None, refl, sym, ◌∙◌, ap, subst}
 use Rattle.std.proofs.Math.Bool.{or-false, or-true}
 use Rattle.std.proofs.lemmas.Option.{none-some}
+use Rattle.lk_ast.specs.Children.{exprs_of}
 use Rattle.lk_ast.specs.Layers.{Layer, layer}
 use Rattle.lk_ast.specs.Tables.{tables_of}
 use Rattle.lk_ast.specs.declared.declaration.Program.{Program}
@@ -33,7 +34,7 @@ use Rattle.lk_typing.specs.Heads.{Head, head, parts}
 use Rattle.lk_typing.specs.Names.{Entry, Named}
 use Rattle.lk_typing.specs.Rules.{Rule}
 use Rattle.lk_typing.specs.Rules as rule
-use Rattle.lk_typing.specs.Typing.{HasType, HaveTypes, HaveCases, IsChange, label_of, expr_of, exprs_of, plain, lambda, var, switch, switch_open, for_list, for_table, query, update, delete, none, more, no_cases, case_of, changed}
+use Rattle.lk_typing.specs.Typing.{HasType, HaveTypes, HaveCases, IsChange, label_of, expr_of, plain, lambda, var, switch, switch_open, for_list, for_table, query, update, delete, none, more, no_cases, case_of, changed}
 
 -- what is still to come
 abbrev pub left : Tour → Pending

@@ -1,6 +1,7 @@
 -- The sites of a ground program are all that there are: each query, reading of a table, update and deletion that stands outside of
 -- others in an instance is found.
 use Rattle.std.proofs.Common.{◌≡◌, ℕ, zero, suc, ◌+◌, inl, inr, Bool, true, false, List, [], ◌∷◌, ◌++◌, flat_map, map, Some, None, slice_get, refl, sym, ap, subst, arith}
+use Rattle.lk_ast.specs.Children.{exprs_of}
 use Rattle.lk_ast.specs.Layers.{Layer, layer}
 use Rattle.lk_ast.specs.declared.expression.Case.{Case}
 use Rattle.lk_ast.specs.declared.expression.Expr.{Expr}
@@ -15,7 +16,6 @@ use Rattle.lk_sites.specs.Sites.{Site, Tour, all, at_node, behind_node, entered,
 use Rattle.lk_sound.proofs.Inside.{bodies_of, insides}
 use Rattle.lk_sound.proofs.Members.{one_in_back, one_in_front}
 use Rattle.lk_types.specs.Each.{OneOf}
-use Rattle.lk_typing.specs.Typing.{exprs_of}
 
 -- ---- the parts of a node
 

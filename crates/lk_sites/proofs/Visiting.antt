@@ -1,6 +1,6 @@
 -- The visit to an expression by those to its parts.
 use Rattle.std.proofs.Common.{◌≡◌, refl, sym, ap, ap₂, ◌∙◌, ℕ, List, [], ◌∷◌, ◌++◌, map, flat_map, Option, Some, None, Bool, true, false, ◌||◌}
-use Rattle.lk_ast.specs.Children.{children}
+use Rattle.lk_ast.specs.Children.{children, exprs_of}
 use Rattle.lk_ast.specs.Layers.{Layer, before, layer, statement_node}
 use Rattle.lk_ast.specs.declared.expression.Case.{Case, para-Case, para-roll-Case}
 use Rattle.lk_ast.specs.declared.expression.ChangeExpr.{ChangeExpr, out-ChangeExpr, roll-out-ChangeExpr, para-ChangeExpr, para-roll-ChangeExpr}
@@ -17,7 +17,6 @@ use Rattle.lk_ast.specs.declared.statements.Statement.{Statement}
 use Rattle.lk_sites.specs.Sites.{Tour, Visit, all, behind_type, entered, is_closed, visit, own, node_visit, case_visit, change_visit, expr_visit, lambda_visit, last_visit, part_visit}
 use Rattle.lk_sites.specs.SitesInside.{both, in_cases, in_change, in_parts, in_some, within}
 use Rattle.lk_sound.proofs.Inside.{bodies_of, inside_change, insides}
-use Rattle.lk_typing.specs.Typing.{exprs_of}
 
 -- ---- one visit after the other
 

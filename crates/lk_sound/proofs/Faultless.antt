@@ -1,6 +1,7 @@
 -- An expression whose names have no fault has none in the expressions right inside it; and where it is a lambda, none in its
 -- parameters. So no lambda in it has a parameter twice.
 use Rattle.std.proofs.Common.{◌≡◌, refl, sym, ap, subst, ◌∙◌, ℕ, List, [], ◌∷◌, map, Some, None}
+use Rattle.lk_ast.specs.Children.{exprs_of}
 use Rattle.lk_ast.specs.Layers.{Layer, layer}
 use Rattle.lk_ast.specs.declared.expression.Case.{Case, fold_out-Case}
 use Rattle.lk_ast.specs.declared.expression.ChangeExpr.{ChangeExpr, out-ChangeExpr, fold_out-ChangeExpr}
@@ -21,7 +22,6 @@ use Rattle.lk_scope.specs.Names.{Names, no_names, bind, bind_all, bind_some}
 use Rattle.lk_scope.specs.Scoped.{In, all_in}
 use Rattle.lk_types.specs.Each.{Each}
 use Rattle.lk_typing.proofs.Lists.{each_both}
-use Rattle.lk_typing.specs.Typing.{exprs_of}
 use Rattle.lk_sound.proofs.Gathered.{gather_each, entered, first_gathered, all_gathered}
 use Rattle.lk_sound.proofs.Inside.{insides, bodies_of, inside_change, by_insides}
 

@@ -3,6 +3,7 @@
 use Rattle.std.proofs.Common.{◌≡◌, refl, sym, ap, ◌∙◌, List, [], ◌∷◌, ◌++◌, map, flat_map, append-nil, append_assoc, Option, Some, None, is_some, IsSome}
 use Rattle.std.proofs.lemmas.Grind.{flat_map-append}
 use Rattle.std.proofs.lemmas.List.Folds.{flat_map-map}
+use Rattle.lk_ast.specs.Children.{exprs_of}
 use Rattle.lk_ast.specs.Layers.{Layer, layer}
 use Rattle.lk_ast.specs.declared.expression.Case.{Case, fold_out-Case}
 use Rattle.lk_ast.specs.declared.expression.ChangeExpr.{ChangeExpr, out-ChangeExpr, fold_out-ChangeExpr}
@@ -20,7 +21,7 @@ use Rattle.lk_scope.specs.Names.{Names, bind, bind_all, bind_some}
 use Rattle.lk_types.specs.Rows.{Label}
 use Rattle.lk_typing.specs.Heads as operator
 use Rattle.lk_typing.specs.Heads.{Head, head, parts}
-use Rattle.lk_typing.specs.Typing.{label_of, expr_of, head_of, parts_of, exprs_of}
+use Rattle.lk_typing.specs.Typing.{label_of, expr_of, head_of, parts_of}
 
 -- a level with the uses in its parts
 abbrev mapped : Layer → Node-F Uses Uses Uses Uses Uses Uses Uses

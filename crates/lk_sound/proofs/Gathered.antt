@@ -1,6 +1,7 @@
 -- The lambdas in an expression are those in the expressions right inside it, behind the lambda that it may be itself.
 use Rattle.std.proofs.Common.{◌≡◌, ◌⊎◌, inl, inr, ℕ, List, [], ◌∷◌, ◌++◌, Some, None, refl, sym, ap, subst, ◌∙◌}
 use Rattle.std.proofs.lemmas.List.{append_assoc, append-nil}
+use Rattle.lk_ast.specs.Children.{exprs_of}
 use Rattle.lk_ast.specs.Layers.{Layer, layer}
 use Rattle.lk_ast.specs.declared.expression.Case.{Case}
 use Rattle.lk_ast.specs.declared.expression.ChangeExpr.{ChangeExpr, out-ChangeExpr}
@@ -14,7 +15,6 @@ use Rattle.lk_ast.specs.declared.expression.PartExpr.{PartExpr}
 use Rattle.lk_index.specs.Places.{PlacedLambda, Lambdas, Gather, gather_all, each_with, node_in, gather, gather_node, gather_part, gather_lambda, gather_case, gather_last, gather_change}
 use Rattle.lk_index.proofs.Paras.{expr_level, part_level, lambda_level, case_level, last_level, change_level, node_level}
 use Rattle.lk_types.specs.Each.{Each, OneOf}
-use Rattle.lk_typing.specs.Typing.{exprs_of}
 use Rattle.lk_typing.proofs.Lists.{each_front, each_back}
 use Rattle.lk_sound.proofs.Inside.{insides, bodies_of, by_insides}
 use Rattle.lk_sound.proofs.Members.{one_of_both, one_in_front, one_in_back}

@@ -1,6 +1,7 @@
 -- The expressions right inside an expression, and induction over expressions by them.
 use Rattle.std.proofs.Common.{◌≡◌, List, [], ◌∷◌, ◌++◌, map, Option, Some, None, refl, sym, subst}
 use Rattle.std.proofs.lemmas.Option.{none-some}
+use Rattle.lk_ast.specs.Children.{exprs_of}
 use Rattle.lk_ast.specs.Layers.{Layer, layer}
 use Rattle.lk_ast.specs.declared.expression.Case.{Case}
 use Rattle.lk_ast.specs.declared.expression.ChangeExpr.{ChangeExpr, out-ChangeExpr}
@@ -9,7 +10,7 @@ use Rattle.lk_ast.specs.declared.expression.LastCase.{LastCase}
 use Rattle.lk_ast.specs.declared.expression.Node.TheOpen.{Node-F}
 use Rattle.lk_types.specs.Each.{Each}
 use Rattle.lk_typing.specs.Heads.{Head, head, parts}
-use Rattle.lk_typing.specs.Typing.{label_of, expr_of, parts_of, exprs_of}
+use Rattle.lk_typing.specs.Typing.{label_of, expr_of, parts_of}
 use Rattle.lk_typing.proofs.Lists.{each_both}
 use Rattle.lk_typing.proofs.Trees.{Tree, Trees, CaseTrees, LastTree, ChangeTree, every_tree}
 

@@ -1,6 +1,7 @@
 -- A row of a table fits it behind an update, too: what a column is set to is a value of its kind, whatever the row was.
 use Rattle.std.proofs.Common.{◌≡◌, inl, inr, refl, sym, ap, subst, ◌∙◌, Bool, true, false, List, [], ◌∷◌, ◌++◌, map, find, Option, Some, None, if◌then◌else◌, unwrap_or, bytes_eq}
 use Rattle.std.specs.FinMap as fin
+use Rattle.lk_ast.specs.Children.{exprs_of}
 use Rattle.lk_ast.specs.Rows.{row_value}
 use Rattle.lk_ast.specs.Tables.{row_fits, all_fit, table_defs, tables_of}
 use Rattle.lk_ast.specs.declared.declaration.Program.{Program}
@@ -43,7 +44,7 @@ use Rattle.lk_typing.proofs.Samples.Types.{same_row}
 use Rattle.lk_typing.proofs.Values.{just}
 use Rattle.lk_typing.specs.Names.{Named, Entry}
 use Rattle.lk_typing.specs.Types.{record_of, labelled}
-use Rattle.lk_typing.specs.Typing.{IsChange, HasField, labels_of, exprs_of, changed}
+use Rattle.lk_typing.specs.Typing.{IsChange, HasField, labels_of, changed}
 
 -- ---- rows are what their values say
 

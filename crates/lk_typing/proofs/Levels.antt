@@ -1,6 +1,7 @@
 -- What an expression is and its parts, where other things stand for the parts, and the walk of an expression by its level.
 use Rattle.std.proofs.Common.{◌≡◌, List, [], ◌∷◌, ◌++◌, map, Option, Some, None, refl, ap, ap₂, sym, ◌∙◌}
 use Rattle.std.specs.Option.{option_map}
+use Rattle.lk_ast.specs.Children.{exprs_of}
 use Rattle.lk_ast.specs.Layers.{Layer, layer}
 use Rattle.lk_ast.specs.declared.declaration.TableDecl.{TableDecl}
 use Rattle.lk_ast.specs.declared.expression.Case.{Case, fold_out-Case}
@@ -20,7 +21,7 @@ use Rattle.lk_types.specs.declared.ty.Ty.{Ty}
 use Rattle.lk_typing.specs.Heads as operator
 use Rattle.lk_typing.specs.Heads.{Head, head, parts}
 use Rattle.lk_typing.specs.Names.{Named, Entry, table_named}
-use Rattle.lk_typing.specs.Typing.{label_of, expr_of, head_of, parts_of, labels_of, exprs_of}
+use Rattle.lk_typing.specs.Typing.{label_of, expr_of, head_of, parts_of, labels_of}
 use Rattle.lk_typing.specs.Walk.{Walking, Level, CaseWalk, ChangeWalk, LambdaWalk, PartWalk, lambda_walked, var_walked, switch_walked, for_list_walked, for_table_walked, query_walked, change_in, plain_walked, binder_walked, walked_by, node_walked, case_walked, changed, expr_walked, lambda_of, last_case_walked, part_walked, walk, walk_node, walk_case, walk_change, walk_lambda, walk_last, walk_part}
 
 -- a list of what functions make that agree

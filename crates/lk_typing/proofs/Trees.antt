@@ -1,5 +1,6 @@
 -- Expressions as trees of the forms that the rules are about, for inductions over them.
 use Rattle.std.proofs.Common.{◌≡◌, List, [], ◌∷◌, map, Option, Some, None, refl, ap, subst, sym, ◌∙◌}
+use Rattle.lk_ast.specs.Children.{exprs_of}
 use Rattle.lk_ast.specs.Layers.{Layer, layer}
 use Rattle.lk_ast.specs.declared.expression.Case.{Case}
 use Rattle.lk_ast.specs.declared.expression.ChangeExpr.{ChangeExpr, out-ChangeExpr, roll-ChangeExpr, out-roll-ChangeExpr}
@@ -16,7 +17,7 @@ use Rattle.lk_ast.specs.declared.place.Word.{Word}
 use Rattle.lk_types.specs.Rows.{Label}
 use Rattle.lk_typing.proofs.Levels.{head_mapped, parts_mapped}
 use Rattle.lk_typing.specs.Heads.{Head, head, parts}
-use Rattle.lk_typing.specs.Typing.{label_of, expr_of, head_of, parts_of, exprs_of}
+use Rattle.lk_typing.specs.Typing.{label_of, expr_of, head_of, parts_of}
 
 mutual
   -- an expression with all those in it

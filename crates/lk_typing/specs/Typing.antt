@@ -2,6 +2,7 @@
 -- types, in a function with these effects, the expression has the type `t`, and the nodes in it have the types `inside`, in
 -- text order, each before those of the nodes in it. There are no unknowns here and nothing is solved.
 use Rattle.std.specs.Prelude.{◌≡◌, Bool, true, false, List, [], ◌∷◌, ◌++◌, Option, Some, None, map}
+use Rattle.lk_ast.specs.Children.{exprs_of}
 use Rattle.lk_ast.specs.Layers.{layer}
 use Rattle.lk_ast.specs.declared.declaration.TableDecl.{TableDecl}
 use Rattle.lk_ast.specs.declared.expression.Case.{Case}
@@ -56,12 +57,9 @@ abbrev pub is_there : {A : Type 0} → List A → Bool
 is_there [] = false
 is_there (x ∷ xs) = true
 
--- the labels and the expressions of what an update sets
+-- the labels of what an update sets
 abbrev pub labels_of : List PartExpr → List Label
 labels_of sets = map label_of sets
-
-abbrev pub exprs_of : List PartExpr → List Expr
-exprs_of sets = map expr_of sets
 
 -- a record of such a type has a field with this label
 abbrev pub HasField : Ground → Label → Ground → Type 0

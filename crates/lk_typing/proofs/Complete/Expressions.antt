@@ -1,5 +1,6 @@
 -- Where an expression has types by the rules, something can stand for the variables of its walk so that all that it says holds.
 use Rattle.std.proofs.Common.{◌≡◌, ℕ, ◌+◌, true, List, ◌∷◌, ◌++◌, map, length, refl, sym, subst, ap, ◌∙◌, Some, None}
+use Rattle.lk_ast.specs.Children.{exprs_of}
 use Rattle.lk_ast.specs.declared.declaration.TableDecl.{TableDecl}
 use Rattle.lk_ast.specs.declared.expression.Case.{Case}
 use Rattle.lk_ast.specs.declared.expression.ChangeExpr.{ChangeExpr, out-ChangeExpr}
@@ -27,7 +28,7 @@ use Rattle.lk_typing.specs.Heads.{Head}
 use Rattle.lk_typing.specs.Names.{Named, Entry, table_named}
 use Rattle.lk_typing.specs.Rules.{Rule}
 use Rattle.lk_typing.specs.Types.{unit, variant_of, record_of, only_scan}
-use Rattle.lk_typing.specs.Typing.{HasType, HaveTypes, HaveCases, IsChange, plain, lambda, var, switch, switch_open, for_list, for_table, query, update, delete, none, more, no_cases, case_of, changed, exprs_of, parts_of, labels_of}
+use Rattle.lk_typing.specs.Typing.{HasType, HaveTypes, HaveCases, IsChange, plain, lambda, var, switch, switch_open, for_list, for_table, query, update, delete, none, more, no_cases, case_of, changed, parts_of, labels_of}
 use Rattle.lk_typing.specs.Walk.{Walking, WalkedAll, walk_all, plain_walked, walk, walk_case, walk_change, walk_part, switch_walked, change_in, CaseWalk, ChangeWalk}
 
 module _ (functions : Named (Entry Ty)) (known_functions : Named (Entry Ground)) (tables : List TableDecl) where

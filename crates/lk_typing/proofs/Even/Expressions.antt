@@ -1,5 +1,6 @@
 -- The walk through an expression is even wherever what it is given is.
 use Rattle.std.proofs.Common.{◌≡◌, List, map, sym, subst, ap, ◌∙◌, Some, None}
+use Rattle.lk_ast.specs.Children.{exprs_of}
 use Rattle.lk_ast.specs.declared.declaration.TableDecl.{TableDecl}
 use Rattle.lk_ast.specs.declared.expression.Case.{Case}
 use Rattle.lk_ast.specs.declared.expression.ChangeExpr.{ChangeExpr, out-ChangeExpr}
@@ -17,7 +18,7 @@ use Rattle.lk_typing.proofs.Trees.{Tree, Trees, CaseTrees, ChangeTree, plain, la
 use Rattle.lk_typing.specs.Equations.{Own, equations_of}
 use Rattle.lk_typing.specs.Heads.{Head}
 use Rattle.lk_typing.specs.Names.{Named, Entry, table_named}
-use Rattle.lk_typing.specs.Typing.{exprs_of, parts_of}
+use Rattle.lk_typing.specs.Typing.{parts_of}
 use Rattle.lk_typing.specs.Walk.{Walking, WalkedAll, walk_all, plain_walked, walk, walk_case, walk_change, walk_part, switch_walked, change_in, CaseWalk, ChangeWalk}
 
 module _ (functions : Named (Entry Ty)) (tables : List TableDecl) where

@@ -1,5 +1,6 @@
 -- Where all that the walk through an expression says holds, it has types by the rules.
 use Rattle.std.proofs.Common.{◌≡◌, List, map, refl, sym, subst, ap, ◌∙◌, Option, Some, None}
+use Rattle.lk_ast.specs.Children.{exprs_of}
 use Rattle.lk_ast.specs.Layers.{layer}
 use Rattle.lk_ast.specs.declared.declaration.TableDecl.{TableDecl}
 use Rattle.lk_ast.specs.declared.expression.Case.{Case}
@@ -24,7 +25,7 @@ use Rattle.lk_typing.specs.Equations.{Own, equations_of}
 use Rattle.lk_typing.specs.Heads.{Head}
 use Rattle.lk_typing.specs.Names.{Named, Entry}
 use Rattle.lk_typing.specs.Rules.{Rule}
-use Rattle.lk_typing.specs.Typing.{head_of, parts_of, exprs_of, plain}
+use Rattle.lk_typing.specs.Typing.{head_of, parts_of, plain}
 use Rattle.lk_typing.specs.Walk.{Walking, WalkedAll, walk_all, plain_walked, walk, walk_case, walk_change, switch_walked, CaseWalk}
 
 module _ (functions : Named (Entry Ty)) (known_functions : Named (Entry Ground)) (tables : List TableDecl) where

@@ -2,6 +2,7 @@
 use Rattle.std.proofs.Common.{◌≡◌, ℕ, ◌+◌, Bool, true, false, ◌||◌, List, [], ◌∷◌, ◌++◌, map, refl, sym, subst, ap, ◌∙◌, Option, Some, None, is_some, if◌then◌else◌}
 use Rattle.std.specs.Option.{option_map}
 use Rattle.std.specs.Prelude.{find, bytes_eq}
+use Rattle.lk_ast.specs.Children.{exprs_of}
 use Rattle.lk_ast.specs.Layers.{layer}
 use Rattle.lk_ast.specs.declared.declaration.TableDecl.{TableDecl}
 use Rattle.lk_ast.specs.declared.expression.ChangeExpr.{ChangeExpr, out-ChangeExpr}
@@ -38,7 +39,7 @@ use Rattle.lk_typing.specs.Law.{Become}
 use Rattle.lk_typing.specs.Names.{Named, Entry, IsRowOf, table_named, proper, row_known}
 use Rattle.lk_typing.specs.Steps.{Meets, Holds}
 use Rattle.lk_typing.specs.Types.{record_of, with_fields, labelled, only_scan, unit}
-use Rattle.lk_typing.specs.Typing.{HasType, HaveTypes, IsChange, HasField, IsKeyOf, query, update, delete, changed, is_there, labels_of, exprs_of}
+use Rattle.lk_typing.specs.Typing.{HasType, HaveTypes, IsChange, HasField, IsKeyOf, query, update, delete, changed, is_there, labels_of}
 use Rattle.lk_typing.specs.Unknowns as unknown
 use Rattle.lk_typing.specs.Walk.{Walking, Walked, WalkedAll, walk_all, all_types, Told, has_if, keys_told, query_walked, ChangeWalk, sets_told, set_own, change_in}
 

@@ -1,9 +1,10 @@
 use Rattle.std.proofs.Common.{◌≡◌, ℕ, ◌+◌, ◌*◌, ◌++◌, map, flat_map, take}
 use Rattle.std.specs.Vec.Iter.{into_iter_items}
+use Rattle.lk_ast.specs.Children.{exprs_of}
 use Rattle.lk_ast.specs.Tables.{rows_of}
 use Rattle.lk_ast.specs.declared.expression.Expr.{size-Expr}
 use Rattle.lk_bag.specs.Bag.{called, given, items}
-use Rattle.lk_bag.specs.Forms.{all_given, exprs_of}
+use Rattle.lk_bag.specs.Forms.{all_given}
 use Rattle.lk_locals.specs.Names.{bind}
 use Rattle.lk_bag.proofs.walk.+walk.Given as goal
 
