@@ -70,10 +70,6 @@ shut_word w t z l h = shut t z (ap level_of_kind h ∙ l)
     (ap (λ (b : Bool). b || is_sign (codes ".") t) (word_sign w (codes "(") t h) ∙ word_sign w (codes ".") t h)
 
 -- an operator is neither a call nor a field
-operator_level : (at : Level) (t : Token) → is_operator at t ≡ true → level_of t ≡ rank at
-unfolding is_operator
-operator_level at t e = eqb-true (level_of t) (rank at) e
-
 not_sign : (at : Level) (s : List ℕ) (t : Token) → level_of_sign s ≡ 0 → is_operator at t ≡ true → is_sign s t ≡ false
 not_sign at s t l h = elim (cases_Bool (is_sign s t)) [
   | inl k ↦ let none : is_operator at t ≡ false = no_operator at t (ap level_of_kind ((a_sign s).means t k) ∙ l) in let bad : true ≡ false = sym h ∙ none in absurd cc

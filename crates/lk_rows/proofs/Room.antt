@@ -13,11 +13,8 @@ use Rattle.lk_rows.specs.declared.types.Label.{Label}
 use Rattle.lk_rows.specs.declared.types.Label.TheVariants.{Name, Tag}
 use Rattle.lk_rows.proofs.Sound.{field-reads, fields-reads, types-reads, type_at-reads}
 
--- a type, and then what is made of it
-abbrev Then_lasts : Reader SigType → ℕ → Type 1
-Then_lasts type n = (Y : Type 0) (f : SigType → Reader Y) → ((ty : SigType) → Lasts n (f ty)) → Lasts n (bind type f)
-
 module _ (type : Reader SigType) (T : Reads type IsType) (n : ℕ) (L : Lasts n type) where
+  -- a type, and then what is made of it
   then_lasts : {Y : Type 0} (f : SigType → Reader Y) → ((ty : SigType) → Lasts n (f ty)) → Lasts n (bind type f)
   then_lasts f h = bind-lasts n type f (shortens type T) L h
 

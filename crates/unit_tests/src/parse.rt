@@ -1,7 +1,7 @@
 //! Tables of texts, worked by hand.
 
-use lk_ast::Span;
-use lk_parse::{ParseError, Token, TokenKind, check_nesting, parse, tokens};
+use lk_ast::{Span, Token, TokenKind};
+use lk_parse::{ParseError, check_nesting, parse, tokens};
 use std::alloc::{AllocError, Global};
 use std::process::Abort;
 use std::test::Fail;
