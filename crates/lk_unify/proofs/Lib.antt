@@ -14,6 +14,7 @@ pub mod GroundValues
 pub mod Grounded
 pub mod Instances
 pub mod Joined
+pub mod LabelLists
 pub mod LabelMaps
 pub mod LoadEffects
 pub mod LoadEquations
@@ -41,6 +42,7 @@ pub mod OpenRows
 pub mod OpenSizes
 pub mod OpenUnfold
 pub mod OpenVariables
+pub mod OwnInOrder
 pub mod OwnModel
 pub mod Placing
 pub mod ReadMade

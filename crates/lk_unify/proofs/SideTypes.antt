@@ -10,6 +10,7 @@ use Rattle.lk_types.specs.declared.ty.Ty.{Ty}
 use Rattle.lk_unify.proofs.Decided.{says_all}
 use Rattle.lk_unify.proofs.Generality.{instance_by, opens_all}
 use Rattle.lk_unify.proofs.Loadeds.{sides_below}
+use Rattle.lk_unify.proofs.OwnInOrder.{types_in_order}
 use Rattle.lk_unify.proofs.SolvedForm.{own_solves}
 use Rattle.lk_unify.proofs.Within.{own_agrees, own_nodes, own_by_names, its_count, whole_sides, IsSideWith}
 use Rattle.lk_arena.specs.Counting.{saturated, count_at, AreCountsOf}
@@ -19,6 +20,7 @@ use Rattle.lk_arena.specs.Order.{IsRanked}
 use Rattle.lk_arena.specs.Values.{Value, Plain}
 use Rattle.lk_arena.specs.declared.counting.Count.{Count}
 use Rattle.lk_unify.specs.Constraints.{matters, AreSides, Makes}
+use Rattle.lk_unify.specs.InOrder.{IsInOrder}
 use Rattle.lk_unify.specs.Loading.{IsKinded}
 use Rattle.lk_unify.specs.Models.{IsOwn}
 use Rattle.lk_unify.specs.Nodes.{count}
@@ -166,3 +168,11 @@ module _ (l : Loader) (sides : List ℕ) (es : List Equation) (loaded : AreLoade
       let naming : (owner : ℕ → ℕ) × IsNaming l loaded.kind name owner = names loaded.kind loaded.kinded in
       let o : OwnNodes es = own_by_names l es (says_all l sides es loaded) solution loaded.bound loaded.kind loaded.kinded name naming.0 naming.1 in
       are_sides o solution types (subst (Makes (its_opening o) es) (sym (read o.values o.own)) (sides_made o es sides (whole_sides l sides es loaded) (own_solves es o)))
+
+  pub sides_in_order : (name : ℕ → ℕ) (types : List Ty) → HasSolution es → ((kind : ℕ → Kind) → IsKinded l kind → (owner : ℕ → ℕ) × IsNaming l kind name owner) →
+      ((u : ℕ → Value) → IsOwn l.arena.shapes l.arena.classes name u → types ≡ map (λ n. type_in (u n)) sides) → Each IsInOrder types
+  sides_in_order name types solution names read =
+      let naming : (owner : ℕ → ℕ) × IsNaming l loaded.kind name owner = names loaded.kind loaded.kinded in
+      let o : OwnNodes es = own_by_names l es (says_all l sides es loaded) solution loaded.bound loaded.kind loaded.kinded name naming.0 naming.1 in
+      subst (Each IsInOrder) (sym (read o.values o.own))
+      (types_in_order l.arena.shapes l.arena.classes o.rank name o.values loaded.says.whole.arena o.ranked o.own sides (sides_below l es sides (whole_sides l sides es loaded)))

@@ -1,4 +1,5 @@
 pub mod Constraints
+pub mod InOrder
 pub mod Loading
 pub mod Models
 pub mod Nodes

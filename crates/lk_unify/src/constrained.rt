@@ -2,8 +2,10 @@
 //! type is too large.
 
 ghost use Rattle.std.specs.Prelude.{◌≡◌, ℕ, length, map, Err, IfOk};
+ghost use Rattle.lk_types.specs.Each.{Each};
 ghost use Rattle.lk_types.specs.Solutions.{HasSolution};
 ghost use Rattle.lk_unify.specs.Constraints.{equations_of, AllFine, AreSides, IsFirstLarge, IsFirstUnmet};
+ghost use Rattle.lk_unify.specs.InOrder.{IsInOrder};
 ghost use Rattle.lk_unify.specs.SideSizes.{joined, sizings_of};
 ghost use Rattle.lk_unify.specs.declared.unifying.UnifyError.TheVariants as errors;
 
@@ -42,7 +44,8 @@ fn take_apart(alloc: Global, constraints: List<Constraint>) -> Result<Parts, NoM
 /// The types that a most general solution makes of the sides of equations that have one.
 fn side_types(alloc: Global, equations: &[Equation]) -> Result<List<Ty>, NoMemory>
     requires { HasSolution equations.now }
-    ensures { IfOk result (λ types. AreSides equations.now types) }
+    ensures sides { IfOk result (λ types. AreSides equations.now types) }
+    ensures in_order { IfOk result (λ types. Each IsInOrder types) }
 {
     let nodes = load_ordered(alloc, equations)?;
     let loader = &nodes.all.loader;
@@ -65,6 +68,7 @@ fn solve_parts(
 ) -> Result<List<Ty>, UnifyError>
     requires { length sizings.now ≡ length equations.now }
     ensures sides { IfOk result (λ types. AreSides equations.now types) }
+    ensures in_order { IfOk result (λ types. Each IsInOrder types) }
     ensures fine { IfOk result (λ types. AllFine (joined equations.now sizings.now)) }
     ensures unmet { (k : ℕ) → result ≡ Err (errors.NoSolution k) → IsFirstUnmet (joined equations.now sizings.now) k }
     ensures large { (k : ℕ) → result ≡ Err (errors.TypeTooLarge k) → IsFirstLarge (joined equations.now sizings.now) k }
@@ -82,9 +86,10 @@ fn solve_parts(
 }
 
 /// The types that a most general solution makes of the sides of constraints, one for both sides of each, where each first part of
-/// the constraints has such a solution and is small as far as sizes matter.
+/// the constraints has such a solution and is small as far as sizes matter. Fields, tags and effects stand in byte order.
 pub fn solve(alloc: Global, constraints: List<Constraint>) -> Result<List<Ty>, UnifyError>
     ensures sides { IfOk result (λ types. AreSides (equations_of constraints) types) }
+    ensures in_order { IfOk result (λ types. Each IsInOrder types) }
     ensures fine { IfOk result (λ types. AllFine constraints) }
     ensures unmet { (k : ℕ) → result ≡ Err (errors.NoSolution k) → IsFirstUnmet constraints k }
     ensures large { (k : ℕ) → result ≡ Err (errors.TypeTooLarge k) → IsFirstLarge constraints k }
