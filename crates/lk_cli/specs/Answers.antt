@@ -8,6 +8,7 @@ use Rattle.lk_ast.specs.declared.declaration.Program.{Program}
 use Rattle.lk_ast.specs.declared.table.TableDef.{TableDef}
 use Rattle.lk_ast.specs.declared.table.TableRows.{TableRows}
 use Rattle.lk_infer.specs.Inferred.{HasTypes}
+use Rattle.lk_infer.specs.LacksInOrder.{IsSchemeInOrder}
 use Rattle.lk_infer.specs.Programs.{EndsIllTyped, EndsTooLarge}
 use Rattle.lk_infer.specs.declared.error.InferError.{InferError}
 use Rattle.lk_infer.specs.declared.error.InferError.TheVariants as types
@@ -66,10 +67,10 @@ use Rattle.lk_cli.specs.declared.command.SourceCommand.{SourceCommand}
 abbrev pub IsProgram : FilesSeen → List ℕ → Program → Type 0
 IsProgram files name program = (text : List ℕ) × HasText files name text × IsProgramText text program
 
--- the program's names are bound, its functions have these principal schemes in text order, and its nodes have these
--- principal types
+-- the program's names are bound, its functions have these principal schemes in text order, written in order, and its nodes
+-- have these principal types
 abbrev pub IsTyped : Program → Typed → Type 0
-IsTyped program typed = names.IsBound program × ArePrincipal program typed.schemes × HasTypes program typed.schemes typed.types
+IsTyped program typed = names.IsBound program × ArePrincipal program typed.schemes × HasTypes program typed.schemes typed.types × Each IsSchemeInOrder typed.schemes
 
 -- The ground program of a program with these schemes and types: its functions at the types at which sessions use them, in
 -- shapes that can be shown, compared and run by a database. Its sessions end as those of the program, with the same fuel, steps

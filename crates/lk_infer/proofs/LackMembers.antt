@@ -1,5 +1,5 @@
 -- Lacks in order are the same lacks, and the scheme that is made of them is the one that is wanted.
-use Rattle.std.proofs.Common.{◌≡◌, ◌⊎◌, ◌↔◌, inl, inr, refl, sym, subst, true≢false, ℕ, Bool, true, false, not, T, ◌&&◌, ◌||◌, ◌==◌, cond, List, [], ◌∷◌, ◌++◌, map, ◌∙◌, ap, arith}
+use Rattle.std.proofs.Common.{◌≡◌, ◌⊎◌, ◌↔◌, inl, inr, refl, sym, subst, true≢false, ℕ, zero, suc, Bool, true, false, not, T, ◌&&◌, ◌||◌, ◌==◌, cond, List, [], ◌∷◌, ◌++◌, map, take, ◌∙◌, ap, arith}
 use Rattle.std.specs.Prelude.{flat_map}
 use Rattle.std.specs.BTreeSet.{BTreeSet, IsFromIterResult, contains}
 use Rattle.std.specs.Cmp.{IsTotalOrder}
@@ -21,7 +21,8 @@ use Rattle.lk_types.specs.declared.ty.Variable.{Variable}
 use Rattle.lk_types.specs.declared.ty.Variable.TheVariants as variable
 use Rattle.lk_infer.specs.Generalised.{IsIn, HasRow, IsGeneralised, AreGeneralised}
 use Rattle.lk_infer.specs.Lacks.{shown}
-use Rattle.lk_infer.specs.LacksInOrder.{AreInOrder, has_lack, has_row, in_order, lack_cmp, row_number, scheme_for, with_lack, with_lacks}
+use Rattle.lk_infer.specs.LacksInOrder.{AreInOrder, IsSchemeInOrder, has_lack, has_row, in_order, lack_cmp, row_number, scheme_for, with_lack, with_lacks}
+use Rattle.lk_unify.specs.InOrder.{IsInOrder}
 
 -- ---- lacks that tie are one
 
@@ -264,3 +265,22 @@ is_generalised all body scheme is types of = subst (IsGeneralised types body) (s
 
 pub same_members : (found xs : List Lack) → found ≡ in_order xs → (lack : Lack) → IsIn lack found ↔ IsIn lack xs
 same_members found xs is lack = ((λ there. ordered_is lack xs (subst (IsIn lack) is there)), (λ there. subst (IsIn lack) (sym is) (is_ordered lack xs there)))
+
+-- ---- schemes of types that are in order
+
+in_order_first : (n : ℕ) (types : List Ty) → Each IsInOrder types → Each IsInOrder (take n types)
+in_order_first zero types h = tt
+in_order_first (suc n) [] h = tt
+in_order_first (suc n) (t ∷ types) h = (h.0, in_order_first n types h.1)
+
+bodies_in_order : (types bodies : List Ty) (schemes : List Scheme) → AreGeneralised types bodies schemes → Each (λ (scheme : Scheme). AreInOrder scheme.lacks) schemes → Each IsInOrder bodies
+    → Each IsSchemeInOrder schemes
+bodies_in_order types [] [] made lacks h = tt
+bodies_in_order types (body ∷ bodies) (scheme ∷ schemes) made lacks h =
+    ((subst IsInOrder (sym made.0.body_is) h.0, lacks.0), bodies_in_order types bodies schemes made.1 lacks.1 h.1)
+bodies_in_order types [] (scheme ∷ schemes) made lacks h = absurd made
+bodies_in_order types (body ∷ bodies) [] made lacks h = absurd made
+
+pub generalised_in_order : (n : ℕ) (types : List Ty) (schemes : List Scheme) → AreGeneralised types (take n types) schemes → Each (λ (scheme : Scheme). AreInOrder scheme.lacks) schemes
+    → Each IsInOrder types → Each IsSchemeInOrder schemes
+generalised_in_order n types schemes made lacks h = bodies_in_order types (take n types) schemes made lacks (in_order_first n types h)

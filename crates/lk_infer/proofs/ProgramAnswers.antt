@@ -9,7 +9,9 @@ use Rattle.lk_ast.specs.declared.place.Span.{Span}
 use Rattle.lk_infer.proofs.Accepting.{Accepted}
 use Rattle.lk_infer.proofs.Continued.{accepted_none, accepted_more, accepted_types, accepted_principal, ends_ill_typed, ends_not_well_typed, ends_too_large, taken_more, taken_at}
 use Rattle.lk_infer.proofs.EvenEntries.{even_entries}
+use Rattle.lk_infer.proofs.GroupLists.{each_both}
 use Rattle.lk_infer.specs.Inferred.{IsInferred, HasTypes}
+use Rattle.lk_infer.specs.LacksInOrder.{IsSchemeInOrder}
 use Rattle.lk_infer.specs.Programs.{EndsIllTyped, EndsTooLarge}
 use Rattle.lk_infer.specs.Refusals.{AllFine, IsIllTyped, IsTooLarge, some_large}
 use Rattle.lk_types.specs.Each.{Each}
@@ -22,27 +24,30 @@ use Rattle.lk_typing.specs.Names.{Named}
 use Rattle.lk_typing.specs.Programs.{entries, ArePrincipal, IsWellTyped}
 use Rattle.lk_ast.specs.Tables.{tables_of}
 
--- the first n declarations are accepted, and all schemes are even
+-- the first n declarations are accepted, and all schemes are even and in order
 pub record IsDone (program : Program) (n : ℕ) (large : Bool) (earlier : Named Scheme) (schemes : List Scheme) (types : List Ty) : Type 0 where
   pub accepted : Accepted (tables_of program) (take n program.decls) large earlier schemes types
   pub even : Each (λ entry. IsEvenScheme entry.1) earlier
+  pub in_order : Each IsSchemeInOrder schemes
 
 pub nothing_done : (program : Program) (earlier : Named Scheme) (schemes : List Scheme) (types : List Ty) → earlier ≡ [] → schemes ≡ [] → types ≡ [] → IsDone program 0 false earlier schemes types
 nothing_done program earlier schemes types e s t = record {
   accepted = accepted_none (tables_of program) [] false earlier schemes types refl refl e s t;
   even = subst (Each (λ entry. IsEvenScheme entry.1)) (sym e) tt;
+  in_order = subst (Each IsSchemeInOrder) (sym s) tt;
 }
 
 module _ (program : Program) (tables : List TableDecl) (tables_are : tables ≡ tables_of program) (n : ℕ) (decl : Decl) (within : n < length program.decls) (is : decl ≡ get_or program.decls n decl)
     (large : Bool) (earlier : Named Scheme) (schemes : List Scheme) (types : List Ty) (done : IsDone program n large earlier schemes types) where
-  pub one_more : (own : List Scheme) (inside : List Ty) → IsInferred earlier tables decl own inside → Each IsEvenScheme own → AllFine large (group_walked earlier tables decl).steps
+  pub one_more : (own : List Scheme) (inside : List Ty) → IsInferred earlier tables decl own inside → Each IsEvenScheme own → Each IsSchemeInOrder own → AllFine large (group_walked earlier tables decl).steps
       → (then : Bool) (later : Named Scheme) (all : List Scheme) (nodes : List Ty) → later ≡ entries (functions_in decl) own ++ earlier → all ≡ schemes ++ own → nodes ≡ types ++ inside
       → then ≡ (large || some_large inside) → IsDone program (n + 1) then later all nodes
-  one_more own inside inferred even fine then later all nodes later_is all_is nodes_is then_is = record {
+  one_more own inside inferred even in_order fine then later all nodes later_is all_is nodes_is then_is = record {
     accepted = accepted_more (tables_of program) (take n program.decls) (take (n + 1) program.decls) large then earlier later schemes own all types inside nodes decl done.accepted
         (subst (λ ts. IsInferred earlier ts decl own inside) tables_are inferred) (subst (λ ts. AllFine large (group_walked earlier ts decl).steps) tables_are fine)
         (taken_more program.decls n decl within is) then_is later_is all_is nodes_is;
     even = subst (Each (λ entry. IsEvenScheme entry.1)) (sym later_is) (even_entries (functions_in decl) own earlier even done.even);
+    in_order = subst (Each IsSchemeInOrder) (sym all_is) (each_both IsSchemeInOrder schemes own done.in_order in_order);
   }
 
   pub ill_typed_there : (at : Span) → IsIllTyped large (group_walked earlier tables decl).steps at → EndsIllTyped program at

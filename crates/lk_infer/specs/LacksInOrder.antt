@@ -1,4 +1,5 @@
--- Lacks in the order of their variables, then in byte order of their labels, each once; and the scheme that is made of them.
+-- Lacks in the order of their variables, then in byte order of their labels, each once; the scheme that is made of them, and
+-- schemes that are written in order.
 use Rattle.std.specs.Prelude.{ℕ, Bool, ◌&&◌, not, List, [], ◌∷◌, Option, Some, None, String, string_bytes}
 use Rattle.std.specs.BTreeSet.{insert_key}
 use Rattle.std.specs.Cmp.Lexicographic.{slice_cmp}
@@ -13,6 +14,7 @@ use Rattle.lk_types.specs.declared.ty.Ty.{Ty}
 use Rattle.lk_types.specs.declared.ty.Variable.{Variable}
 use Rattle.lk_types.specs.declared.ty.Variable.TheVariants as variable
 use Rattle.lk_infer.specs.Lacks.{shown}
+use Rattle.lk_unify.specs.InOrder.{IsInOrder}
 
 -- by their variables, then by the bytes of their labels
 abbrev pub lack_cmp : Lack → Lack → Ordering
@@ -59,3 +61,7 @@ lacks_for all body = filter (λ lack. has_row lack.var body && not (has_lack (in
 -- a type with what its variables of rows lack because of these lacks
 abbrev pub scheme_for : List Lack → Ty → Scheme
 scheme_for all body = record { body = body; lacks = lacks_for all body }
+
+-- the labels and effects of the body stand in byte order, and the lacks in theirs
+abbrev pub IsSchemeInOrder : Scheme → Type 0
+IsSchemeInOrder scheme = IsInOrder scheme.body × AreInOrder scheme.lacks

@@ -2,6 +2,7 @@
 
 ghost use Rattle.lk_ast.specs.declared.place.Span.{Span as TheSpan};
 ghost use Rattle.lk_infer.specs.Inferred.{IsInferred};
+ghost use Rattle.lk_infer.specs.LacksInOrder.{IsSchemeInOrder};
 ghost use Rattle.lk_infer.specs.Refusals.{AllFine, IsIllTyped, IsTooLarge};
 ghost use Rattle.lk_infer.specs.Walked.{IsPlain, IsSolved};
 ghost use Rattle.lk_infer.specs.declared.error.InferError.TheVariants as errors;
@@ -44,6 +45,7 @@ fn generalise(alloc: Global, walk: GroupWalk) -> Result<Group, InferError>
     requires functions { Each IsPlain walk.functions }
     requires nodes { Each IsPlain walk.nodes }
     ensures solved { IfOk result (λ group. IsSolved walk group.schemes group.types) }
+    ensures in_order { IfOk result (λ group. Each IsSchemeInOrder group.schemes) }
     ensures fine { IfOk result (λ group. AllFine false walk.steps) }
     ensures ill_typed { (at : TheSpan) → result ≡ Err (errors.IllTyped at) → IsIllTyped false walk.steps at }
     ensures too_large { (at : TheSpan) → result ≡ Err (errors.TypeTooLarge at) → IsTooLarge false walk.steps at }
@@ -68,6 +70,7 @@ pub fn infer_group<'p>(
     requires { Each (λ entry. IsEvenScheme entry.1) earlier.now }
     ensures inferred { IfOk result (λ group. IsInferred earlier.now tables.now decl.now group.schemes group.types) }
     ensures even { IfOk result (λ group. Each IsEvenScheme group.schemes) }
+    ensures in_order { IfOk result (λ group. Each IsSchemeInOrder group.schemes) }
     ensures fine { IfOk result (λ group. AllFine large (group_walked earlier.now tables.now decl.now).steps) }
     ensures ill_typed { (at : TheSpan) → result ≡ Err (errors.IllTyped at) → IsIllTyped large (group_walked earlier.now tables.now decl.now).steps at }
     ensures too_large { (at : TheSpan) → result ≡ Err (errors.TypeTooLarge at) → IsTooLarge large (group_walked earlier.now tables.now decl.now).steps at }

@@ -1,11 +1,13 @@
 //! Inference for whole programs.
 
 ghost use Rattle.lk_infer.specs.Inferred.{HasTypes};
+ghost use Rattle.lk_infer.specs.LacksInOrder.{IsSchemeInOrder};
 ghost use Rattle.lk_infer.specs.Programs.{EndsIllTyped, EndsTooLarge};
 ghost use Rattle.lk_infer.specs.Refusals.{some_large};
 ghost use Rattle.lk_infer.specs.declared.error.InferError.TheVariants as errors;
 ghost use Rattle.lk_ast.specs.Functions.{functions_in};
 ghost use Rattle.lk_ast.specs.declared.place.Span.{Span as TheSpan};
+ghost use Rattle.lk_types.specs.Each.{Each};
 ghost use Rattle.lk_typing.specs.Programs.{ArePrincipal, IsWellTyped, entries};
 ghost use Rattle.std.specs.Prelude.{◌≡◌, ◌++◌, ◌||◌, Err, IfOk, OnOk};
 
@@ -72,10 +74,11 @@ fn add_group<'p>(
 }
 
 /// The principal schemes of a program's functions and the principal types of its nodes, or the first place in the walk at
-/// which what is said can't hold or a type is too large.
+/// which what is said can't hold or a type is too large. The schemes are written in order, as they are printed.
 pub fn infer(alloc: Global, program: &Scoped) -> Result<Typed, InferError>
     ensures principal { IfOk result (λ typed. ArePrincipal program.now typed.schemes) }
     ensures types { IfOk result (λ typed. HasTypes program.now typed.schemes typed.types) }
+    ensures in_order { IfOk result (λ typed. Each IsSchemeInOrder typed.schemes) }
     ensures ill_typed { (at : TheSpan) → result ≡ Err (errors.IllTyped at) → EndsIllTyped program.now at }
     ensures not_well_typed { (at : TheSpan) → result ≡ Err (errors.IllTyped at) → IsWellTyped program.now → ⊥ }
     ensures too_large { (at : TheSpan) → result ≡ Err (errors.TypeTooLarge at) → EndsTooLarge program.now at }

@@ -6,6 +6,7 @@ ghost use Rattle.lk_infer.specs.Walked.{places_of, walk_constraints, IsNumber, I
 ghost use Rattle.lk_infer.specs.declared.error.InferError.TheVariants as errors;
 ghost use Rattle.lk_types.specs.Each.{Each};
 ghost use Rattle.lk_unify.specs.Constraints.{AreSides, equations_of};
+ghost use Rattle.lk_unify.specs.InOrder.{IsInOrder};
 ghost use Rattle.std.specs.Prelude.{◌≡◌, ℕ, ◌+◌, ◌<◌, false, length, slice_index_or as get_or, Err, IfOk};
 
 use crate::constraints::{push_asked, push_steps};
@@ -64,6 +65,7 @@ pub fn solve_walk(alloc: Global, walk: GroupWalk) -> Result<List<Ty>, InferError
     requires functions { Each IsPlain walk.functions }
     requires nodes { Each IsPlain walk.nodes }
     ensures sides { IfOk result (λ types. AreSides (equations_of (walk_constraints walk)) types) }
+    ensures in_order { IfOk result (λ types. Each IsInOrder types) }
     ensures fine { IfOk result (λ types. AllFine false walk.steps) }
     ensures ill_typed { (at : TheSpan) → result ≡ Err (errors.IllTyped at) → IsIllTyped false walk.steps at }
     ensures too_large { (at : TheSpan) → result ≡ Err (errors.TypeTooLarge at) → IsTooLarge false walk.steps at }

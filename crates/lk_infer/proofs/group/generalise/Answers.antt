@@ -1,5 +1,6 @@
 use Rattle.std.proofs.Common.{◌≡◌, ◌≤◌, length, ap, subst, sym, ◌∙◌}
 use Rattle.std.specs.Prelude.{take, drop}
+use Rattle.lk_infer.proofs.LackMembers.{generalised_in_order}
 use Rattle.lk_infer.proofs.SolvedWalks.{enough, solved_by}
 use Rattle.lk_infer.proofs.group.generalise.Goals as goal
 use Rattle.lk_infer.specs.Generalised.{AreGeneralised}
@@ -13,3 +14,6 @@ returns-clause-solved c =
     (c.in_ok-schemes.ensures.others ∙ ap (λ n. drop n c.in_ok-types.types) c.len-functions.ensures)
     (c.first_types-types.ensures ∙ ap (λ n. take n c.in_ok-schemes.others) c.len-nodes.ensures)
     (subst (λ n. AreGeneralised c.in_ok-types.types (take n c.in_ok-types.types) c.in_ok-schemes.schemes) c.len-functions.ensures c.in_ok-schemes.ensures.schemes)
+
+pub returns-clause-in_order : goal.returns-clause-in_order
+returns-clause-in_order c = generalised_in_order _ _ _ c.in_ok-schemes.ensures.schemes c.in_ok-schemes.ensures.ordered c.in_ok-types.ensures.in_order

@@ -15,7 +15,7 @@ loop-decl-preserved c =
     let more = c.in_ok-add_group.ensures in
     one_more c.args.program.now _ (c.in_ok-tables.ensures ∙ ap tables_of c.program-program.ensures.same) c.loop-decl.decl-index c.decl-item.result
     (subst (λ ds. c.loop-decl.decl-index < length ds) decls c.loop-decl-test.true) (subst (λ (ds : List Decl). c.decl-item.result ≡ get_or ds c.loop-decl.decl-index c.decl-item.result) decls c.decl-item.is)
-    _ _ _ _ c.loop-decl.invariant _ _ group.inferred group.even group.fine _ _ _ _ more.earlier more.schemes more.types more.large
+    _ _ _ _ c.loop-decl.invariant _ _ group.inferred group.even group.in_order group.fine _ _ _ _ more.earlier more.schemes more.types more.large
 
 pub returns-in-Err-clause-ill_typed : goal.returns-in-Err-clause-ill_typed
 returns-in-Err-clause-ill_typed c at is =
@@ -47,3 +47,6 @@ pub returns-clause-principal : goal.returns-clause-principal
 returns-clause-principal c =
     let decls = c.as_slice-decl-items.ensures ∙ ap (λ program. program.decls) c.program-program.ensures.same in
     are_principal c.args.program.now c.loop-decl.decl-index (subst (λ (ds : List Decl). length ds ≤ c.loop-decl.decl-index) decls c.loop-decl-test.false) _ _ _ _ c.loop-decl.invariant
+
+pub returns-clause-in_order : goal.returns-clause-in_order
+returns-clause-in_order c = c.loop-decl.invariant.in_order
