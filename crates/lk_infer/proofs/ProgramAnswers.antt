@@ -29,12 +29,14 @@ pub record IsDone (program : Program) (n : ℕ) (large : Bool) (earlier : Named 
   pub accepted : Accepted (tables_of program) (take n program.decls) large earlier schemes types
   pub even : Each (λ entry. IsEvenScheme entry.1) earlier
   pub in_order : Each IsSchemeInOrder schemes
+  pub all_even : Each IsEvenScheme schemes
 
 pub nothing_done : (program : Program) (earlier : Named Scheme) (schemes : List Scheme) (types : List Ty) → earlier ≡ [] → schemes ≡ [] → types ≡ [] → IsDone program 0 false earlier schemes types
 nothing_done program earlier schemes types e s t = record {
   accepted = accepted_none (tables_of program) [] false earlier schemes types refl refl e s t;
   even = subst (Each (λ entry. IsEvenScheme entry.1)) (sym e) tt;
   in_order = subst (Each IsSchemeInOrder) (sym s) tt;
+  all_even = subst (Each IsEvenScheme) (sym s) tt;
 }
 
 module _ (program : Program) (tables : List TableDecl) (tables_are : tables ≡ tables_of program) (n : ℕ) (decl : Decl) (within : n < length program.decls) (is : decl ≡ get_or program.decls n decl)
@@ -48,6 +50,7 @@ module _ (program : Program) (tables : List TableDecl) (tables_are : tables ≡ 
         (taken_more program.decls n decl within is) then_is later_is all_is nodes_is;
     even = subst (Each (λ entry. IsEvenScheme entry.1)) (sym later_is) (even_entries (functions_in decl) own earlier even done.even);
     in_order = subst (Each IsSchemeInOrder) (sym all_is) (each_both IsSchemeInOrder schemes own done.in_order in_order);
+    all_even = subst (Each IsEvenScheme) (sym all_is) (each_both IsEvenScheme schemes own done.all_even even);
   }
 
   pub ill_typed_there : (at : Span) → IsIllTyped large (group_walked earlier tables decl).steps at → EndsIllTyped program at

@@ -8,6 +8,7 @@ ghost use Rattle.lk_infer.specs.declared.error.InferError.TheVariants as errors;
 ghost use Rattle.lk_ast.specs.Functions.{functions_in};
 ghost use Rattle.lk_ast.specs.declared.place.Span.{Span as TheSpan};
 ghost use Rattle.lk_types.specs.Each.{Each};
+ghost use Rattle.lk_typing.specs.EffectRows.{IsEvenScheme};
 ghost use Rattle.lk_typing.specs.Programs.{ArePrincipal, IsWellTyped, entries};
 ghost use Rattle.std.specs.Prelude.{◌≡◌, ◌++◌, ◌||◌, Err, IfOk, OnOk};
 
@@ -79,6 +80,7 @@ pub fn infer(alloc: Global, program: &Scoped) -> Result<Typed, InferError>
     ensures principal { IfOk result (λ typed. ArePrincipal program.now typed.schemes) }
     ensures types { IfOk result (λ typed. HasTypes program.now typed.schemes typed.types) }
     ensures in_order { IfOk result (λ typed. Each IsSchemeInOrder typed.schemes) }
+    ensures even { IfOk result (λ typed. Each IsEvenScheme typed.schemes) }
     ensures ill_typed { (at : TheSpan) → result ≡ Err (errors.IllTyped at) → EndsIllTyped program.now at }
     ensures not_well_typed { (at : TheSpan) → result ≡ Err (errors.IllTyped at) → IsWellTyped program.now → ⊥ }
     ensures too_large { (at : TheSpan) → result ≡ Err (errors.TypeTooLarge at) → EndsTooLarge program.now at }

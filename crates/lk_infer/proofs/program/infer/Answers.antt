@@ -50,3 +50,6 @@ returns-clause-principal c =
 
 pub returns-clause-in_order : goal.returns-clause-in_order
 returns-clause-in_order c = c.loop-decl.invariant.in_order
+
+pub returns-clause-even : goal.returns-clause-even
+returns-clause-even c = c.loop-decl.invariant.all_even
