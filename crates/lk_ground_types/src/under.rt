@@ -16,8 +16,8 @@ use lk_ast::{List, NoMemory};
 use lk_types::{Effect, Ground, Ty};
 use std::alloc::Global;
 
-/// What a type becomes with these bindings, where it becomes something and that has no more nodes than a type may have, else
-/// `None`. `NoMemory` where memory runs out.
+/// What a type becomes with these bindings, if it has no more nodes than a type may have, else `None`. Nothing is said of a type
+/// that becomes nothing, since a row in it gets a label twice. `NoMemory` where memory runs out.
 pub fn ground_type(alloc: Global, bindings: &Bindings, ty: &Ty) -> Result<Option<Ground>, NoMemory>
     ensures { IfOk result (λ found. (t : TheGround) → under (grounding_of bindings.now) ty.now ≡ Some t → found ≡ within t) }
 {
@@ -29,7 +29,7 @@ pub fn ground_type(alloc: Global, bindings: &Bindings, ty: &Ty) -> Result<Option
 }
 
 /// The effects of the function type that a type becomes with these bindings, in byte order; none where it becomes another type.
-/// `NoMemory` where memory runs out.
+/// Nothing is said of a type that becomes nothing. `NoMemory` where memory runs out.
 pub fn ground_effects(alloc: Global, bindings: &Bindings, ty: &Ty) -> Result<List<Effect>, NoMemory>
     ensures { IfOk result (λ effects. (t : TheGround) → under (grounding_of bindings.now) ty.now ≡ Some t → effects ≡ effects_in t) }
 {

@@ -8,8 +8,9 @@ pub struct Lack {
     pub label: Text,
 }
 
-/// A type for each choice of what its variables stand for. The `lacks` stand in the order of their variables, then in
-/// byte order of their labels; those that the body shows anyhow, since a row has no label twice, aren't among them.
+/// A type for each choice of what its variables stand for. Any order of the `lacks` says the same. Inference puts them in the
+/// order of their variables, then in byte order of their labels, and leaves out those that the body shows anyhow, since a row has
+/// no label twice.
 #[derive(Debug, Drop)]
 pub struct Scheme {
     pub body: Ty,

@@ -19,7 +19,8 @@ pub enum Effect {
     Write,
 }
 
-/// The effects of a function, in byte order, each once, and then those of the tail.
+/// The effects of a function: those that are named, and then those of the tail. In any order they are the same effects, and with one
+/// of them twice none. Types that are printed have them in byte order.
 #[derive(Debug, Drop)]
 pub struct Effects {
     pub labels: List<Effect>,
@@ -34,7 +35,8 @@ pub struct TyField {
     pub ty: Ty,
 }
 
-/// Fields, in byte order of their labels, each label once, and then those of the tail.
+/// Fields, and then those of the tail. In any order they are the same row, and with a label twice none. Types that are printed have
+/// them in byte order of their labels.
 #[cycle(ty)]
 #[derive(Debug, Drop)]
 pub struct TyRow {
@@ -45,7 +47,7 @@ pub struct TyRow {
 /// A type. Variables of types, of rows and of effects are three kinds: the variable of a type and that of a row may
 /// have one number, and have nothing to do with each other.
 ///
-/// The order of fields and effects is kept by whoever makes a type, and no definition of what a type means rests on it.
+/// No definition of what a type means rests on the order of fields and effects.
 #[cycle(ty)]
 #[derive(Debug, Drop)]
 pub enum Ty {

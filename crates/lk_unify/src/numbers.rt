@@ -49,8 +49,8 @@ fn is_own(loader: &Loader, node: usize) -> bool
     loader.arena.class_of(node) == node && is_loose(loader.arena.shape_of(node))
 }
 
-/// A number for each class of which nothing is known, each another one, and none that a variable with a node has. The
-/// other nodes get 0. Refused where a class would get the last number of all.
+/// A number for each class of which nothing is known, each another one, and none that a variable with a node has. Which they are,
+/// and which number the other nodes get, is left open. Refused where no number is left.
 pub fn numbers_for(alloc: Global, loader: &Loader) -> Result<Vec<u32>, NoMemory>
     requires { IsLoader loader.now }
     ensures count { IfOk result (λ numbers. length numbers.items ≡ length loader.now.arena.shapes) }
