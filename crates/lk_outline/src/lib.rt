@@ -1,7 +1,7 @@
 //! Outlines of function bodies, and the nodes of typed ones.
 //!
-//! `specs/Nodes` says which nodes a typed expression has, `specs/Outline` what its outline is, and `specs/Typed` how the one
-//! comes from the other; `outline_laws` proves it.
+//! `specs/Nodes` of lk_sound says which nodes a typed expression has, `specs/Outline` what its outline is, and `specs/Typed` how
+//! the one comes from the other; `outline_laws` proves it. `specs/Shown` says how contracts see the outline that the code makes.
 #![tactic(auto)]
 
 mod law;
