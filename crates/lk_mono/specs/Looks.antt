@@ -17,15 +17,14 @@ use Rattle.lk_types.specs.declared.ground.Ground.TheVariants as known
 use Rattle.lk_types.specs.declared.ty.Effect.{Effect}
 use Rattle.lk_typing.specs.Law.{Become}
 
--- a use at the node of that number, with its type if that is made
+-- a use, with its type if that is made
 pub record TheFound : Type 0 where
-  pub number : ℕ
   pub inside : Bool
   pub name : Label
   pub type : Option Ground
 
 abbrev pub as_found : Found → TheFound
-as_found f = record { number = f.number; inside = f.inside; name = f.name.now; type = f.ty }
+as_found f = record { inside = f.inside; name = f.name.now; type = f.ty }
 
 abbrev pub as_uses : List Found → List TheFound
 as_uses uses = map as_found uses
@@ -40,7 +39,7 @@ called effects (Some params) (Some answer) = Some (known.Fun params effects answ
 called effects _ _ = None
 
 abbrev pub found : Site → Label → Option Ground → TheFound
-found s name type = record { number = s.number; inside = s.inside; name = name; type = type }
+found s name type = record { inside = s.inside; name = name; type = type }
 
 -- where the nodes have these types, in an instance with these effects
 module _ (own : List Effect) (types : List Ground) where

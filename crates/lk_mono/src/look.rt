@@ -26,8 +26,6 @@ use std::alloc::Global;
 /// A use of a function in a body.
 #[derive(Drop)]
 pub struct Found<'p> {
-    /// The number of its node.
-    pub number: usize,
     /// Whether it stands inside a query, an update or a deletion.
     pub inside: bool,
     pub name: &'p Text,
@@ -171,7 +169,6 @@ fn use_at<'p>(
         _ => return Ok(None),
     };
     Ok(Some(Found {
-        number: site.number,
         inside: site.inside,
         name,
         ty,
