@@ -73,7 +73,7 @@ impl Arena {
     }
 
     /// Says more of a node.
-    pub fn put_shape(&mut self, alloc: Global, node: usize, shape: Shape)
+    pub(crate) fn put_shape(&mut self, alloc: Global, node: usize, shape: Shape)
         requires { node < length self.old.shapes }
         ensures shapes { self.new.shapes ≡ slice_set self.old.shapes node shape }
         ensures classes { self.new.classes ≡ self.old.classes }
@@ -84,7 +84,7 @@ impl Arena {
     }
 
     /// Puts all nodes of one class into another one.
-    pub fn relabel(&mut self, from: usize, to: usize)
+    pub(crate) fn relabel(&mut self, from: usize, to: usize)
         requires { AreApart (length self.old.classes) self.old.classes from to }
         ensures shapes { self.new.shapes ≡ self.old.shapes }
         ensures classes { self.new.classes ≡ map (relabeled from to) self.old.classes }

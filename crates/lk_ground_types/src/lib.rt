@@ -20,7 +20,6 @@ mod shapes;
 mod under;
 
 pub use bindings::Bindings;
-pub use bound_row::BoundRow;
 pub use copies::copy_type;
 pub use forms::effects_of;
 pub use law::ground_type_laws;

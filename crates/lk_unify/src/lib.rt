@@ -21,10 +21,6 @@ mod unifying;
 
 pub use constrained::solve;
 pub use constraint::{Constraint, Sizing};
-pub use load::load_equation;
-pub use loader::Loader;
-pub use numbers::numbers_for;
-pub use reading::read_all;
 pub use small::MOST_NODES;
-pub use solvable::{Loaded, first_unsolvable, is_solvable, load_all};
+pub use solvable::first_unsolvable;
 pub use unifying::{UnifyError, unify};
