@@ -9,6 +9,7 @@ ghost use Rattle.lk_arena.specs.Shapes.{parts_of, AllBelow, AreNodes};
 use crate::node::{Field, Head, Shape};
 use lk_ast::NoMemory;
 use lk_classes::Classes;
+use lk_types::MOST_NODES;
 use std::alloc::Global;
 
 /// How many nodes: of a type or a row of fields, and of a row of effects, in which an effect counts one and its unit type nothing.
@@ -20,7 +21,7 @@ pub struct Count {
 }
 
 /// The first number of nodes that is too many, which stands for all of those.
-const TOO_MANY: usize = 4097;
+const TOO_MANY: usize = MOST_NODES + 1;
 
 /// The sum of two numbers of nodes.
 fn add(m: usize, n: usize) -> usize

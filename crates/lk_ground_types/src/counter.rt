@@ -9,10 +9,10 @@ ghost use Rattle.std.specs.Prelude.{◌≡◌, ◌+◌, map, sum};
 
 use crate::bindings::Bindings;
 use crate::effect_lists::count_listed;
-use lk_types::{Effects, Ground, GroundField, RowTail, Ty, TyField, TyRow};
+use lk_types::{Effects, Ground, GroundField, MOST_NODES, RowTail, Ty, TyField, TyRow};
 
 /// One more than a type may have.
-pub const MOST: usize = 4_097;
+pub const MOST: usize = MOST_NODES + 1;
 
 /// So many more.
 #[tactic(auto, unfolding(crate::specs::Counting::capped))]

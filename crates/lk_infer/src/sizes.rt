@@ -5,8 +5,7 @@ ghost use Rattle.lk_types.specs.Sizes.{effects_nodes, field_nodes_with, most_nod
 ghost use Rattle.lk_types.specs.declared.ty.Variable.TheVariants as variable;
 ghost use Rattle.std.specs.Prelude.{◌≡◌, ◌+◌, ◌<◌, IfNone, IfSome, map, nat_lt, sum};
 
-use lk_types::{Effects, RowTail, Ty, TyField, TyRow};
-use lk_unify::MOST_NODES;
+use lk_types::{Effects, MOST_NODES, RowTail, Ty, TyField, TyRow};
 
 /// Whether one of these types is too large.
 pub fn any_large(types: &[Ty]) -> bool

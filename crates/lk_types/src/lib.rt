@@ -18,6 +18,6 @@ pub use equation::{Binding, Equation, Image, Subst};
 pub use ground::{Ground, GroundField};
 pub use ground_text::print_ground;
 pub use scheme::{Lack, Scheme};
-pub use ty::{Effect, Effects, RowTail, Ty, TyField, TyRow, Variable};
-pub use type_text::print_type;
+pub use ty::{Effect, Effects, MOST_NODES, RowTail, Ty, TyField, TyRow, Variable};
+pub use type_text::{effect_word, print_type};
 pub use variables::push_variables;

@@ -1,5 +1,9 @@
 use lk_ast::{Boxed, List, Text};
 
+/// The most nodes that a type may have: its bases, lists, records, variants, functions, labels, effects and variables, each of
+/// which counts one.
+pub const MOST_NODES: usize = 4096;
+
 /// Where a row ends: nowhere else, or in what its variable stands for.
 #[derive(Clone, Copy, Debug, PartialEq, Eq)]
 pub enum RowTail {

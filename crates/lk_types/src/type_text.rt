@@ -163,7 +163,8 @@ pub fn write_labels(text: &mut Text, labels: &[Effect]) -> Result<(), NoMemory>
     Ok(())
 }
 
-fn effect_word(effect: Effect) -> &'static str
+/// The word of an effect.
+pub fn effect_word(effect: Effect) -> &'static str
     ensures { result.now ≡ effect_word effect }
 {
     match effect {

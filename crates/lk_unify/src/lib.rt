@@ -21,6 +21,5 @@ mod unifying;
 
 pub use constrained::solve;
 pub use constraint::{Constraint, Sizing};
-pub use small::MOST_NODES;
 pub use solvable::first_unsolvable;
 pub use unifying::{UnifyError, unify};

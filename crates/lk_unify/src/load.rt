@@ -9,7 +9,7 @@ ghost use Rattle.lk_unify.specs.Loading.{type_meaning, types_meaning, row_meanin
 use crate::loader::Loader;
 use lk_arena::{Field, Head, Pair, Shape, node_of};
 use lk_ast::{List, NoMemory, Text};
-use lk_types::{Effect, Effects, Equation, Ty, TyField, TyRow, Variable};
+use lk_types::{Effect, Effects, Equation, Ty, TyField, TyRow, Variable, effect_word};
 use std::alloc::Global;
 
 /// What is known of a variable before anything is merged.
@@ -84,15 +84,7 @@ fn load_end(loader: &mut Loader, tail: Option<Variable>) -> Result<usize, NoMemo
 pub fn label_of(alloc: Global, effect: Effect) -> Result<Text, NoMemory>
     ensures { IfOk result (λ label. label ≡ effect_word effect) }
 {
-    match effect {
-        Effect::Local => Text::from_str(alloc, "local"),
-        Effect::Move => Text::from_str(alloc, "move"),
-        Effect::Print => Text::from_str(alloc, "print"),
-        Effect::Rec => Text::from_str(alloc, "rec"),
-        Effect::Scan => Text::from_str(alloc, "scan"),
-        Effect::Trap => Text::from_str(alloc, "trap"),
-        Effect::Write => Text::from_str(alloc, "write"),
-    }
+    Text::from_str(alloc, effect_word(effect))
 }
 
 /// The effects as fields.

@@ -11,11 +11,11 @@ ghost use Rattle.lk_unify.specs.SideSizes.{is_late, joined, last_by, AreAllWithi
 ghost use Rattle.lk_unify.specs.Solving.{HasNodes};
 
 use crate::constraint::Sizing;
-use crate::small::{MOST_NODES, load_ordered};
+use crate::small::load_ordered;
 use lk_arena::{Count, count_at, counts};
 use lk_ast::NoMemory;
 use lk_classes::Classes;
-use lk_types::Equation;
+use lk_types::{Equation, MOST_NODES};
 use std::alloc::Global;
 
 /// Whether the size of a late constraint matters where this sizing is the last.

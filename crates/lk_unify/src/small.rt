@@ -13,12 +13,8 @@ use crate::solvable::{Loaded, load_all};
 use lk_arena::{Count, count_at, counts, parts_first};
 use lk_ast::NoMemory;
 use lk_classes::Classes;
-use lk_types::Equation;
+use lk_types::{Equation, MOST_NODES};
 use std::alloc::Global;
-
-/// The most nodes that a type may have: its bases, lists, records, variants, functions, labels, effects and variables, each of
-/// which counts one.
-pub const MOST_NODES: usize = 4096;
 
 /// Equations as nodes, and the nodes in an order in which parts come first.
 #[derive(Drop)]
