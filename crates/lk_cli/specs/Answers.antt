@@ -37,7 +37,6 @@ use Rattle.lk_parse.specs.declared.error.ParseError.TheVariants as parse
 use Rattle.lk_sem.specs.SourceRuns.{IsRun, IsPlainRun}
 use Rattle.lk_sem.specs.declared.run.SourceEnd.{SourceEnd}
 use Rattle.lk_sem.specs.declared.run.SourceEnd.TheVariants as end
-use Rattle.lk_sound.specs.Instances.{IsShaped}
 use Rattle.lk_tables.specs.Reading.{refusal}
 use Rattle.lk_tables.specs.declared.error.TablesError.{TablesError}
 use Rattle.lk_tables.specs.declared.error.TablesError.TheVariants as error
@@ -77,7 +76,7 @@ IsTyped program typed = names.IsBound program × ArePrincipal program typed.sche
 -- and events, and no function stands in what these show.
 abbrev pub IsGround : Program → Typed → GroundProgram → Type 0
 IsGround program typed ground_program =
-    IsGrounded program typed.schemes typed.types ground_program × Keeps program ground_program × ShowsPlain program × IsShaped program × HasInstances program ground_program
+    IsGrounded program typed.schemes typed.types ground_program × Keeps program ground_program × ShowsPlain program × HasInstances program ground_program
 
 -- It has one, whose queries, readings of tables, updates and deletions are these as SQL, by their labels. What a database may answer
 -- them with is what the readings may be answered with, they change rows as the text says, and they are well formed.

@@ -84,9 +84,9 @@ walks_of of [] = refl
 walks_of of (set ∷ sets) = ap (λ ws. of set.expr ∷ ws) (walks_of of sets)
 
 module _ (p : Program) (bound : IsBound p) (g : GroundProgram) (has : HasInstances p g) (functions : Named (Entry Ground)) (locals : Named Ground) (site : Site) (change : ChangeExpr) (after : Pending)
-    (alone : IsChangeAlone p has.instances functions locals change site.types site.calls after) where
+    (alone : IsChangeAlone p has.shaped.instances functions locals change site.types site.calls after) where
   abbrev i : Instances
-  i = has.instances
+  i = has.shaped.instances
 
   abbrev n : ℕ
   n = length (functions_of p)
@@ -168,15 +168,15 @@ module _ (p : Program) (bound : IsBound p) (g : GroundProgram) (has : HasInstanc
     made = subst (AreMade p i (λ name. []) calls (called g.helpers n) ((x, record_of row) ∷ kept) numbers (known.Bool ∷ ts) (λ names. all_given (λ name. []) calls names (cond ∷ exprs_of sets)) start after)
         (all_more (walk (called g.helpers n) cond) (map (walk (called g.helpers n)) (exprs_of sets)) numbers start
         ∙ ap (λ ws. record { numbers = first.part ∷ (all ws numbers first.state).numbers; state = (all ws numbers first.state).state }) (walks_of (walk (called g.helpers n)) sets))
-        (exprs_made p i has.closed (λ name. []) tables_fit calls (called g.helpers n) n (called_fits p i bound has.closed (λ name. []) tables_fit n)
-        (helpers_made p i bound has.closed (λ name. []) tables_fit g.helpers (helpers_there p bound g has (λ name. []) tables_fit) n) functions true (more of_cond rest holds values) refl refl nodes numbers start after
+        (exprs_made p i has.shaped.closed (λ name. []) tables_fit calls (called g.helpers n) n (called_fits p i bound has.shaped.closed (λ name. []) tables_fit n)
+        (helpers_made p i bound has.shaped.closed (λ name. []) tables_fit g.helpers (helpers_there p bound g has (λ name. []) tables_fit) n) functions true (more of_cond rest holds values) refl refl nodes numbers start after
         (bound_ordered (x ∷ xs)) (names_start (record_of row)) takes);
-    fits = λ names fit. value_fits p i has.closed (λ name. []) tables_fit calls n (called_fits p i bound has.closed (λ name. []) tables_fit n) functions true holds refl refl
+    fits = λ names fit. value_fits p i has.shaped.closed (λ name. []) tables_fit calls n (called_fits p i bound has.shaped.closed (λ name. []) tables_fit n) functions true holds refl refl
         (each_front (IsQueryNode p i.helpers n) (nodes_of true holds) (each_nodes true values) nodes) names fit;
   }
 
   made_so : IsChangeMade
-  made_so = change_made alone.inside alone.typed (all_early p i has.closed (change_nodes alone.typed) alone.flat) alone.takes
+  made_so = change_made alone.inside alone.typed (all_early p i has.shaped.closed (change_nodes alone.typed) alone.flat) alone.takes
 
   -- ---- a row of its table
 

@@ -55,9 +55,9 @@ use Rattle.lk_types.specs.declared.ground.Ground.TheVariants as known
 use Rattle.lk_typing.specs.Names.{Entry, Named, named, types_of}
 
 module _ (p : Program) (bound : IsBound p) (g : GroundProgram) (has : HasInstances p g) (functions : Named (Entry Ground)) (locals : Named Ground) (site : Site) (keys : List SortKey) (body : Expr) (after : Pending)
-    (alone : IsQueryAlone p has.instances functions locals keys body site.types site.calls after) where
+    (alone : IsQueryAlone p has.shaped.instances functions locals keys body site.types site.calls after) where
   abbrev i : Instances
-  i = has.instances
+  i = has.shaped.instances
 
   abbrev n : ℕ
   n = length (functions_of p)
@@ -80,9 +80,9 @@ module _ (p : Program) (bound : IsBound p) (g : GroundProgram) (has : HasInstanc
   module _ (tables : Tables) (are : AreTables p tables) where
     body_made : IsMade p i tables (bag.called p tables n) (called g.helpers n) kept (numbered 0 xs) (known.List alone.row) (given tables (bag.called p tables n) body) (state_at p g.helpers xs site) after walked
     body_made =
-        expr_made p i has.closed tables are (bag.called p tables n) (called g.helpers n) n (called_fits p i bound has.closed tables are n)
-        (helpers_made p i bound has.closed tables are g.helpers (helpers_there p bound g has tables are) n) functions true alone.typed refl refl
-        (all_early p i has.closed (nodes_of true alone.typed) alone.flat) (numbered 0 xs) (state_at p g.helpers xs site) after (bound_ordered xs) (names_have kept xs alone.names.names xs 0 (omega arith)) alone.takes
+        expr_made p i has.shaped.closed tables are (bag.called p tables n) (called g.helpers n) n (called_fits p i bound has.shaped.closed tables are n)
+        (helpers_made p i bound has.shaped.closed tables are g.helpers (helpers_there p bound g has tables are) n) functions true alone.typed refl refl
+        (all_early p i has.shaped.closed (nodes_of true alone.typed) alone.flat) (numbered 0 xs) (state_at p g.helpers xs site) after (bound_ordered xs) (names_have kept xs alone.names.names xs 0 (omega arith)) alone.takes
 
     rows_kept : (block : Expr) → layer block ≡ Node-F.Query keys body → all ≡ map captured_as (types_of kept) → Each IsProper all → (args : List Value) → AreCaptured all args
         → legal.bag p tables block args ≡ map row_value (gives tables walked.state.parts walked.part (query_values all (leaves args))).list

@@ -97,9 +97,9 @@ no_bound [] = refl
 no_bound (x ∷ xs) = no_bound xs
 
 module _ (p : Program) (bound : IsBound p) (g : GroundProgram) (has : HasInstances p g) (ordered : Each (λ (f : GroundFun). Each IsInOrder f.types) g.helpers) (functions : Named (Entry Ground)) (locals : Named Ground) (site : Site)
-    (proper : Each IsInOrder site.types) (change : ChangeExpr) (after : Pending) (alone : IsChangeAlone p has.instances functions locals change site.types site.calls after) where
+    (proper : Each IsInOrder site.types) (change : ChangeExpr) (after : Pending) (alone : IsChangeAlone p has.shaped.instances functions locals change site.types site.calls after) where
   abbrev i : Instances
-  i = has.instances
+  i = has.shaped.instances
 
   abbrev n : ℕ
   n = length (functions_of p)
@@ -225,13 +225,13 @@ module _ (p : Program) (bound : IsBound p) (g : GroundProgram) (has : HasInstanc
     made = subst (AreKinded (begun_scope given) false (known.Bool ∷ ts) (begun given) start after)
         (all_more (walk (called g.helpers n) cond) (map (walk (called g.helpers n)) (exprs_of sets)) numbers start
         ∙ ap (λ ws. record { numbers = first.part ∷ (all ws numbers first.state).numbers; state = (all ws numbers first.state).state }) (walks_of (walk (called g.helpers n)) sets))
-        (exprs_kinded p i has.closed (called g.helpers n) n (helpers_kinded p bound g has ordered n) functions true (more of_cond rest holds values) refl refl nodes
+        (exprs_kinded p i has.shaped.closed (called g.helpers n) n (helpers_kinded p bound g has ordered n) functions true (more of_cond rest holds values) refl refl nodes
         (taken_in_order i.helpers _ (pending (drop 1 site.types) site.calls) after takes (behind_first IsInOrder site.types proper))
         (begun_scope given) (begun given) numbers start after (bound_ordered (x ∷ xs)) (begun_described given (x ∷ xs) names_bound) (names_known row rows_are) takes);
   }
 
   kinded_so : IsChangeKinded
-  kinded_so = change_kinded alone.inside alone.typed (all_early p i has.closed (change_nodes alone.typed) alone.flat) alone.takes
+  kinded_so = change_kinded alone.inside alone.typed (all_early p i has.shaped.closed (change_nodes alone.typed) alone.flat) alone.takes
 
   -- ---- the law
 

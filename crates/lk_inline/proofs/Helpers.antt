@@ -34,9 +34,9 @@ instance_at p i in_helper P _ _ (AreInstancesOf.more {f = f} {u = v} one others)
     (f, refl, subst (λ w. IsInstanceOf p i in_helper (P w) (function_of f) f w) same one)
 instance_at p i in_helper P _ _ (AreInstancesOf.more {fs = fs} {us = us} one others) (suc h) u is = instance_at p i in_helper P fs us others h u is
 
-pub helpers_there : (p : Program) (bound : IsBound p) (g : GroundProgram) (has : HasInstances p g) (tables : Tables) (rows : AreTables p tables) → AreHelpersAt p has.instances bound has.closed tables rows g.helpers
+pub helpers_there : (p : Program) (bound : IsBound p) (g : GroundProgram) (has : HasInstances p g) (tables : Tables) (rows : AreTables p tables) → AreHelpersAt p has.shaped.instances bound has.shaped.closed tables rows g.helpers
 helpers_there p bound g has tables rows h u is =
-    let found = instance_at p has.instances true (λ u. IsHelperNode p has.instances.helpers u) g.helpers has.instances.helpers has.helpers h u is in
+    let found = instance_at p has.shaped.instances true (λ u. IsHelperNode p has.shaped.instances.helpers u) g.helpers has.shaped.instances.helpers has.helpers h u is in
     let it = found.2 in
     record {
       f = found.0;
@@ -44,5 +44,5 @@ helpers_there p bound g has tables rows h u is =
       named = it.named;
       has = it.has;
       flat = it.nodes;
-      takes = subst (λ types. Takes has.instances.helpers (nodes_of false it.has.typed.body) (pending types found.0.calls) (pending [] [])) (sym it.types) (takes_all has.instances.mains has.instances.helpers (nodes_of false it.has.typed.body) found.0.calls it.calls);
+      takes = subst (λ types. Takes has.shaped.instances.helpers (nodes_of false it.has.typed.body) (pending types found.0.calls) (pending [] [])) (sym it.types) (takes_all has.shaped.instances.mains has.shaped.instances.helpers (nodes_of false it.has.typed.body) found.0.calls it.calls);
     }

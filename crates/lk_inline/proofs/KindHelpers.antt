@@ -96,6 +96,6 @@ no_rows [] = tt
 no_rows (def ∷ defs) = (refl, no_rows defs)
 
 -- what calls in a ground program make, where the columns of lists stand in order in its helpers
-pub helpers_kinded : (p : Program) (bound : IsBound p) (g : GroundProgram) (has : HasInstances p g) → Each (λ (f : GroundFun). Each IsInOrder f.types) g.helpers → (n : ℕ) → CallsKinded p has.instances (called g.helpers n) n
+pub helpers_kinded : (p : Program) (bound : IsBound p) (g : GroundProgram) (has : HasInstances p g) → Each (λ (f : GroundFun). Each IsInOrder f.types) g.helpers → (n : ℕ) → CallsKinded p has.shaped.instances (called g.helpers n) n
 helpers_kinded p bound g has in_order n =
-    calls_kinded p has.instances bound has.closed (λ name. []) (no_rows (table_defs p)) g.helpers in_order (helpers_there p bound g has (λ name. []) (no_rows (table_defs p))) n
+    calls_kinded p has.shaped.instances bound has.shaped.closed (λ name. []) (no_rows (table_defs p)) g.helpers in_order (helpers_there p bound g has (λ name. []) (no_rows (table_defs p))) n

@@ -34,16 +34,16 @@ use Rattle.lk_types.specs.Rows.{Label}
 use Rattle.lk_typing.proofs.Values.{just}
 use Rattle.lk_typing.specs.Names.{named}
 
-module _ (p : Program) (bound : IsBound p) (g : GroundProgram) (has : HasInstances p g) (site : Site) (block : IsBlock p has.instances site.block site.types site.calls) where
+module _ (p : Program) (bound : IsBound p) (g : GroundProgram) (has : HasInstances p g) (site : Site) (block : IsBlock p has.shaped.instances site.block site.types site.calls) where
   abbrev i : Instances
-  i = has.instances
+  i = has.shaped.instances
 
   query_kept : (keys : List SortKey) (body : Expr) → layer site.block ≡ Node-F.Query keys body → IsProperBlock (query_at p g.helpers site keys body) → Keeps p site.block (Node-F.Query keys body) (query_at p g.helpers site keys body)
   query_kept keys body is proper =
       let alone : IsQueryAlone p i block.functions block.locals keys body site.types site.calls block.after =
       query_alone p i block.functions block.locals keys body site.types site.calls block.after (query_block p i block.functions block.typed keys body is block.fine site.types site.calls block.after block.takes) in
       keeps.query (query_keeps p bound g has block.functions block.locals site keys body block.after alone site.block is
-      (λ x among. (uses_typed p i.helpers (length (functions_of p)) true alone.typed refl refl (all_early p i has.closed (nodes_of true alone.typed) alone.flat) (drop 1 site.types) site.calls block.after alone.takes x among).1) proper)
+      (λ x among. (uses_typed p i.helpers (length (functions_of p)) true alone.typed refl refl (all_early p i has.shaped.closed (nodes_of true alone.typed) alone.flat) (drop 1 site.types) site.calls block.after alone.takes x among).1) proper)
 
   reading_kept : (name : Word) → layer site.block ≡ Node-F.Table name → Keeps p site.block (Node-F.Table name) (reading_at p g.helpers site name)
   reading_kept name is = keeps.query (reading_keeps p i block.functions name site.types (table_block p i block.functions block.typed name is site.types site.calls block.after block.takes) site.block is)
@@ -53,7 +53,7 @@ module _ (p : Program) (bound : IsBound p) (g : GroundProgram) (has : HasInstanc
     alone = change_alone p i block.functions block.locals change site.types site.calls block.after whole
 
     uses : (x : Label) → IsAmong x (captured_change change) → named x (change_uses change (drop 1 site.types)) ≡ named x alone.names.kept
-    uses x among = (change_typed p i.helpers (length (functions_of p)) alone.typed (all_early p i has.closed (change_nodes alone.typed) alone.flat) (drop 1 site.types) site.calls block.after alone.takes x among).1
+    uses x among = (change_typed p i.helpers (length (functions_of p)) alone.typed (all_early p i has.shaped.closed (change_nodes alone.typed) alone.flat) (drop 1 site.types) site.calls block.after alone.takes x among).1
 
     update_kept : layer site.block ≡ Node-F.Update change → Keeps p site.block (Node-F.Update change) (change_at p g.helpers site change)
     update_kept is =

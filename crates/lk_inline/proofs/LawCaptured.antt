@@ -37,9 +37,9 @@ use Rattle.lk_types.specs.Rows.{Label}
 use Rattle.lk_typing.proofs.Values.{just}
 use Rattle.lk_typing.specs.Names.{types_of}
 
-module _ (p : Program) (g : GroundProgram) (has : HasInstances p g) (site : Site) (block : IsBlock p has.instances site.block site.types site.calls) (names : Names) (fit : AreLocals p has.instances block.locals names) where
+module _ (p : Program) (g : GroundProgram) (has : HasInstances p g) (site : Site) (block : IsBlock p has.shaped.instances site.block site.types site.calls) (names : Names) (fit : AreLocals p has.shaped.instances block.locals names) where
   abbrev i : Instances
-  i = has.instances
+  i = has.shaped.instances
 
   abbrev Found : Inlined → Type 0
   Found found = Captures p site.block names found
@@ -67,7 +67,7 @@ module _ (p : Program) (g : GroundProgram) (has : HasInstances p g) (site : Site
       query_alone p i block.functions block.locals keys body site.types site.calls block.after (query_block p i block.functions block.typed keys body is block.fine site.types site.calls block.after block.takes) in
       by_types (query_at p g.helpers site keys body) (captured_query body) alone.names
       (captured_are block.locals (query_uses body (drop 1 site.types)) (captured_query body) alone.names
-      (λ x among. (uses_typed p i.helpers (length (functions_of p)) true alone.typed refl refl (all_early p i has.closed (nodes_of true alone.typed) alone.flat) (drop 1 site.types) site.calls block.after alone.takes x among).1))
+      (λ x among. (uses_typed p i.helpers (length (functions_of p)) true alone.typed refl refl (all_early p i has.shaped.closed (nodes_of true alone.typed) alone.flat) (drop 1 site.types) site.calls block.after alone.takes x among).1))
       (ap captured_by is) (reads site.block.span) (ap acts is) (λ args. refl)
 
   reading_captures : (name : Word) → layer site.block ≡ Node-F.Table name → Found (reading_at p g.helpers site name)
@@ -80,7 +80,7 @@ module _ (p : Program) (g : GroundProgram) (has : HasInstances p g) (site : Site
       let alone : IsChangeAlone p i block.functions block.locals change site.types site.calls block.after = change_alone p i block.functions block.locals change site.types site.calls block.after whole in
       by_types (change_at p g.helpers site change) (captured_change change) alone.names
       (captured_are block.locals (change_uses change (drop 1 site.types)) (captured_change change) alone.names
-      (λ x among. (change_typed p i.helpers (length (functions_of p)) alone.typed (all_early p i has.closed (change_nodes alone.typed) alone.flat) (drop 1 site.types) site.calls block.after alone.takes x among).1))
+      (λ x among. (change_typed p i.helpers (length (functions_of p)) alone.typed (all_early p i has.shaped.closed (change_nodes alone.typed) alone.flat) (drop 1 site.types) site.calls block.after alone.takes x among).1))
       names_are (writes site.block.span) act_is (λ args. refl)
 
   by_form : (l : Layer) → layer site.block ≡ l → (found : Inlined) → inlined_by p g.helpers site l ≡ Some found → Found found

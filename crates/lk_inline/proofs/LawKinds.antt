@@ -41,10 +41,10 @@ use Rattle.lk_typing.proofs.Values.{just}
 lists_in_order : (types : List Ground) → Each IsProperType types → Each IsInOrder types
 lists_in_order types proper = each_weaker IsProperType IsInOrder (λ t proper. proper.elements) types proper
 
-module _ (p : Program) (bound : IsBound p) (g : GroundProgram) (has : HasInstances p g) (helpers : AreProper g.helpers) (site : Site) (block : IsBlock p has.instances site.block site.types site.calls)
+module _ (p : Program) (bound : IsBound p) (g : GroundProgram) (has : HasInstances p g) (helpers : AreProper g.helpers) (site : Site) (block : IsBlock p has.shaped.instances site.block site.types site.calls)
     (of_text : OneOf (λ other. other ≡ site.block) (blocks_of p)) (proper : Each IsProperType site.types) where
   abbrev i : Instances
-  i = has.instances
+  i = has.shaped.instances
 
   ordered : Each (λ (f : GroundFun). Each IsInOrder f.types) g.helpers
   ordered = each_weaker (λ (f : GroundFun). Each IsProperType f.types) (λ (f : GroundFun). Each IsInOrder f.types) (λ f proper. lists_in_order f.types proper) g.helpers helpers
@@ -58,7 +58,7 @@ module _ (p : Program) (bound : IsBound p) (g : GroundProgram) (has : HasInstanc
       query_alone p i block.functions block.locals keys body site.types site.calls block.after (query_block p i block.functions block.typed keys body is block.fine site.types site.calls block.after block.takes) in
       query_kinds p bound g has ordered block.functions block.locals site types_ordered keys body block.after alone
       (captured_are block.locals (query_uses body (drop 1 site.types)) (captured_query body) alone.names
-      (λ x among. (uses_typed p i.helpers (length (functions_of p)) true alone.typed refl refl (all_early p i has.closed (nodes_of true alone.typed) alone.flat) (drop 1 site.types) site.calls block.after alone.takes x among).1))
+      (λ x among. (uses_typed p i.helpers (length (functions_of p)) true alone.typed refl refl (all_early p i has.shaped.closed (nodes_of true alone.typed) alone.flat) (drop 1 site.types) site.calls block.after alone.takes x among).1))
       (keys_apart p bound site.block of_text keys body is)
 
   reading_kinded : (name : Word) → layer site.block ≡ Node-F.Table name → HasKinds p (reading_at p g.helpers site name)
@@ -70,7 +70,7 @@ module _ (p : Program) (bound : IsBound p) (g : GroundProgram) (has : HasInstanc
       let alone : IsChangeAlone p i block.functions block.locals change site.types site.calls block.after = change_alone p i block.functions block.locals change site.types site.calls block.after whole in
       change_kinds p bound g has ordered block.functions block.locals site types_ordered change block.after alone
       (captured_are block.locals (change_uses change (drop 1 site.types)) (captured_change change) alone.names
-      (λ x among. (change_typed p i.helpers (length (functions_of p)) alone.typed (all_early p i has.closed (change_nodes alone.typed) alone.flat) (drop 1 site.types) site.calls block.after alone.takes x among).1))
+      (λ x among. (change_typed p i.helpers (length (functions_of p)) alone.typed (all_early p i has.shaped.closed (change_nodes alone.typed) alone.flat) (drop 1 site.types) site.calls block.after alone.takes x among).1))
       distinct
 
   by_form : (l : Layer) → layer site.block ≡ l → (found : Inlined) → inlined_by p g.helpers site l ≡ Some found → HasKinds p found

@@ -74,9 +74,9 @@ behind_first P (t ∷ types) all = all.1
 
 -- ---- blocks
 
-module _ (p : Program) (g : GroundProgram) (has : HasInstances p g) (site : Site) (block : IsBlock p has.instances site.block site.types site.calls) (proper : Each IsProperType site.types) where
+module _ (p : Program) (g : GroundProgram) (has : HasInstances p g) (site : Site) (block : IsBlock p has.shaped.instances site.block site.types site.calls) (proper : Each IsProperType site.types) where
   abbrev i : Instances
-  i = has.instances
+  i = has.shaped.instances
 
   query_proper : (keys : List SortKey) (body : Expr) → layer site.block ≡ Node-F.Query keys body → IsProperBlock (query_at p g.helpers site keys body)
   query_proper keys body is =
@@ -85,7 +85,7 @@ module _ (p : Program) (g : GroundProgram) (has : HasInstances p g) (site : Site
       let all : AreKept block.locals (captured_query body) = alone.names in
       subst (Each IsProper)
       (sym (captured_are block.locals (query_uses body (drop 1 site.types)) (captured_query body) all
-      (λ x among. (uses_typed p i.helpers (length (functions_of p)) true alone.typed refl refl (all_early p i has.closed (nodes_of true alone.typed) alone.flat) (drop 1 site.types) site.calls block.after alone.takes x among).1)))
+      (λ x among. (uses_typed p i.helpers (length (functions_of p)) true alone.typed refl refl (all_early p i has.shaped.closed (nodes_of true alone.typed) alone.flat) (drop 1 site.types) site.calls block.after alone.takes x among).1)))
       (names_proper block.locals (free body no_names) all (nodes_of true alone.typed) (free_there true alone.typed no_names)
       (each_taken IsProperType i.helpers (nodes_of true alone.typed) (pending (drop 1 site.types) site.calls) block.after alone.takes (behind_first IsProperType site.types proper)))
 
@@ -95,7 +95,7 @@ module _ (p : Program) (g : GroundProgram) (has : HasInstances p g) (site : Site
       let all : AreKept block.locals (captured_change change) = alone.names in
       subst (Each IsProper)
       (sym (captured_are block.locals (change_uses change (drop 1 site.types)) (captured_change change) all
-      (λ x among. (change_typed p i.helpers (length (functions_of p)) alone.typed (all_early p i has.closed (change_nodes alone.typed) alone.flat) (drop 1 site.types) site.calls block.after alone.takes x among).1)))
+      (λ x among. (change_typed p i.helpers (length (functions_of p)) alone.typed (all_early p i has.shaped.closed (change_nodes alone.typed) alone.flat) (drop 1 site.types) site.calls block.after alone.takes x among).1)))
       (names_proper block.locals (free_change change no_names) all (change_nodes alone.typed) (change_there alone.typed no_names)
       (each_taken IsProperType i.helpers (change_nodes alone.typed) (pending (drop 1 site.types) site.calls) block.after alone.takes (behind_first IsProperType site.types proper)))
 

@@ -84,9 +84,9 @@ pub list_kind : (a : Ground) → kind_of_type (known.List a) ≡ OfList (labels 
 list_kind a = ap kind_level (known.outs-List a)
 
 module _ (p : Program) (bound : IsBound p) (g : GroundProgram) (has : HasInstances p g) (ordered : Each (λ (f : GroundFun). Each IsInOrder f.types) g.helpers) (functions : Named (Entry Ground)) (locals : Named Ground) (site : Site)
-    (proper : Each IsInOrder site.types) (keys : List SortKey) (body : Expr) (after : Pending) (alone : IsQueryAlone p has.instances functions locals keys body site.types site.calls after) where
+    (proper : Each IsInOrder site.types) (keys : List SortKey) (body : Expr) (after : Pending) (alone : IsQueryAlone p has.shaped.instances functions locals keys body site.types site.calls after) where
   abbrev i : Instances
-  i = has.instances
+  i = has.shaped.instances
 
   abbrev n : ℕ
   n = length (functions_of p)
@@ -132,8 +132,8 @@ module _ (p : Program) (bound : IsBound p) (g : GroundProgram) (has : HasInstanc
 
   body_kinded : IsKinded (begun_scope given) true (known.List alone.row) (begun given) (state_at p g.helpers xs site) after walked
   body_kinded =
-      expr_kinded p i has.closed (calls_of p g.helpers) n (helpers_kinded p bound g has ordered n) functions true alone.typed refl refl
-      (all_early p i has.closed (nodes_of true alone.typed) alone.flat) (taken_in_order i.helpers (nodes_of true alone.typed) _ after alone.takes (behind_first IsInOrder site.types proper))
+      expr_kinded p i has.shaped.closed (calls_of p g.helpers) n (helpers_kinded p bound g has ordered n) functions true alone.typed refl refl
+      (all_early p i has.shaped.closed (nodes_of true alone.typed) alone.flat) (taken_in_order i.helpers (nodes_of true alone.typed) _ after alone.takes (behind_first IsInOrder site.types proper))
       (begun_scope given) (begun given) (numbered 0 xs) (state_at p g.helpers xs site) after (bound_ordered xs) (begun_described given xs names_bound) names_known alone.takes
 
   columns_are : columns_of alone.row ≡ first_columns site.types

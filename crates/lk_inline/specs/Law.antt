@@ -86,7 +86,7 @@ module _ (p : Program) (block : Expr) where
 -- Where the program's names are bound and its instances are a closed set, what is inlined of a block in them keeps its meaning, if
 -- the types of the nodes from the block on have their labels in order.
 abbrev pub BlockLaw : Type 0
-BlockLaw = (p : Program) → IsBound p → (g : GroundProgram) → (has : HasInstances p g) → (site : Site) → IsBlock p has.instances site.block site.types site.calls → Each IsProperType site.types
+BlockLaw = (p : Program) → IsBound p → (g : GroundProgram) → (has : HasInstances p g) → (site : Site) → IsBlock p has.shaped.instances site.block site.types site.calls → Each IsProperType site.types
     → (found : Inlined) → inlined_at p g.helpers site ≡ Some found → Keeps p site.block (layer site.block) found
 
 -- In the functions and the helpers of a ground program all types have.
@@ -116,8 +116,8 @@ pub record Captures (p : Program) (block : Expr) (names : Names) (found : Inline
 -- Where the program's names are bound and its instances are a closed set, so it is with what is inlined of a block in them, if the
 -- local names have values of their types.
 abbrev pub CapturedLaw : Type 0
-CapturedLaw = (p : Program) → IsBound p → (g : GroundProgram) → (has : HasInstances p g) → (site : Site) → (block : IsBlock p has.instances site.block site.types site.calls)
-    → (names : Names) → AreLocals p has.instances block.locals names
+CapturedLaw = (p : Program) → IsBound p → (g : GroundProgram) → (has : HasInstances p g) → (site : Site) → (block : IsBlock p has.shaped.instances site.block site.types site.calls)
+    → (names : Names) → AreLocals p has.shaped.instances block.locals names
     → (found : Inlined) → inlined_at p g.helpers site ≡ Some found → Captures p site.block names found
 
 -- ---- kinds
@@ -132,5 +132,5 @@ pub data HasKinds (p : Program) : Inlined → Type 0 where
 -- order, and those in the helpers have, too.
 abbrev pub KindsLaw : Type 0
 KindsLaw = (p : Program) → IsBound p → (g : GroundProgram) → (has : HasInstances p g) → AreProper g.helpers
-    → (site : Site) → IsBlock p has.instances site.block site.types site.calls → OneOf (λ other. other ≡ site.block) (blocks_of p) → Each IsProperType site.types
+    → (site : Site) → IsBlock p has.shaped.instances site.block site.types site.calls → OneOf (λ other. other ≡ site.block) (blocks_of p) → Each IsProperType site.types
     → (found : Inlined) → inlined_at p g.helpers site ≡ Some found → HasKinds p found

@@ -280,22 +280,11 @@ module _ (use_law : UseLaw) (instance_law : InstanceLaw) (p : Program) (schemes 
   }
 
   pub instanced : (g : GroundProgram) → IsGrounded p schemes types g → HasInstances p g
-  instanced g is = elim is.shaped [ AreShaped.shaped {main = body} {others = others} same none each ↦ from_each each ]
+  instanced g is = elim is.shaped [ AreShaped.shaped {main = body} {others = others} same none each ↦ from_first body others same none each ]
     where
       good : Each (AllFaultless is.helpers) is.mains → Each (IsGood is.helpers) (uses_of is.helpers)
       good each = all_good outline_law p schemes types bound is.mains is.helpers is.instances is.shaped
 
-      from_each : Each (AllFaultless is.helpers) is.mains → HasInstances p g
-      from_each each = record {
-        instances = the_set is.helpers (uses_of is.mains);
-        closed = closed is.mains is.helpers g.funs g.helpers is.funs is.others is.instances.main_bodies is.instances.helper_bodies each (good each);
-        mains = main_instances use_law p schemes types has bound is.helpers (uses_of is.mains) g.funs is.mains is.funs is.instances.main_bodies each;
-        helpers = helper_instances use_law p schemes types has bound is.helpers (uses_of is.mains) is.instances.helper_bodies g.helpers is.helpers is.others is.instances.helper_bodies (λ body one. one) (good each);
-      }
-
-  pub shaped : (g : GroundProgram) → IsGrounded p schemes types g → IsShaped p
-  shaped g is = elim is.shaped [ AreShaped.shaped {main = body} {others = others} same none each ↦ at_first body others same none each ]
-    where
       at_first : (body : Body) (others : List Body) → is.mains ≡ body ∷ others → answers_function body.use_of.type ≡ false → Each (AllFaultless is.helpers) is.mains → IsShaped p
       at_first body others same none each =
           let (u, first, done) = is.instances.first in
@@ -306,8 +295,7 @@ module _ (use_law : UseLaw) (instance_law : InstanceLaw) (p : Program) (schemes 
           let (effects, answer, of) = is_of_text p schemes types passes typed.typed in
           record {
             instances = the_set is.helpers (uses_of is.mains);
-            closed = closed is.mains is.helpers g.funs g.helpers is.funs is.others is.instances.main_bodies is.instances.helper_bodies each
-                (all_good outline_law p schemes types bound is.mains is.helpers is.instances is.shaped);
+            closed = closed is.mains is.helpers g.funs g.helpers is.funs is.others is.instances.main_bodies is.instances.helper_bodies each (good each);
             main = first.function;
             is = first.main;
             effects = effects;
@@ -315,3 +303,13 @@ module _ (use_law : UseLaw) (instance_law : InstanceLaw) (p : Program) (schemes 
             listed = subst (λ list. IsListed list (record { name = first.function.name.text; type = function_of (known.Text ∷ []) effects answer })) (sym are) (inl (λ i. record { name = first.name i; type = of i }));
             plain = answers (known.Text ∷ []) effects answer u.type of (ap (λ (w : Use). answers_function w.type) its ∙ none);
           }
+
+      from_first : (body : Body) (others : List Body) → is.mains ≡ body ∷ others → answers_function body.use_of.type ≡ false → Each (AllFaultless is.helpers) is.mains → HasInstances p g
+      from_first body others same none each = record {
+        shaped = at_first body others same none each;
+        mains = main_instances use_law p schemes types has bound is.helpers (uses_of is.mains) g.funs is.mains is.funs is.instances.main_bodies each;
+        helpers = helper_instances use_law p schemes types has bound is.helpers (uses_of is.mains) is.instances.helper_bodies g.helpers is.helpers is.others is.instances.helper_bodies (λ body one. one) (good each);
+      }
+
+  pub shaped : (g : GroundProgram) → IsGrounded p schemes types g → IsShaped p
+  shaped g is = (instanced g is).shaped

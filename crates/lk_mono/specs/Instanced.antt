@@ -1,5 +1,5 @@
--- What a ground program has of its instances: a closed set, for each instance its function, the types of the nodes of its body in
--- text order, and for each use in it the place of what it calls.
+-- What a ground program has of its instances: they are a closed set, `main` among them, and it has of each its function, the types
+-- of the nodes of its body in text order, and for each use in it the place of what it calls.
 use Rattle.std.specs.Prelude.{◌≡◌, Bool, true, false, List, [], ◌∷◌, Some}
 use Rattle.lk_ast.specs.Functions.{function_named}
 use Rattle.lk_ast.specs.declared.declaration.FunDef.{FunDef}
@@ -10,7 +10,7 @@ use Rattle.lk_ground.specs.declared.program.GroundProgram.{GroundProgram}
 use Rattle.lk_mono.specs.Grounded.{AreCalled}
 use Rattle.lk_mono.specs.Held.{types_in}
 use Rattle.lk_sound.specs.Functions.{HasFunctionType}
-use Rattle.lk_sound.specs.Instances.{AreClosed, Instances, IsFine, IsHelperNode}
+use Rattle.lk_sound.specs.Instances.{Instances, IsFine, IsHelperNode, IsShaped}
 use Rattle.lk_sound.specs.Nodes.{TypedNode, Use, nodes_of}
 use Rattle.lk_types.specs.Each.{Each}
 
@@ -27,8 +27,8 @@ pub data AreInstancesOf (p : Program) (i : Instances) (in_helper : Bool) (P : Us
   none : AreInstancesOf p i in_helper P [] []
   more : {f : GroundFun} {fs : List GroundFun} {u : Use} {us : List Use} → IsInstanceOf p i in_helper (P u) (function_of f) f u → AreInstancesOf p i in_helper P fs us → AreInstancesOf p i in_helper P (f ∷ fs) (u ∷ us)
 
+-- the lists of the closed set that the program's sessions use are those of the ground program, one by one
 pub record HasInstances (p : Program) (g : GroundProgram) : Type 0 where
-  pub instances : Instances
-  pub closed : AreClosed p instances
-  pub mains : AreInstancesOf p instances false (λ u. IsFine instances) g.funs instances.mains
-  pub helpers : AreInstancesOf p instances true (λ u. IsHelperNode p instances.helpers u) g.helpers instances.helpers
+  pub shaped : IsShaped p
+  pub mains : AreInstancesOf p shaped.instances false (λ u. IsFine shaped.instances) g.funs shaped.instances.mains
+  pub helpers : AreInstancesOf p shaped.instances true (λ u. IsHelperNode p shaped.instances.helpers u) g.helpers shaped.instances.helpers

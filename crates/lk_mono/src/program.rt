@@ -16,7 +16,6 @@ ghost use Rattle.lk_mono.specs.Judged.{Judged};
 ghost use Rattle.lk_mono.specs.declared.body.Source.{Source as TheSource};
 ghost use Rattle.lk_mono.specs.declared.error.MonoError.TheVariants as errors;
 ghost use Rattle.lk_mono.specs.declared.error.ShapeKind.{ShapeKind as TheKind};
-ghost use Rattle.lk_sound.specs.Instances.{IsShaped};
 ghost use Rattle.lk_sound.specs.Nodes.{Use as TheUse};
 ghost use Rattle.std.specs.Prelude.{◌≡◌, ◌<◌, Bool, Err, IfOk, List as TheList, false, length, true};
 
@@ -137,9 +136,9 @@ fn ground_source<'p>(alloc: Global, source: Source<'_, 'p>) -> Result<GroundProg
 /// instances in both lists together as `TooManyInstances`; and then what can't be shown, compared or run by a database as
 /// `Shape`, at the first place. `NoMemory` where memory runs out.
 ///
-/// Its instances are a closed set whose queries are flat, with the types of their nodes and what their uses call. So no
-/// function stands in what the sessions of a program that has one show, these have the same events as the sessions of the
-/// ground program, and no helper calls itself, directly or through others.
+/// Its instances are a closed set, `main` among them, whose queries are flat, with the types of their nodes and what their uses
+/// call. So no function stands in what the sessions of a program that has one show, these have the same events as the sessions of
+/// the ground program, and no helper calls itself, directly or through others.
 pub fn ground<'p>(
     alloc: Global,
     program: &'p Scoped,
@@ -148,7 +147,6 @@ pub fn ground<'p>(
     requires typed { HasTypes program.now typed.now.schemes typed.now.types }
     ensures grounded { IfOk result (IsGrounded program.now typed.now.schemes typed.now.types) }
     ensures keeps { IfOk result (Keeps program.now) }
-    ensures closed { IfOk result (λ done. IsShaped program.now) }
     ensures instances { IfOk result (HasInstances program.now) }
     ensures plain { IfOk result (λ done. ShowsPlain program.now) }
     ensures events { IfOk result (SameEvents program.now) }

@@ -21,19 +21,19 @@ use Rattle.lk_types.specs.Each.{Each}
 
 module _ (p : Program) (g : GroundProgram) (has : HasInstances p g) where
   record IsTyped (site : Site) : Type 0 where
-    block : IsBlock p has.instances site.block site.types site.calls
+    block : IsBlock p has.shaped.instances site.block site.types site.calls
     of_text : IsBlockOf p site.block
 
-  instance_typed : (fun : ℕ) (f : GroundFun) (u : Use) → IsInstanceOf p has.instances false (IsFine has.instances) (function_of f) f u → (t : Tour) → Each IsTyped t.found → Each IsTyped (in_instance fun f t).found
+  instance_typed : (fun : ℕ) (f : GroundFun) (u : Use) → IsInstanceOf p has.shaped.instances false (IsFine has.shaped.instances) (function_of f) f u → (t : Tour) → Each IsTyped t.found → Each IsTyped (in_instance fun f t).found
   instance_typed fun f u it t before =
-      let i : Instances = has.instances in
+      let i : Instances = has.shaped.instances in
       let nodes = nodes_of false it.has.typed.body in
       let taken : Passes i.mains i.helpers nodes (pending f.types f.calls) (pending [] []) =
       subst (λ types. Passes i.mains i.helpers nodes (pending types f.calls) (pending [] [])) (sym it.types) (passes_all i.mains i.helpers nodes f.calls it.calls) in
       (expr_visited p i fun IsTyped (λ e t block text. record { block = block; of_text = text }) it.has.functions false it.has.typed.body it.nodes (function_blocks p (function_of f) it.has.declared)
       (record { label = t.label + 1; types = f.types; calls = f.calls; found = t.found }) (pending [] []) taken).sites before
 
-  instances_typed : (fun : ℕ) (fs : List GroundFun) (us : List Use) → AreInstancesOf p has.instances false (λ u. IsFine has.instances) fs us → (t : Tour) → Each IsTyped t.found → Each IsTyped (in_instances fun fs t).found
+  instances_typed : (fun : ℕ) (fs : List GroundFun) (us : List Use) → AreInstancesOf p has.shaped.instances false (λ u. IsFine has.shaped.instances) fs us → (t : Tour) → Each IsTyped t.found → Each IsTyped (in_instances fun fs t).found
   instances_typed fun _ _ AreInstancesOf.none t before = before
   instances_typed fun _ _ (AreInstancesOf.more {f = f} {fs = fs} {u = u} {us = us} one others) t before = instances_typed (fun + 1) fs us others (in_instance fun f t) (instance_typed fun f u one t before)
 
@@ -55,4 +55,4 @@ module _ (p : Program) (g : GroundProgram) (has : HasInstances p g) where
   )
 
 pub sites_typed : SitesLaw
-sites_typed p g has = all_are p g has (sites_of g) (instances_typed p g has 0 g.funs has.instances.mains has.mains start tt) (sites_rests g) (sites_labelled g)
+sites_typed p g has = all_are p g has (sites_of g) (instances_typed p g has 0 g.funs has.shaped.instances.mains has.mains start tt) (sites_rests g) (sites_labelled g)

@@ -21,7 +21,7 @@ use Rattle.lk_types.specs.Each.{Each, OneOf}
 
 -- a typed block of an instance, one of the program's text
 pub record IsSiteOf (p : Program) (g : GroundProgram) (has : HasInstances p g) (site : Site) : Type 0 where
-  pub block : IsBlock p has.instances site.block site.types site.calls
+  pub block : IsBlock p has.shaped.instances site.block site.types site.calls
   pub of_text : OneOf (λ other. other ≡ site.block) (blocks_of p)
   -- what has the label is what begins where the block does, in that instance
   pub labelled : language.labelled g site.label ≡ Some (language.Site site.fun site.block.span.start)

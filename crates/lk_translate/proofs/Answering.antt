@@ -52,9 +52,9 @@ bag_kept p site query l _ is (keeps.query kept) = subst (KeepsBag p site.block) 
 bag_kept p site query l _ is (keeps.update layers test rows) = let wrong : false ≡ true = ap is_query is in absurd cc
 bag_kept p site query l _ is (keeps.delete layers test) = let wrong : false ≡ true = ap is_query is in absurd cc
 
-module _ (p : Program) (bound : IsBound p) (g : GroundProgram) (has : HasInstances p g) (site : Site) (block : IsBlock p has.instances site.block site.types site.calls) (query : Query) where
+module _ (p : Program) (bound : IsBound p) (g : GroundProgram) (has : HasInstances p g) (site : Site) (block : IsBlock p has.shaped.instances site.block site.types site.calls) (query : Query) where
   abbrev i : Instances
-  i = has.instances
+  i = has.shaped.instances
 
   -- what is found is this query
   found_is : (made : Inlined) → Some made ≡ Some (inlined.Query query) → made ≡ inlined.Query query

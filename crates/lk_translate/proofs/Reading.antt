@@ -111,9 +111,9 @@ pub labels_of_answer : (p : Program) (i : Instances) (block : Expr) (captured : 
 labels_of_answer p i block captured has tables are args so answer permuted =
     rows_have p i has.fields answer (all_fit_permuted p i (known.Fields has.fields) (bag p tables block args) (map row_value answer) (has.fit tables are args so) permuted)
 
-module _ (p : Program) (bound : IsBound p) (g : GroundProgram) (has : HasInstances p g) (site : Site) (block : IsBlock p has.instances site.block site.types site.calls) where
+module _ (p : Program) (bound : IsBound p) (g : GroundProgram) (has : HasInstances p g) (site : Site) (block : IsBlock p has.shaped.instances site.block site.types site.calls) where
   abbrev i : Instances
-  i = has.instances
+  i = has.shaped.instances
 
   module _ (keys : List SortKey) (body : Expr) (is : layer site.block ≡ Node-F.Query keys body) where
     abbrev xs : List Label
@@ -130,7 +130,7 @@ module _ (p : Program) (bound : IsBound p) (g : GroundProgram) (has : HasInstanc
     same : all ≡ map captured_as (types_of alone.names.kept)
     same =
         captured_are block.locals (query_uses body (drop 1 site.types)) xs alone.names
-        (λ x among. (uses_typed p i.helpers (length (functions_of p)) true alone.typed refl refl (all_early p i has.closed (nodes_of true alone.typed) alone.flat) (drop 1 site.types) site.calls block.after alone.takes x among).1)
+        (λ x among. (uses_typed p i.helpers (length (functions_of p)) true alone.typed refl refl (all_early p i has.shaped.closed (nodes_of true alone.typed) alone.flat) (drop 1 site.types) site.calls block.after alone.takes x among).1)
 
     query_rows : (tables : Tables) → AreTables p tables → (args : List Value) → AreCaptured all args → AllFit p i (bag p tables site.block args) alone.row
     query_rows tables are args so =
@@ -140,7 +140,7 @@ module _ (p : Program) (bound : IsBound p) (g : GroundProgram) (has : HasInstanc
         let fit : AreLocals p i kept names = kept_fit p i kept xs args alone.names.names distinct (captured_fit p i (types_of kept) args alone.names.flat (subst (λ cs. AreCaptured cs args) same so)) in
         let rows : AllFit p i (items (gives p tables body names)) alone.row =
         items_fit p i (gives p tables body names) alone.row
-        (bag_fits p i bound has.closed tables are block.functions kept only_scan body (known.List alone.row) alone.inside alone.typed refl refl alone.flat names fit) in
+        (bag_fits p i bound has.shaped.closed tables are block.functions kept only_scan body (known.List alone.row) alone.inside alone.typed refl refl alone.flat names fit) in
         let bags : bag p tables site.block args ≡ items (gives p tables body names) =
         ap (λ l. bag_by p tables site.block l args) is ∙ ap (λ l. items (gives p tables body (bind_each no_names (captured_by l) args))) is in
         subst (λ vs. AllFit p i vs alone.row) (sym bags) rows

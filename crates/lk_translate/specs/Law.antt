@@ -50,7 +50,7 @@ AnswersLegally p site query =
 -- So it is where the program's names are bound, its instances are a closed set, and what stands at the site is typed in one of them,
 -- if the types of the nodes from there on have their labels in order.
 abbrev pub AnswerLaw : Type 0
-AnswerLaw = (p : Program) → IsBound p → (g : GroundProgram) → (has : HasInstances p g) → (site : Site) → IsBlock p has.instances site.block site.types site.calls → Each IsProperType site.types
+AnswerLaw = (p : Program) → IsBound p → (g : GroundProgram) → (has : HasInstances p g) → (site : Site) → IsBlock p has.shaped.instances site.block site.types site.calls → Each IsProperType site.types
     → (query : Query) → inlined_at p g.helpers site ≡ Some (inlined.Query query) → AnswersLegally p site query
 
 -- ---- changes
@@ -77,7 +77,7 @@ module _ (p : Program) (site : Site) (change : InlinedChange) where
 -- So it is of a block of the program's text, if the types in the helpers have their labels in order, too.
 abbrev pub ChangeLaw : Type 0
 ChangeLaw = (p : Program) → IsBound p → (g : GroundProgram) → (has : HasInstances p g) → AreProper g.helpers
-    → (site : Site) → IsBlock p has.instances site.block site.types site.calls → OneOf (λ other. other ≡ site.block) (blocks_of p) → Each IsProperType site.types
+    → (site : Site) → IsBlock p has.shaped.instances site.block site.types site.calls → OneOf (λ other. other ≡ site.block) (blocks_of p) → Each IsProperType site.types
     → (change : InlinedChange) → inlined_at p g.helpers site ≡ Some (inlined.Change change) → ChangesLegally p site change (layer site.block)
 
 -- ---- well-formed SQL
@@ -94,7 +94,7 @@ IsGood p (inlined.Change change) = is_good_change (change_sql change) ≡ true
 
 abbrev pub GoodLaw : Type 0
 GoodLaw = (p : Program) → IsBound p → (g : GroundProgram) → (has : HasInstances p g) → AreProper g.helpers
-    → (site : Site) → IsBlock p has.instances site.block site.types site.calls → OneOf (λ other. other ≡ site.block) (blocks_of p) → Each IsProperType site.types
+    → (site : Site) → IsBlock p has.shaped.instances site.block site.types site.calls → OneOf (λ other. other ≡ site.block) (blocks_of p) → Each IsProperType site.types
     → (found : Inlined) → inlined_at p g.helpers site ≡ Some found → IsGood p found
 
 -- ---- programs

@@ -19,4 +19,4 @@ returns-clause-made c =
     let grounded = c.in_ok-ground.ensures.grounded in
     let translated : AreTranslated p g all = subst (λ q. AreTranslated q g all) grounded.program c.in_ok-translate.ensures.translated in
     let meant = c.translate_laws.ensures.translated p c.requires.typed.0 c.args.typed.now.schemes c.args.typed.now.types g grounded c.in_ok-ground.ensures.instances all translated in
-    (g, (grounded, c.in_ok-ground.ensures.keeps, c.in_ok-ground.ensures.plain, c.in_ok-ground.ensures.closed, c.in_ok-ground.ensures.instances), translated, meant, all_good p c.requires.columns g all meant)
+    (g, (grounded, c.in_ok-ground.ensures.keeps, c.in_ok-ground.ensures.plain, c.in_ok-ground.ensures.instances), translated, meant, all_good p c.requires.columns g all meant)

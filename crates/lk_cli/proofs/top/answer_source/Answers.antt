@@ -1,6 +1,10 @@
-use Rattle.std.proofs.Common.{inl, refl}
+use Rattle.std.proofs.Common.{inl, refl, subst, sym}
 use Rattle.lk_cli.proofs.Stages.{whole_answer}
+use Rattle.lk_sound.specs.Instances.{IsShaped}
 use Rattle.lk_cli.proofs.top.answer_source.Goals as goal
+
+pub answer_session-requires-clause-shaped : goal.answer_session-requires-clause-shaped
+answer_session-requires-clause-shaped g c = subst IsShaped (sym c.program.ensures.same) c.in-Ok.ensures.accepted.1.1.3.shaped
 
 pub returns-in-Ok-clause-answers : goal.returns-in-Ok-clause-answers
 returns-in-Ok-clause-answers g c =

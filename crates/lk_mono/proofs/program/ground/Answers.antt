@@ -25,11 +25,6 @@ returns-clause-keeps c =
     grounded_keeps c.ground_laws.ensures.instances c.args.program.now c.args.typed.now.schemes c.args.typed.now.types c.in_ok-ground_source.field-0
     (subst (λ p. IsGrounded p c.args.typed.now.schemes c.args.typed.now.types c.in_ok-ground_source.field-0) c.program-program.ensures.same c.in_ok-ground_source.ensures.grounded)
 
-pub returns-clause-closed : goal.returns-clause-closed
-returns-clause-closed c =
-    shaped c.principal_laws.ensures.used c.soundness_laws.ensures.instance c.args.program.now c.args.typed.now.schemes c.args.typed.now.types (rw c.program-program.ensures.same at c.program-program.ensures.bound) c.requires.typed c.in_ok-ground_source.field-0
-    (subst (λ p. IsGrounded p c.args.typed.now.schemes c.args.typed.now.types c.in_ok-ground_source.field-0) c.program-program.ensures.same c.in_ok-ground_source.ensures.grounded)
-
 pub returns-clause-instances : goal.returns-clause-instances
 returns-clause-instances c =
     instanced c.principal_laws.ensures.used c.soundness_laws.ensures.instance c.args.program.now c.args.typed.now.schemes c.args.typed.now.types (rw c.program-program.ensures.same at c.program-program.ensures.bound) c.requires.typed c.in_ok-ground_source.field-0
