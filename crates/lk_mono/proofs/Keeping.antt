@@ -4,7 +4,7 @@ use Rattle.std.proofs.lemmas.Option.{none-some}
 use Rattle.lk_ast.specs.Functions.{functions_of, function_named, is_named}
 use Rattle.lk_ast.specs.declared.declaration.FunDef.{FunDef}
 use Rattle.lk_ast.specs.declared.declaration.Program.{Program}
-use Rattle.lk_ground.specs.Language.{at_place, function_of}
+use Rattle.lk_ground.specs.Language.{at_place, function_of, instance}
 use Rattle.lk_ground.specs.Law.{AreInstances, InstancesLaw}
 use Rattle.lk_ground.specs.Sites.{PlacedUse, use_at, uses_in, outer_uses, labelled_in}
 use Rattle.lk_ground.specs.Standing.{IsCalled, StandsIn}
@@ -12,12 +12,14 @@ use Rattle.lk_ground.specs.UsesApart.{AreUsesApart}
 use Rattle.lk_ground.specs.declared.program.GroundFun.{GroundFun}
 use Rattle.lk_ground.specs.declared.program.GroundProgram.{GroundProgram}
 use Rattle.lk_index.specs.Places.{AreApart}
+use Rattle.lk_mono.proofs.MainFirst.{main_there}
 use Rattle.lk_mono.proofs.PlacedUses.{placed, node_placed, use_placed, outer_nodes, uses_placed, outer_placed}
 use Rattle.lk_mono.proofs.PlacesCalled.{sites, IsLed, places_called}
 use Rattle.lk_mono.specs.Grounded.{Are, IsInstance, IsGrounded}
 use Rattle.lk_mono.specs.Grounded as grounded
 use Rattle.lk_mono.specs.Instances.{Body, HasBody, IsBody, uses_of}
-use Rattle.lk_mono.specs.Keeps.{Keeps}
+use Rattle.lk_mono.specs.Keeps.{Keeps, KeepsSessions}
+use Rattle.lk_names.specs.Programs.{IsBound}
 use Rattle.lk_sound.specs.Nodes.{Use, TypedNode}
 use Rattle.lk_sound.proofs.Members.{each_of_in, found_in}
 use Rattle.lk_sound.specs.Within.{IsFunctionOf}
@@ -84,6 +86,10 @@ module _ {p : Program} {schemes : List Scheme} {types : List Ty} {u : Use} {node
 
 -- ---- the ground program
 
+-- the sessions that begin in its first instance are kept
+abbrev KeepsFirst : Program → GroundProgram → Type 0
+KeepsFirst p g = (main : GroundFun) → instance g 0 ≡ Some main → KeepsSessions p g main
+
 module _ (g : GroundProgram) (schemes : List Scheme) (types : List Ty) (mains helpers : List Body) where
   abbrev Have : Type 0
   Have = Each (HasBody g.program.now schemes types) mains
@@ -127,8 +133,8 @@ module _ (g : GroundProgram) (schemes : List Scheme) (types : List Ty) (mains he
     stand = λ i f at. stands funs apart f (body_of g.funs mains funs have i f at);
   }
 
-  keeps_itself : InstancesLaw → AreFuns → Have → Keeps g.program.now g
-  keeps_itself law funs have placed apart main is arg fuel = law g placed (are_instances funs have apart) main is arg fuel
+  keeps_itself : InstancesLaw → AreFuns → Have → KeepsFirst g.program.now g
+  keeps_itself law funs have main is placed apart arg fuel = law g placed (are_instances funs have apart) main is arg fuel
 
 pub instances_lemma : (g : GroundProgram) (p : Program) (schemes : List Scheme) (types : List Ty) (mains helpers : List Body) → g.program.now ≡ p
     → Are p (uses_of mains) (uses_of helpers) false g.funs mains → Each (HasBody p schemes types) mains → AreUsesApart p → AreInstances g
@@ -136,11 +142,13 @@ instances_lemma g p schemes types mains helpers is =
     subst (λ q. Are q (uses_of mains) (uses_of helpers) false g.funs mains → Each (HasBody q schemes types) mains → AreUsesApart q → AreInstances g) is
     (are_instances g schemes types mains helpers)
 
-pub keeps_lemma : InstancesLaw → (g : GroundProgram) (p : Program) (schemes : List Scheme) (types : List Ty) (mains helpers : List Body) → g.program.now ≡ p
-    → Are p (uses_of mains) (uses_of helpers) false g.funs mains → Each (HasBody p schemes types) mains → Keeps p g
+keeps_lemma : InstancesLaw → (g : GroundProgram) (p : Program) (schemes : List Scheme) (types : List Ty) (mains helpers : List Body) → g.program.now ≡ p
+    → Are p (uses_of mains) (uses_of helpers) false g.funs mains → Each (HasBody p schemes types) mains → KeepsFirst p g
 keeps_lemma law g p schemes types mains helpers is =
-    subst (λ q. Are q (uses_of mains) (uses_of helpers) false g.funs mains → Each (HasBody q schemes types) mains → Keeps q g) is
+    subst (λ q. Are q (uses_of mains) (uses_of helpers) false g.funs mains → Each (HasBody q schemes types) mains → KeepsFirst q g) is
     (keeps_itself g schemes types mains helpers law)
 
-pub grounded_keeps : InstancesLaw → (p : Program) (schemes : List Scheme) (types : List Ty) (g : GroundProgram) → IsGrounded p schemes types g → Keeps p g
-grounded_keeps law p schemes types g is = keeps_lemma law g p schemes types is.mains is.helpers is.program is.funs is.instances.main_bodies
+pub grounded_keeps : InstancesLaw → (p : Program) (schemes : List Scheme) (types : List Ty) → IsBound p → (g : GroundProgram) → IsGrounded p schemes types g → Keeps p g
+grounded_keeps law p schemes types bound g is =
+    let (main, first) = main_there p schemes types bound g is in
+    (main, first, keeps_lemma law g p schemes types is.mains is.helpers is.program is.funs is.instances.main_bodies main first.0)

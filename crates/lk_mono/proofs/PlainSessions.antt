@@ -17,7 +17,7 @@ use Rattle.lk_evaluation.specs.Run.{Run, Entry, Out, Goes, Stops, events_of, sta
 use Rattle.lk_evaluation.specs.Source.{session}
 use Rattle.lk_ground.proofs.AlikePlain.{plain_events}
 use Rattle.lk_ground.specs.Alike.{Alike}
-use Rattle.lk_ground.specs.Language.{function_of, instance}
+use Rattle.lk_ground.specs.Language.{function_of}
 use Rattle.lk_ground.specs.declared.program.GroundFun.{GroundFun}
 use Rattle.lk_ground.specs.declared.program.GroundProgram.{GroundProgram}
 use Rattle.lk_ground_types.proofs.Parts.{same_some}
@@ -78,6 +78,10 @@ of_out : (out : Out Value) → IsPlainOut out → Each IsPlainEvent (events_of (
 of_out (Goes v last) plain = plain.1
 of_out (Stops stop last) plain = plain
 
-pub same_events : (p : Program) (g : GroundProgram) → Keeps p g → ShowsPlain p → ((main : GroundFun) → instance g 0 ≡ Some main → main_of p ≡ Some (function_of main)) → SameEvents p g
-same_events p g keeps shows first apart uses main is arg fuel answers answered =
-    plain_events g Value Value (Alike g) _ _ (keeps apart.placed uses main is arg fuel answers) (of_out _ (shows apart (function_of main) (first main is) arg fuel answers answered))
+pub same_events : (p : Program) (g : GroundProgram) → Keeps p g → ShowsPlain p → SameEvents p g
+same_events p g (main, first, keeps) shows = (
+  main,
+  first,
+  λ apart uses arg fuel answers answered.
+      plain_events g Value Value (Alike g) _ _ (keeps apart.placed uses arg fuel answers) (of_out _ (shows apart (function_of main) first.1 arg fuel answers answered)),
+)

@@ -2,7 +2,6 @@ use Rattle.std.proofs.Common.{subst}
 use Rattle.std.proofs.lemmas.Result.{err_from_is_err_and}
 use Rattle.lk_mono.proofs.Closed.{instanced, shaped}
 use Rattle.lk_mono.proofs.Keeping.{grounded_keeps}
-use Rattle.lk_mono.proofs.MainFirst.{main_first}
 use Rattle.lk_mono.proofs.PlainSessions.{same_events, shows_plain}
 use Rattle.lk_mono.proofs.Ranks.{none_calls_itself, ranked}
 use Rattle.lk_mono.proofs.Walking.{handed_on}
@@ -22,7 +21,7 @@ returns-in_err-ground_source-clause-shape c kind at is = subst (λ p. HasFault p
 
 pub returns-clause-keeps : goal.returns-clause-keeps
 returns-clause-keeps c =
-    grounded_keeps c.ground_laws.ensures.instances c.args.program.now c.args.typed.now.schemes c.args.typed.now.types c.in_ok-ground_source.field-0
+    grounded_keeps c.ground_laws.ensures.instances c.args.program.now c.args.typed.now.schemes c.args.typed.now.types (rw c.program-program.ensures.same at c.program-program.ensures.bound) c.in_ok-ground_source.field-0
     (subst (λ p. IsGrounded p c.args.typed.now.schemes c.args.typed.now.types c.in_ok-ground_source.field-0) c.program-program.ensures.same c.in_ok-ground_source.ensures.grounded)
 
 pub returns-clause-instances : goal.returns-clause-instances
@@ -41,10 +40,9 @@ returns-clause-events c =
     let bound = rw c.program-program.ensures.same at c.program-program.ensures.bound in
     let grounded = subst (λ p. IsGrounded p c.args.typed.now.schemes c.args.typed.now.types c.in_ok-ground_source.field-0) c.program-program.ensures.same c.in_ok-ground_source.ensures.grounded in
     same_events c.args.program.now c.in_ok-ground_source.field-0
-    (grounded_keeps c.ground_laws.ensures.instances c.args.program.now c.args.typed.now.schemes c.args.typed.now.types c.in_ok-ground_source.field-0 grounded)
+    (grounded_keeps c.ground_laws.ensures.instances c.args.program.now c.args.typed.now.schemes c.args.typed.now.types bound c.in_ok-ground_source.field-0 grounded)
     (shows_plain c.soundness_laws.ensures.session c.soundness_laws.ensures.plain c.args.program.now
     (shaped c.principal_laws.ensures.used c.soundness_laws.ensures.instance c.args.program.now c.args.typed.now.schemes c.args.typed.now.types bound c.requires.typed c.in_ok-ground_source.field-0 grounded))
-    (main_first c.args.program.now c.args.typed.now.schemes c.args.typed.now.types bound c.in_ok-ground_source.field-0 grounded)
 
 pub returns-clause-ranked : goal.returns-clause-ranked
 returns-clause-ranked c =
