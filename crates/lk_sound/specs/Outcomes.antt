@@ -18,13 +18,14 @@ Allows p effects (event.Write e) = (effects effect.Write ≡ true) × IsWriting 
 Allows p effects event.Enter = Unit {0}
 Allows p effects event.Leave = Unit {0}
 
--- a trap comes only with `trap`, a reading waits only with `scan`, and the want of a rule never comes
+-- A trap comes only with `trap`, and a reading waits only with `scan`. The want of a rule never comes, and nothing is asked of the
+-- client, which is so only in an evaluation over what it returned.
 abbrev pub MayStop : Program → EffectSet → Stop → Type 0
 MayStop p effects (Trapped trap) = effects effect.Trap ≡ true
 MayStop p effects (Waiting site args) = (effects effect.Scan ≡ true) × IsReading p site args
 MayStop p effects (Stuck at) = ⊥
 MayStop p effects Spent = Unit {0}
-MayStop p effects (Asked callee args) = Unit {0}
+MayStop p effects (Asked callee args) = ⊥
 
 -- a whole evaluation goes on from a run to another: behind the first log is only what the effects allow
 pub record Happens (p : Program) (effects : EffectSet) (before after : Run) : Type 0 where
