@@ -1,4 +1,4 @@
-//! Why a well typed program never lacks a rule, and shows no effects but those of its types.
+//! Why a program whose instances are a closed set never lacks a rule, and shows no effects but those of its types.
 //!
 //! `specs/Values` says which values have a type, `specs/Outcomes` what an evaluation with some effects may come to;
 //! `soundness_laws` says that what has a type comes to such an outcome.
