@@ -27,7 +27,7 @@ use Rattle.lk_mono.proofs.Ranks.{lower}
 use Rattle.lk_ground.specs.Language.{function_of as function_in}
 use Rattle.lk_mono.specs.Grounded.{Are, AreCalled, IsGrounded, IsInstance}
 use Rattle.lk_mono.specs.Held.{types_in}
-use Rattle.lk_mono.specs.Instanced.{AreInstancesOf, HasInstances, IsInstanceOf}
+use Rattle.lk_mono.specs.Instanced.{AreInstancesOf, HasInstances, IsInstanceOf, nodes_in}
 use Rattle.lk_mono.specs.Grounded as grounded
 use Rattle.lk_mono.specs.Instances.{Body, HasBody as HasNodes, IsBody, IsDone, IsMain, IsWalked, Turn, Wanted, uses_of}
 use Rattle.lk_mono.specs.Shapes.{AreShaped, IsFaultless, IsNotFlat, IsShaped as AllFaultless, IsUsedBy, answer_level, answers_function}
@@ -41,7 +41,7 @@ use Rattle.lk_principal.specs.Bodies.{IsSeenBy}
 use Rattle.lk_principal.specs.Law.{UseLaw}
 use Rattle.lk_sound.proofs.Apart.{functions_apart}
 use Rattle.lk_sound.proofs.FlatTypes.{second_holds}
-use Rattle.lk_sound.proofs.Members.{each_in, found_in}
+use Rattle.lk_sound.proofs.Members.{each_in, found_in, one_in_back, one_in_front}
 use Rattle.lk_sound.specs.Functions.{AreSeen, HasFunctionType}
 use Rattle.lk_sound.specs.Instances.{AreClosed, HasBody, Instances, IsFine, IsFlatBlock, IsFlatPart, IsHelperNode, IsListed, IsShaped, number_in, number_of}
 use Rattle.lk_sound.specs.Law.{InstanceLaw}
@@ -152,6 +152,15 @@ flat_parts : (helpers : List Use) (parts : List Part) → Each IsFlat parts → 
 flat_parts helpers [] flat uses = tt
 flat_parts helpers (part ∷ parts) flat uses = (record { type = flat_type part.type _ flat.0; compares = second_holds (is_query_type part.type) _ flat.0; calls = uses.0 }, flat_parts helpers parts flat.1 uses.1)
 
+-- those of the one list are some of the other
+abbrev AreAmong : List TypedNode → List TypedNode → Type 0
+AreAmong nodes all = (node : TypedNode) → OneOf (λ other. other ≡ node) nodes → OneOf (λ other. other ≡ node) all
+
+-- the nodes of bodies, one body after another
+abbrev all_nodes : List Body → List TypedNode
+all_nodes [] = []
+all_nodes (body ∷ bodies) = body.nodes ++ all_nodes bodies
+
 module _ (bodies : List Body) where
   flat_block : (node : TypedNode) → IsFaultless bodies node → BlockUses (IsListed (uses_of bodies)) node → (block : Block) → node.block ≡ Some block → IsFlatBlock (uses_of bodies) block
   flat_block node faultless uses block is =
@@ -161,14 +170,16 @@ module _ (bodies : List Body) where
         captured = all_hold is_flat block.captured (λ one. faultless QueryCapture (shapes.Fault.captures is isnt one));
       }
 
-  module _ (mains : List Use) where
+  module _ (mains : List Use) (all : List TypedNode) where
     abbrev the_set : Instances
-    the_set = record { mains = mains; helpers = uses_of bodies }
+    the_set = record { mains = mains; nodes = all; helpers = uses_of bodies }
 
-    fine_nodes : (nodes : List TypedNode) → Each (IsPlacedUse mains (uses_of bodies) false) nodes → Each (IsFaultless bodies) nodes → Each (BlockUses (IsListed (uses_of bodies))) nodes → Each (IsFine the_set) nodes
-    fine_nodes [] uses faultless blocks = tt
-    fine_nodes (node ∷ nodes) uses faultless blocks =
-        (record { calls = outside_listed mains (uses_of bodies) node uses.0; flat = flat_block node faultless.0 blocks.0 }, fine_nodes nodes uses.1 faultless.1 blocks.1)
+    fine_nodes : (nodes : List TypedNode) → AreAmong nodes all → Each (IsPlacedUse mains (uses_of bodies) false) nodes → Each (IsFaultless bodies) nodes → Each (BlockUses (IsListed (uses_of bodies))) nodes → Each (IsFine the_set) nodes
+    fine_nodes [] among uses faultless blocks = tt
+    fine_nodes (node ∷ nodes) among uses faultless blocks = (
+      record { listed = among node (inl refl); calls = outside_listed mains (uses_of bodies) node uses.0; flat = flat_block node faultless.0 blocks.0 },
+      fine_nodes nodes (λ other one. among other (inr one)) uses.1 faultless.1 blocks.1,
+    )
 
 -- ---- the set
 
@@ -176,39 +187,48 @@ each_inside : (mains helpers : List Use) (nodes : List TypedNode) → Each (IsPl
 each_inside mains helpers [] all = tt
 each_inside mains helpers (node ∷ nodes) all = (inside_listed mains helpers node all.0, each_inside mains helpers nodes all.1)
 
-module _ (use_law : UseLaw) (p : Program) (schemes : List Scheme) (types : List Ty) (has : HasTypes p schemes types) (bound : IsBound p) (helpers : List Body) (mains : List Use) where
-  main_nodes : (u : Use) (nodes : List TypedNode) → IsBody p schemes types u nodes → Each (IsFaultless helpers) nodes → Each (IsPlacedUse mains (uses_of helpers) false) nodes → Each (IsFine (the_set helpers mains)) nodes
-  main_nodes u nodes body faultless uses =
-      fine_nodes helpers mains nodes uses faultless
+own_among : (body : Body) (bodies : List Body) (every : List TypedNode) → AreAmong (all_nodes (body ∷ bodies)) every → AreAmong body.nodes every
+own_among body bodies every among node one = among node (one_in_front (λ other. other ≡ node) body.nodes (all_nodes bodies) one)
+
+other_among : (body : Body) (bodies : List Body) (every : List TypedNode) → AreAmong (all_nodes (body ∷ bodies)) every → AreAmong (all_nodes bodies) every
+other_among body bodies every among node one = among node (one_in_back (λ other. other ≡ node) body.nodes (all_nodes bodies) one)
+
+module _ (use_law : UseLaw) (p : Program) (schemes : List Scheme) (types : List Ty) (has : HasTypes p schemes types) (bound : IsBound p) (helpers : List Body) (mains : List Use) (every : List TypedNode) where
+  main_nodes : (u : Use) (nodes : List TypedNode) → IsBody p schemes types u nodes → AreAmong nodes every → Each (IsFaultless helpers) nodes → Each (IsPlacedUse mains (uses_of helpers) false) nodes → Each (IsFine (the_set helpers mains every)) nodes
+  main_nodes u nodes body among faultless uses =
+      fine_nodes helpers mains every nodes among uses faultless
       (subst (Each (BlockUses (IsListed (uses_of helpers)))) (sym body.are)
       (part_uses (IsListed (uses_of helpers)) false body.typed.is.typed.body (subst (Each (UsesInside (IsListed (uses_of helpers)))) body.are (each_inside mains (uses_of helpers) nodes uses))))
 
-  all_mains : (fs : List GroundFun) (bodies : List Body) → Are p mains (uses_of helpers) false fs bodies → Each (HasNodes p schemes types) bodies → Each (AllFaultless helpers) bodies
-      → Each (HasBody p (IsFine (the_set helpers mains))) (uses_of bodies)
-  all_mains _ _ Are.none have shaped = tt
-  all_mains _ _ (Are.more {f} {fs} {body} {bodies} is others) have shaped =
-      (has_body has (IsFine (the_set helpers mains)) have.0 (main_nodes body.use_of body.nodes have.0 shaped.0 (placed_uses mains (uses_of helpers) false body.nodes f.calls is.calls)), all_mains fs bodies others have.1 shaped.1)
+  all_mains : (fs : List GroundFun) (bodies : List Body) → Are p mains (uses_of helpers) false fs bodies → Each (HasNodes p schemes types) bodies → AreAmong (all_nodes bodies) every → Each (AllFaultless helpers) bodies
+      → Each (HasBody p (IsFine (the_set helpers mains every))) (uses_of bodies)
+  all_mains _ _ Are.none have among shaped = tt
+  all_mains _ _ (Are.more {f} {fs} {body} {bodies} is others) have among shaped =
+      (has_body has (IsFine (the_set helpers mains every)) have.0 (main_nodes body.use_of body.nodes have.0 (own_among body bodies every among) shaped.0 (placed_uses mains (uses_of helpers) false body.nodes f.calls is.calls)), all_mains fs bodies others have.1 (other_among body bodies every among) shaped.1)
 
-  -- an instance, of which its types and calls are told
+  -- an instance, of which its types and calls are told, with these nodes in its body
   instance_of : {f : GroundFun} {body : Body} (in_helper : Bool) (P : TypedNode → Type 0) → IsInstance p mains (uses_of helpers) in_helper f body → (its : IsBody p schemes types body.use_of body.nodes) → Each P body.nodes
-      → IsInstanceOf p (the_set helpers mains) in_helper P (function_in f) f body.use_of
+      → (it : IsInstanceOf p (the_set helpers mains every) in_helper P (function_in f) f body.use_of) × (body.nodes ≡ nodes_of false it.has.typed.body)
   unfolding typed_there
   instance_of {f = f} {body = body} in_helper P is its all =
-      subst (λ function. IsInstanceOf p (the_set helpers mains) in_helper P function f body.use_of) (same_some (sym its.named ∙ is.function))
-      (record {
-        named = its.named;
-        has = typed_there has its;
-        nodes = subst (Each P) its.are all;
-        types = is.types ∙ ap types_in its.are;
-        calls = subst (λ nodes. AreCalled mains (uses_of helpers) in_helper nodes f.calls) its.are is.calls;
-      })
+      subst (λ function. (it : IsInstanceOf p (the_set helpers mains every) in_helper P function f body.use_of) × (body.nodes ≡ nodes_of false it.has.typed.body)) (same_some (sym its.named ∙ is.function)) (
+        record {
+          named = its.named;
+          has = typed_there has its;
+          nodes = subst (Each P) its.are all;
+          types = is.types ∙ ap types_in its.are;
+          calls = subst (λ nodes. AreCalled mains (uses_of helpers) in_helper nodes f.calls) its.are is.calls;
+        },
+        its.are,
+      )
 
-  main_instances : (fs : List GroundFun) (bodies : List Body) → Are p mains (uses_of helpers) false fs bodies → Each (HasNodes p schemes types) bodies → Each (AllFaultless helpers) bodies
-      → AreInstancesOf p (the_set helpers mains) false (λ u. IsFine (the_set helpers mains)) fs (uses_of bodies)
-  main_instances _ _ Are.none have shaped = AreInstancesOf.none
-  main_instances _ _ (Are.more {f} {fs} {body} {bodies} is others) have shaped =
-      AreInstancesOf.more (instance_of false (IsFine (the_set helpers mains)) is have.0 (main_nodes body.use_of body.nodes have.0 shaped.0 (placed_uses mains (uses_of helpers) false body.nodes f.calls is.calls)))
-      (main_instances fs bodies others have.1 shaped.1)
+  main_instances : (fs : List GroundFun) (bodies : List Body) → Are p mains (uses_of helpers) false fs bodies → Each (HasNodes p schemes types) bodies → AreAmong (all_nodes bodies) every → Each (AllFaultless helpers) bodies
+      → (are : AreInstancesOf p (the_set helpers mains every) false (λ u. IsFine (the_set helpers mains every)) fs (uses_of bodies)) × (all_nodes bodies ≡ nodes_in are)
+  main_instances _ _ Are.none have among shaped = (AreInstancesOf.none, refl)
+  main_instances _ _ (Are.more {f} {fs} {body} {bodies} is others) have among shaped =
+      let (one, own) = instance_of false (IsFine (the_set helpers mains every)) is have.0 (main_nodes body.use_of body.nodes have.0 (own_among body bodies every among) shaped.0 (placed_uses mains (uses_of helpers) false body.nodes f.calls is.calls)) in
+      let (rest, same) = main_instances fs bodies others have.1 (other_among body bodies every among) shaped.1 in
+      (AreInstancesOf.more one rest, ap₂ (λ xs ys. xs ++ ys) own same)
 
   -- ---- helpers
 
@@ -245,12 +265,12 @@ module _ (use_law : UseLaw) (p : Program) (schemes : List Scheme) (types : List 
 
   helper_instances : Each (HasNodes p schemes types) helpers → (fs : List GroundFun) (bodies : List Body) → Are p mains (uses_of helpers) true fs bodies → Each (HasNodes p schemes types) bodies
       → ((body : Body) → OneOf (λ b. b ≡ body) bodies → OneOf (λ b. b ≡ body) helpers) → Each (IsGood helpers) (uses_of bodies)
-      → AreInstancesOf p (the_set helpers mains) true (λ u. IsHelperNode p (uses_of helpers) u) fs (uses_of bodies)
+      → AreInstancesOf p (the_set helpers mains every) true (λ u. IsHelperNode p (uses_of helpers) u) fs (uses_of bodies)
   helper_instances all _ _ Are.none have among good = AreInstancesOf.none
   helper_instances all _ _ (Are.more {f} {fs} {body} {bodies} is others) have among good =
       AreInstancesOf.more
       (instance_of true (IsHelperNode p (uses_of helpers) body.use_of) is have.0
-      (helper_nodes have.0 good.0.0 all body.nodes (λ w one. one) (good.0.1 body.use_of body.nodes shapes.Reaches.itself (among body (inl refl))) (placed_uses mains (uses_of helpers) true body.nodes f.calls is.calls)))
+      (helper_nodes have.0 good.0.0 all body.nodes (λ w one. one) (good.0.1 body.use_of body.nodes shapes.Reaches.itself (among body (inl refl))) (placed_uses mains (uses_of helpers) true body.nodes f.calls is.calls))).0
       (helper_instances all fs bodies others have.1 (λ b one. among b (inr one)) good.1)
 
 -- ---- the first instance
@@ -273,10 +293,10 @@ answers params effects answer t is none = sym (ap answers_function is ∙ ap ans
 module _ (use_law : UseLaw) (instance_law : InstanceLaw) (p : Program) (schemes : List Scheme) (types : List Ty) (bound : IsBound p) (has : HasTypes p schemes types) where
   closed : (mains helpers : List Body) (funs others : List GroundFun) → Are p (uses_of mains) (uses_of helpers) false funs mains → Are p (uses_of mains) (uses_of helpers) true others helpers
       → Each (HasNodes p schemes types) mains → Each (HasNodes p schemes types) helpers → Each (AllFaultless helpers) mains → Each (IsGood helpers) (uses_of helpers)
-      → AreClosed p (the_set helpers (uses_of mains))
+      → AreClosed p (the_set helpers (uses_of mains) (all_nodes mains))
   closed mains helpers funs others are_funs are_others main_bodies helper_bodies shaped good = record {
-    mains = all_mains use_law p schemes types has bound helpers (uses_of mains) funs mains are_funs main_bodies shaped;
-    helpers = all_helpers use_law p schemes types has bound helpers (uses_of mains) helper_bodies others helpers are_others helper_bodies (λ body one. one) good;
+    mains = all_mains use_law p schemes types has bound helpers (uses_of mains) (all_nodes mains) funs mains are_funs main_bodies (λ node one. one) shaped;
+    helpers = all_helpers use_law p schemes types has bound helpers (uses_of mains) (all_nodes mains) helper_bodies others helpers are_others helper_bodies (λ body one. one) good;
   }
 
   pub instanced : (g : GroundProgram) → IsGrounded p schemes types g → HasInstances p g
@@ -294,7 +314,7 @@ module _ (use_law : UseLaw) (instance_law : InstanceLaw) (p : Program) (schemes 
           let typed : HasFunctionType p first.function u.type = instance_law p schemes (inferred_principal p schemes types has).typed first.number first.function first.scheme least u.type first.is first.has first.instance in
           let (effects, answer, of) = is_of_text p schemes types passes typed.typed in
           record {
-            instances = the_set is.helpers (uses_of is.mains);
+            instances = the_set is.helpers (uses_of is.mains) (all_nodes is.mains);
             closed = closed is.mains is.helpers g.funs g.helpers is.funs is.others is.instances.main_bodies is.instances.helper_bodies each (good each);
             main = first.function;
             is = first.main;
@@ -304,11 +324,15 @@ module _ (use_law : UseLaw) (instance_law : InstanceLaw) (p : Program) (schemes 
             plain = answers (known.Text ∷ []) effects answer u.type of (ap (λ (w : Use). answers_function w.type) its ∙ none);
           }
 
+      mains : (each : Each (AllFaultless is.helpers) is.mains) → (are : AreInstancesOf p (the_set is.helpers (uses_of is.mains) (all_nodes is.mains)) false (λ u. IsFine (the_set is.helpers (uses_of is.mains) (all_nodes is.mains))) g.funs (uses_of is.mains)) × (all_nodes is.mains ≡ nodes_in are)
+      mains each = main_instances use_law p schemes types has bound is.helpers (uses_of is.mains) (all_nodes is.mains) g.funs is.mains is.funs is.instances.main_bodies (λ node one. one) each
+
       from_first : (body : Body) (others : List Body) → is.mains ≡ body ∷ others → answers_function body.use_of.type ≡ false → Each (AllFaultless is.helpers) is.mains → HasInstances p g
       from_first body others same none each = record {
         shaped = at_first body others same none each;
-        mains = main_instances use_law p schemes types has bound is.helpers (uses_of is.mains) g.funs is.mains is.funs is.instances.main_bodies each;
-        helpers = helper_instances use_law p schemes types has bound is.helpers (uses_of is.mains) is.instances.helper_bodies g.helpers is.helpers is.others is.instances.helper_bodies (λ body one. one) (good each);
+        mains = (mains each).0;
+        nodes = (mains each).1;
+        helpers = helper_instances use_law p schemes types has bound is.helpers (uses_of is.mains) (all_nodes is.mains) is.instances.helper_bodies g.helpers is.helpers is.others is.instances.helper_bodies (λ body one. one) (good each);
       }
 
   pub shaped : (g : GroundProgram) → IsGrounded p schemes types g → IsShaped p

@@ -43,24 +43,24 @@ written_plain p site args (IsWriting.insert block t e def rows found inserts at 
 written_plain p site args (IsWriting.update block change def found updates at plain fit) = plain
 written_plain p site args (IsWriting.delete block change def found deletes at plain) = plain
 
-module _ (p : Program) (effects : EffectSet) where
-  event_plain : (e : Event) → Allows p effects e → IsPlainEvent e
+module _ (p : Program) (i : Instances) (effects : EffectSet) where
+  event_plain : (e : Event) → Allows p i effects e → IsPlainEvent e
   event_plain (event.Print bytes) allowed = tt
   event_plain event.Enter allowed = tt
   event_plain event.Leave allowed = tt
   event_plain (event.Read read) allowed = allowed.1.plain
   event_plain (event.Write write) allowed = written_plain p write.site write.args allowed.1
 
-  events_plain : (entries : List Entry) → Each (λ (entry : Entry). Allows p effects entry.event) entries → Each IsPlainEvent (events_of entries)
+  events_plain : (entries : List Entry) → Each (λ (entry : Entry). Allows p i effects entry.event) entries → Each IsPlainEvent (events_of entries)
   events_plain [] all = tt
   events_plain (entry ∷ entries) all = (event_plain entry.event all.0, events_plain entries all.1)
 
-  log_plain : (before last : Run) → before.log ≡ [] → Happens p effects before last → Each IsPlainEvent (events_of last.log)
+  log_plain : (before last : Run) → before.log ≡ [] → Happens p i effects before last → Each IsPlainEvent (events_of last.log)
   log_plain before last empty happens = subst (λ log. Each IsPlainEvent (events_of log)) (sym (happens.log ∙ ap (λ log. log ++ happens.more) empty)) (events_plain happens.more happens.allowed)
 
-  module _ (plain_law : PlainLaw) (set : Instances) (answer : Ground) (none : has_function answer ≡ false) where
-    out_plain : (before : Run) → before.log ≡ [] → (out : Out Value) → IsOutcome p effects (λ v. Fits p set v answer) before out → IsPlainOut out
-    out_plain before empty (Goes v last) outcome = (plain_law p set answer v outcome.0 none, log_plain before last empty outcome.1)
+  module _ (plain_law : PlainLaw) (answer : Ground) (none : has_function answer ≡ false) where
+    out_plain : (before : Run) → before.log ≡ [] → (out : Out Value) → IsOutcome p i effects (λ v. Fits p i v answer) before out → IsPlainOut out
+    out_plain before empty (Goes v last) outcome = (plain_law p i answer v outcome.0 none, log_plain before last empty outcome.1)
     out_plain before empty (Stops stop last) outcome = log_plain before last empty outcome.1
 
 -- ---- sessions
@@ -70,7 +70,7 @@ module _ (session_law : SessionLaw) (plain_law : PlainLaw) (p : Program) (shaped
   shows_plain apart main is arg fuel answers answered =
       let same : shaped.main ≡ main = same_some (sym shaped.is ∙ is) in
       subst (λ f. AreAnswered p (session p f arg (start fuel answers)) → IsPlainOut (session p f arg (start fuel answers))) same
-      (λ of_it. out_plain p shaped.effects plain_law shaped.instances shaped.answer shaped.plain (start fuel answers) refl (session p shaped.main arg (start fuel answers)) (session_law p apart shaped arg (start fuel answers) refl of_it))
+      (λ of_it. out_plain p shaped.instances shaped.effects plain_law shaped.answer shaped.plain (start fuel answers) refl (session p shaped.main arg (start fuel answers)) (session_law p apart shaped arg (start fuel answers) refl of_it))
       answered
 
 -- the events of what shows no function

@@ -85,24 +85,24 @@ plain_args p site args (sound.IsWriting.insert b t e def rows found is declared 
 plain_args p site args (sound.IsWriting.update b change def found is declared plain fit) = plain
 plain_args p site args (sound.IsWriting.delete b change def found is declared plain) = plain
 
-plain_event : (p : Program) (effects : EffectSet) (e : Event) → Allows p effects e → IsPlainEvent e
-plain_event p effects (Print bytes) h = tt
-plain_event p effects Enter h = tt
-plain_event p effects Leave h = tt
-plain_event p effects (Read e) h = h.1.plain
-plain_event p effects (Write e) h = plain_args p e.site e.args h.1
+plain_event : (p : Program) (i : Instances) (effects : EffectSet) (e : Event) → Allows p i effects e → IsPlainEvent e
+plain_event p i effects (Print bytes) h = tt
+plain_event p i effects Enter h = tt
+plain_event p i effects Leave h = tt
+plain_event p i effects (Read e) h = h.1.plain
+plain_event p i effects (Write e) h = plain_args p e.site e.args h.1
 
-plain_events : (p : Program) (effects : EffectSet) (events : List Event) → Each (Allows p effects) events → Each IsPlainEvent events
-plain_events p effects [] all = tt
-plain_events p effects (e ∷ events) all = (plain_event p effects e all.0, plain_events p effects events all.1)
+plain_events : (p : Program) (i : Instances) (effects : EffectSet) (events : List Event) → Each (Allows p i effects) events → Each IsPlainEvent events
+plain_events p i effects [] all = tt
+plain_events p i effects (e ∷ events) all = (plain_event p i effects e all.0, plain_events p i effects events all.1)
 
 -- a run without events
 pub shows_start : (m : Machine) (fuel : ℕ) (answers : List (List Row)) → m.log ≡ [] → m.fuel ≡ fuel → Shows m (start fuel answers)
 shows_start m fuel answers none is = record { fuel = sym is; log = sym none; whole = refl }
 
-all_allowed : (p : Program) (effects : EffectSet) (fuel : ℕ) (answers : List (List Row)) (out : Out Value) → IsOutcome p effects (λ v. holds_function v ≡ false) (start fuel answers) out → Each (λ (entry : Entry). Allows p effects entry.event) (run_of out).log
-all_allowed p effects fuel answers (Goes v s) h = subst (Each (λ (entry : Entry). Allows p effects entry.event)) (sym h.1.log) h.1.allowed
-all_allowed p effects fuel answers (Stops stop s) h = subst (Each (λ (entry : Entry). Allows p effects entry.event)) (sym h.1.log) h.1.allowed
+all_allowed : (p : Program) (i : Instances) (effects : EffectSet) (fuel : ℕ) (answers : List (List Row)) (out : Out Value) → IsOutcome p i effects (λ v. holds_function v ≡ false) (start fuel answers) out → Each (λ (entry : Entry). Allows p i effects entry.event) (run_of out).log
+all_allowed p i effects fuel answers (Goes v s) h = subst (Each (λ (entry : Entry). Allows p i effects entry.event)) (sym h.1.log) h.1.allowed
+all_allowed p i effects fuel answers (Stops stop s) h = subst (Each (λ (entry : Entry). Allows p i effects entry.event)) (sym h.1.log) h.1.allowed
 
 -- ---- states
 
@@ -122,21 +122,21 @@ module _ (p : Program) (first m : Machine) (o : Run → Out Value) (fuel : ℕ) 
   pub keeps : Kept here.0.log (run_of whole)
   keeps = subst (λ (x : Out Value). Kept here.0.log (run_of x)) (sym here.3) (state_keeps here.0.log p m.stack next here.0 (kept_itself here.0.log here.0 here.1.whole here.2 refl)).kept
 
-  outcome_here : IsOutcome p sound.effects (λ v. holds_function v ≡ false) (start fuel (answers_in m.log)) whole
+  outcome_here : IsOutcome p sound.instances sound.effects (λ v. holds_function v ≡ false) (start fuel (answers_in m.log)) whole
   outcome_here = sound.outcome (answers_in m.log) (answered_with here.0.log (subst (Each (IsAnswered p)) (sym here.1.log) answered) keeps)
 
-  allowed : Each (λ (entry : Entry). Allows p sound.effects entry.event) (run_of whole).log
-  allowed = all_allowed p sound.effects fuel (answers_in m.log) whole outcome_here
+  allowed : Each (λ (entry : Entry). Allows p sound.instances sound.effects entry.event) (run_of whole).log
+  allowed = all_allowed p sound.instances sound.effects fuel (answers_in m.log) whole outcome_here
 
   -- no function is shown in the events so far
   pub plain_here : Each IsPlainEvent m.log
   plain_here =
-      let front = each_front (λ (entry : Entry). Allows p sound.effects entry.event) here.0.log keeps.more (subst (Each (λ (entry : Entry). Allows p sound.effects entry.event)) keeps.is allowed) in
-      plain_events p sound.effects m.log (subst (Each (Allows p sound.effects)) here.1.log (events_are (Allows p sound.effects) here.0.log front))
+      let front = each_front (λ (entry : Entry). Allows p sound.instances sound.effects entry.event) here.0.log keeps.more (subst (Each (λ (entry : Entry). Allows p sound.instances sound.effects entry.event)) keeps.is allowed) in
+      plain_events p sound.instances sound.effects m.log (subst (Each (Allows p sound.instances sound.effects)) here.1.log (events_are (Allows p sound.instances sound.effects) here.0.log front))
 
   -- what it comes to where the next thing is this
-  ends_as : (out : Out Value) → whole ≡ out → IsOutcome p sound.effects (λ v. holds_function v ≡ false) (start fuel (answers_in m.log)) out
-  ends_as out e = subst (IsOutcome p sound.effects (λ v. holds_function v ≡ false) (start fuel (answers_in m.log))) e outcome_here
+  ends_as : (out : Out Value) → whole ≡ out → IsOutcome p sound.instances sound.effects (λ v. holds_function v ≡ false) (start fuel (answers_in m.log)) out
+  ends_as out e = subst (IsOutcome p sound.instances sound.effects (λ v. holds_function v ≡ false) (start fuel (answers_in m.log))) e outcome_here
 
   -- it has a rule
   pub never_stuck : (at : Span) → next ≡ now.Stop (halt.Stuck at) → ⊥
@@ -172,12 +172,12 @@ module _ (p : Program) (first m : Machine) (o : Run → Out Value) (fuel : ℕ) 
       let entry : Entry = record { number = s.steps; event = write_event site args; crossing = Within } in
       let t : Run = with_writing site args in
       let k = keeps_writing back site args e in
-      let front = each_front (λ (x : Entry). Allows p sound.effects x.event) t.log k.more (subst (Each (λ (x : Entry). Allows p sound.effects x.event)) k.is allowed) in
-      (each_last (λ (x : Entry). Allows p sound.effects x.event) s.log entry front).1
+      let front = each_front (λ (x : Entry). Allows p sound.instances sound.effects x.event) t.log k.more (subst (Each (λ (x : Entry). Allows p sound.instances sound.effects x.event)) k.is allowed) in
+      (each_last (λ (x : Entry). Allows p sound.instances sound.effects x.event) s.log entry front).1
 
 -- ---- sessions
 
-plain_outcome : (p : Program) (i : Instances) (t : Ground) (effects : EffectSet) (r : Run) (out : Out Value) → ((v : Value) → Fits p i v t → holds_function v ≡ false) → IsOutcome p effects (λ v. Fits p i v t) r out → IsOutcome p effects (λ v. holds_function v ≡ false) r out
+plain_outcome : (p : Program) (i : Instances) (t : Ground) (effects : EffectSet) (r : Run) (out : Out Value) → ((v : Value) → Fits p i v t → holds_function v ≡ false) → IsOutcome p i effects (λ v. Fits p i v t) r out → IsOutcome p i effects (λ v. holds_function v ≡ false) r out
 plain_outcome p i t effects r (Goes v s) plain h = (plain v h.0, h.1)
 plain_outcome p i t effects r (Stops stop s) plain h = h
 
@@ -186,6 +186,7 @@ pub sound_session : (p : Program) → PlainLaw → SessionLaw → AreBoundAndApa
 sound_session p of_plain of_session apart shaped main is arg fuel =
     let same : shaped.main ≡ main = some_same (sym shaped.is ∙ sym is) in
     subst (λ f. IsSound p (session p f arg) fuel) same (record {
+      instances = shaped.instances;
       effects = shaped.effects;
       outcome = λ answers answered.
           plain_outcome p shaped.instances shaped.answer shaped.effects (start fuel answers) (session p shaped.main arg (start fuel answers))

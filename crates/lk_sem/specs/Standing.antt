@@ -13,6 +13,7 @@ use Rattle.lk_sem.specs.declared.machine.Machine.{Machine}
 use Rattle.lk_sem.specs.declared.machine.Next.{Next}
 use Rattle.lk_sem.specs.declared.run.SourceEnd.{SourceEnd}
 use Rattle.lk_sem.specs.declared.run.SourceRun.{SourceRun}
+use Rattle.lk_sound.specs.Instances.{Instances}
 use Rattle.lk_sound.specs.Law.{AreAnswered}
 use Rattle.lk_sound.specs.Outcomes.{IsOutcome}
 use Rattle.lk_sound.specs.Tables.{IsAnswered}
@@ -20,10 +21,11 @@ use Rattle.lk_types.specs.Each.{Each}
 use Rattle.lk_types.specs.Rows.{EffectSet}
 
 -- whatever the readings are answered, as long as it is over tables that fit, the evaluation comes to a value without functions, or
--- stops for a reason that some effects allow, and logs nothing else than they allow
+-- stops for a reason that some effects allow, and logs nothing else than they allow, where functions are used at some instances
 pub record IsSound (p : Program) (evaluation : Run → Out Value) (fuel : ℕ) : Type 0 where
+  pub instances : Instances
   pub effects : EffectSet
-  pub outcome : (answers : List (List Row)) → AreAnswered p (evaluation (start fuel answers)) → IsOutcome p effects (λ v. holds_function v ≡ false) (start fuel answers) (evaluation (start fuel answers))
+  pub outcome : (answers : List (List Row)) → AreAnswered p (evaluation (start fuel answers)) → IsOutcome p instances effects (λ v. holds_function v ≡ false) (start fuel answers) (evaluation (start fuel answers))
 
 -- The machine shows the evaluation from the first machine, its readings were answered over tables that fit, and its events led from
 -- the old tables to the present ones, which fit, and of which those that the program doesn't declare are as they were.

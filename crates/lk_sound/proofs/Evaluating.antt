@@ -33,22 +33,22 @@ use Rattle.lk_sound.proofs.Shapes.{text_fits}
 abbrev pub NodeLaw : Program → Instances → Type 0
 NodeLaw p i = (effects : EffectSet) (t : Ground) (point : Point) → IsPoint p i effects t point → IsNode p i effects t point
 
-entered : (p : Program) (P : Value → Type 0) (effects : EffectSet) (fuel : ℕ) (r : Run) (next : Run → Out Value) → r.returns ≡ None
-    → ((s : Run) → Happens p effects r s → AreAnswered p (next s) → IsOutcome p effects P r (next s)) → AreAnswered p (enter_with fuel r next) → IsOutcome p effects P r (enter_with fuel r next)
-entered p P effects zero r next whole go answered = (tt, after_itself p effects r whole)
-entered p P effects (suc left) r next whole go answered = go _ (record { whole = whole; more = []; log = sym (append-nil r.log); allowed = tt }) answered
+entered : (p : Program) (i : Instances) (P : Value → Type 0) (effects : EffectSet) (fuel : ℕ) (r : Run) (next : Run → Out Value) → r.returns ≡ None
+    → ((s : Run) → Happens p i effects r s → AreAnswered p (next s) → IsOutcome p i effects P r (next s)) → AreAnswered p (enter_with fuel r next) → IsOutcome p i effects P r (enter_with fuel r next)
+entered p i P effects zero r next whole go answered = (tt, after_itself p i effects r whole)
+entered p i P effects (suc left) r next whole go answered = go _ (record { whole = whole; more = []; log = sym (append-nil r.log); allowed = tt }) answered
 
 module _ (p : Program) (i : Instances) (nodes : NodeLaw p i) where
   sound_to : (depth : ℕ) → Sound p i (eval_to depth (source p))
   unfolding eval_to
-  sound_to zero effects t point is place r whole answered = (tt, after_itself p effects r whole)
+  sound_to zero effects t point is place r whole answered = (tt, after_itself p i effects r whole)
   sound_to (suc depth) effects t point is place r whole answered =
-      entered p (λ v. Fits p i v t) effects r.fuel r (node (source p) (eval_to depth (source p)) point place) whole
+      entered p i (λ v. Fits p i v t) effects r.fuel r (node (source p) (eval_to depth (source p)) point place) whole
       (λ s h. node_sound p i (eval_to depth (source p)) (sound_to depth) (grows_to (source p) depth) effects r t point (nodes effects t point is) place s h)
       answered
 
   pub point_sound : (effects : EffectSet) (t : Ground) (point : Point) → IsPoint p i effects t point → (place : Loc) (r : Run) → r.returns ≡ None → AreAnswered p (eval (source p) point place r)
-      → IsOutcome p effects (λ v. Fits p i v t) r (eval (source p) point place r)
+      → IsOutcome p i effects (λ v. Fits p i v t) r (eval (source p) point place r)
   point_sound effects t point is place r whole answered = sound_to r.fuel effects t point is place r whole answered
 
 -- ---- the laws

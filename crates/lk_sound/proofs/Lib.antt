@@ -5,6 +5,7 @@ pub mod Blocks
 pub mod Bodies
 pub mod Calls
 pub mod Captured
+pub mod Capturing
 pub mod Contexts
 pub mod Evaluating
 pub mod Faultless

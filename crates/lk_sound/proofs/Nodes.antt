@@ -134,11 +134,11 @@ module _ (p : Program) (i : Instances) (apart : AreBoundAndApart p) (closed : Ar
       (record { inside = first; typed = one; fine = each_front (IsFine i) (nodes_of false one) (nodes_of false typed) fine })
       (record { inside = inside; typed = typed; fine = each_back (IsFine i) (nodes_of false one) (nodes_of false typed) fine })
   typed_node _ _ (query keys body a inside is typed sorted scans own) (node, fine) =
-      changes.query_node p i apart.bound apart.blocks closed functions effects locals point fit stands keys body a inside is typed scans (node.flat _ refl)
+      changes.query_node p i apart.bound apart.blocks closed functions effects locals point fit stands keys body a inside is typed scans node
   typed_node _ _ (update {inside} change is typed writes) (node, fine) =
-      changes.update_node p i apart.bound apart.blocks closed functions effects locals point fit stands change inside is typed writes (node.flat _ refl)
+      changes.update_node p i apart.bound apart.blocks closed functions effects locals point fit stands change inside is typed writes node
   typed_node _ _ (delete {inside} change is typed writes) (node, fine) =
-      changes.delete_node p i apart.bound apart.blocks closed functions effects locals point fit stands change inside is typed writes (node.flat _ refl).captured
+      changes.delete_node p i apart.bound apart.blocks closed functions effects locals point fit stands change inside is typed writes node
 
 -- a point that has a type
 pub node_law : (p : Program) (i : Instances) → AreBoundAndApart p → AreClosed p i → (effects : EffectSet) (t : Ground) (point : Point) → IsPoint p i effects t point → IsNode p i effects t point

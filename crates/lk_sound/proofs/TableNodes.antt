@@ -39,13 +39,14 @@ use Rattle.lk_typing.specs.Names.{Named, Entry, HasRows}
 use Rattle.lk_typing.specs.Types.{record_of, unit, only_scan}
 use Rattle.lk_typing.specs.Typing.{HasType, IsChange, changed}
 use Rattle.lk_sound.specs.Acts.{IsAct, IsNode}
-use Rattle.lk_sound.specs.Instances.{Instances, AreClosed, IsFlatPart, IsFlatBlock}
-use Rattle.lk_sound.specs.Nodes.{parts_of as parts_in, other_part, known_in, nodes_of, change_nodes}
+use Rattle.lk_sound.specs.Instances.{Instances, AreClosed, IsFine, IsFlatPart}
+use Rattle.lk_sound.specs.Nodes.{parts_of as parts_in, block_node, other_part, known_in, nodes_of, change_nodes}
 use Rattle.lk_sound.specs.Points.{AreLocals}
 use Rattle.lk_sound.specs.Tables.{AreTables, IsReading, IsWriting, IsAnswered, table_at}
 use Rattle.lk_sound.specs.Values.{Fits, AllFit, none as no_value, more as value_more}
 use Rattle.lk_sound.proofs.Bags.{bag_fits}
 use Rattle.lk_sound.proofs.Captured.{IsCaptured, captured_kept}
+use Rattle.lk_sound.proofs.Capturing.{block_captured, nothing_captured}
 use Rattle.lk_sound.proofs.Free.{known_in as names_known, change_known}
 use Rattle.lk_sound.proofs.Points as points
 use Rattle.lk_sound.proofs.Points.{IsTyped}
@@ -116,11 +117,12 @@ module _ (p : Program) (i : Instances) (bound : IsBound p) (apart : AreBlocksApa
       let bags : (tables : Tables) → bag p tables point.expr [] ≡ map row_value (tables x.text) = λ tables. bag_of p tables point.expr (Node-F.Table x) [] is in
       let reading : IsReading p site [] = record { block = point.expr; found = there; plain = refl; rows = λ tables are. (tables x.text, bags tables) } in
       alone (known.List (record_of row)) (Node-F.Table x) is refl
-      (scans, reading, answered p i point.expr site [] (record_of row) there (λ tables are. subst (λ vs. AllFit p i vs (record_of row)) (sym (bags tables)) (rows_of_table p i tables are x.text row has)))
+      (scans, reading, nothing_captured p i site point.expr there [] (Node-F.Table x) is refl, answered p i point.expr site [] (record_of row) there (λ tables are. subst (λ vs. AllFit p i vs (record_of row)) (sym (bags tables)) (rows_of_table p i tables are x.text row has)))
 
   pub query_node : (keys : List SortKey) (body : Expr) (a : Ground) (inside : List Ground) → layer point.expr ≡ Node-F.Query keys body → (one : HasType functions (tables_of p) locals only_scan body (known.List a) inside) → effects effect.Scan ≡ true
-      → IsFlatBlock i.helpers (record { parts = other_part false point.expr (known.List a) ∷ parts_in (nodes_of true one); captured = known_in locals (free body scope.no_names) }) → IsNode p i effects (known.List a) point
-  query_node keys body a inside is one scans block =
+      → IsFine i (block_node (other_part false point.expr (known.List a)) (other_part false point.expr (known.List a) ∷ parts_in (nodes_of true one)) (known_in locals (free body scope.no_names))) → IsNode p i effects (known.List a) point
+  query_node keys body a inside is one scans fine =
+      let block = fine.flat _ refl in
       let there : block_at p site ≡ Some point.expr = found (Node-F.Query keys body) is refl in
       let words : List Label = free body scope.no_names in
       let all : IsCaptured p i locals point.names words = captured_kept p i locals point.names words fit (names_known one scope.no_names) block.captured in
@@ -141,7 +143,8 @@ module _ (p : Program) (i : Instances) (bound : IsBound p) (apart : AreBlocksApa
         rows = λ tables are. flat_rows p i a (flat_list a block.parts.0.type) (bag p tables point.expr all.values) (bags tables are);
       } in
       alone (known.List a) (Node-F.Query keys body) is refl
-      (subst (λ o. IsAct p i effects (known.List a) (reads point.expr.span o)) (sym all.found) (scans, reading, answered p i point.expr site all.values a there bags))
+      (subst (λ o. IsAct p i effects (known.List a) (reads point.expr.span o)) (sym all.found)
+      (scans, reading, block_captured p i site point.expr there locals point.names fit (Node-F.Query keys body) is _ _ refl refl fine.listed (names_known one scope.no_names) all.values all.found, answered p i point.expr site all.values a there bags))
 
   pub insert_node : (x : Word) (e : Expr) (row : rows.Row) → layer point.expr ≡ Node-F.Insert x e → IsTyped p i functions locals effects e (known.List (record_of row)) → HasRows (tables_of p) x.text row → effects effect.Write ≡ true → IsNode p i effects unit point
   insert_node x e row is one has writes_them =
@@ -151,7 +154,7 @@ module _ (p : Program) (i : Instances) (bound : IsBound p) (apart : AreBlocksApa
       let held = fits_list p i v (record_of row) fits in
       let inserted = rows_fit p i table.0 (record_of row) table.3 held.0 held.2 in
       let args_are : ◌≡◌ {A = List Value} (v ∷ []) (rows_value inserted.0 ∷ []) = ap (λ w. w ∷ []) (held.1 ∙ ap value.List inserted.1) in
-      (writes_them, IsWriting.insert point.expr x e table.0 inserted.0 there is table.1 args_are inserted.2, refl))
+      (writes_them, IsWriting.insert point.expr x e table.0 inserted.0 there is table.1 args_are inserted.2, nothing_captured p i site point.expr there (v ∷ []) (Node-F.Insert x e) is refl, refl))
 
   -- what a change captures
   change_captured : (change : ChangeExpr) (inside : List Ground) → IsChange functions (tables_of p) locals change inside → Each (λ t. is_flat t ≡ true) (known_in locals (free_change change scope.no_names))
@@ -163,8 +166,9 @@ module _ (p : Program) (i : Instances) (bound : IsBound p) (apart : AreBlocksApa
   changed_table change _ (changed row sets ts cond rest has holds values named fields) = let table = table_found p i (out-ChangeExpr change).table.text row has in (table.0, table.1)
 
   pub update_node : (change : ChangeExpr) (inside : List Ground) → layer point.expr ≡ Node-F.Update change → (d : IsChange functions (tables_of p) locals change inside) → effects effect.Write ≡ true
-      → IsFlatBlock i.helpers (record { parts = parts_in (change_nodes d); captured = known_in locals (free_change change scope.no_names) }) → IsNode p i effects unit point
-  update_node change inside is d writes_them block =
+      → IsFine i (block_node (other_part false point.expr unit) (parts_in (change_nodes d)) (known_in locals (free_change change scope.no_names))) → IsNode p i effects unit point
+  update_node change inside is d writes_them fine =
+      let block = fine.flat _ refl in
       let there : block_at p site ≡ Some point.expr = found (Node-F.Update change) is refl in
       let all : IsCaptured p i locals point.names (free_change change scope.no_names) = change_captured change inside d block.captured in
       let again : IsChange functions (tables_of p) all.kept change inside = retyped_change d all.kept all.same in
@@ -173,14 +177,24 @@ module _ (p : Program) (i : Instances) (bound : IsBound p) (apart : AreBlocksApa
       let names_fit : AreLocals p i all.kept (names_in point.expr all.values) = subst (AreLocals p i all.kept) (sym names_are) all.fit in
       let table = changed_table change inside d in
       alone unit (Node-F.Update change) is refl
-      (subst (λ o. IsAct p i effects unit (writes point.expr.span o)) (sym all.found)
-      (writes_them, IsWriting.update point.expr change table.0 there is table.1 all.plain (updated_fits p i bound closed functions all.kept change inside again flat (names_in point.expr all.values) names_fit table.0 table.1), refl))
+      (subst (λ o. IsAct p i effects unit (writes point.expr.span o)) (sym all.found) (
+        writes_them,
+        IsWriting.update point.expr change table.0 there is table.1 all.plain (updated_fits p i bound closed functions all.kept change inside again flat (names_in point.expr all.values) names_fit table.0 table.1),
+        block_captured p i site point.expr there locals point.names fit (Node-F.Update change) is _ _ refl refl fine.listed (change_known d scope.no_names) all.values all.found,
+        refl,
+      ))
 
-  pub delete_node : (change : ChangeExpr) (inside : List Ground) → layer point.expr ≡ Node-F.Delete change → IsChange functions (tables_of p) locals change inside → effects effect.Write ≡ true
-      → Each (λ t. is_flat t ≡ true) (known_in locals (free_change change scope.no_names)) → IsNode p i effects unit point
-  delete_node change inside is d writes_them flat =
+  pub delete_node : (change : ChangeExpr) (inside : List Ground) → layer point.expr ≡ Node-F.Delete change → (d : IsChange functions (tables_of p) locals change inside) → effects effect.Write ≡ true
+      → IsFine i (block_node (other_part false point.expr unit) (parts_in (change_nodes d)) (known_in locals (free_change change scope.no_names))) → IsNode p i effects unit point
+  delete_node change inside is d writes_them fine =
+      let there : block_at p site ≡ Some point.expr = found (Node-F.Delete change) is refl in
+      let flat = (fine.flat _ refl).captured in
       let all : IsCaptured p i locals point.names (free_change change scope.no_names) = change_captured change inside d flat in
       let table = changed_table change inside d in
       alone unit (Node-F.Delete change) is refl
-      (subst (λ o. IsAct p i effects unit (writes point.expr.span o)) (sym all.found)
-      (writes_them, IsWriting.delete point.expr change table.0 (found (Node-F.Delete change) is refl) is table.1 all.plain, refl))
+      (subst (λ o. IsAct p i effects unit (writes point.expr.span o)) (sym all.found) (
+        writes_them,
+        IsWriting.delete point.expr change table.0 there is table.1 all.plain,
+        block_captured p i site point.expr there locals point.names fit (Node-F.Delete change) is _ _ refl refl fine.listed (change_known d scope.no_names) all.values all.found,
+        refl,
+      ))

@@ -13,6 +13,7 @@ use Rattle.lk_types.specs.declared.ground.Ground.{Ground}
 use Rattle.lk_types.specs.declared.ground.Ground.TheVariants as known
 use Rattle.lk_types.specs.declared.ty.Effect.TheVariants as effect
 use Rattle.lk_typing.specs.Types.{unit}
+use Rattle.lk_sound.specs.Captures.{Captures}
 use Rattle.lk_sound.specs.Instances.{Instances}
 use Rattle.lk_sound.specs.Points.{IsPoint}
 use Rattle.lk_sound.specs.Tables.{IsAnswered, IsReading, IsWriting}
@@ -21,8 +22,8 @@ use Rattle.lk_sound.specs.Values.{Fits, FitEach}
 -- Printing gives the unit value, a reading a list, of which each answer is one, and a writing the unit value.
 abbrev pub IsUse : Program → Instances → EffectSet → Ground → Primitive → Type 0
 IsUse p i effects t (Printing bytes) = (effects effect.Print ≡ true) × (t ≡ unit)
-IsUse p i effects t (Reading site args) = (effects effect.Scan ≡ true) × IsReading p site args × ((answer : List Row) → IsAnswered p (Read (record { site = site; args = args; answer = answer })) → Fits p i (rows_value answer) t)
-IsUse p i effects t (Writing site args) = (effects effect.Write ≡ true) × IsWriting p site args × (t ≡ unit)
+IsUse p i effects t (Reading site args) = (effects effect.Scan ≡ true) × IsReading p site args × Captures p i site args × ((answer : List Row) → IsAnswered p (Read (record { site = site; args = args; answer = answer })) → Fits p i (rows_value answer) t)
+IsUse p i effects t (Writing site args) = (effects effect.Write ≡ true) × IsWriting p site args × Captures p i site args × (t ≡ unit)
 
 abbrev pub IsAct : Program → Instances → EffectSet → Ground → Act Point → Type 0
 IsAct p i effects t (Give v) = Fits p i v t

@@ -15,9 +15,10 @@ use Rattle.lk_typing.specs.Types.{function_of}
 use Rattle.lk_sound.specs.Functions.{HasFunctionType}
 use Rattle.lk_sound.specs.Nodes.{Use, Part, Block, TypedNode, may_compare, nodes_of}
 
--- what sessions use outside of queries, updates and deletions, and what these use
+-- what sessions use outside of queries, updates and deletions, with the nodes of the bodies of these, and what is used inside
 pub record Instances : Type 0 where
   pub mains : List Use
+  pub nodes : List TypedNode
   pub helpers : List Use
 
 abbrev pub IsListed : List Use → Use → Type 0
@@ -51,8 +52,9 @@ pub record IsFlatBlock (helpers : List Use) (block : Block) : Type 0 where
   pub parts : Each (IsFlatPart helpers) block.parts
   pub captured : Each (λ t. is_flat t ≡ true) block.captured
 
--- it uses an instance, and if it is a query, an update or a deletion, it is a flat one
+-- it is one of the nodes of these bodies, it uses an instance, and if it is a query, an update or a deletion, it is a flat one
 pub record IsFine (i : Instances) (node : TypedNode) : Type 0 where
+  pub listed : OneOf (λ other. other ≡ node) i.nodes
   pub calls : (u : Use) → node.part.inside ≡ false → node.part.use_of ≡ Some u → IsListed i.mains u
   pub flat : (block : Block) → node.block ≡ Some block → IsFlatBlock i.helpers block
 

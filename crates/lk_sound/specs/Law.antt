@@ -48,13 +48,13 @@ abbrev pub PointLaw : Type 0
 PointLaw = (p : Program) → AreBoundAndApart p → (i : Instances) → AreClosed p i
     → (effects : EffectSet) (t : Ground) (point : Point) → IsPoint p i effects t point
     → (place : Loc) (r : Run) → r.returns ≡ None → AreAnswered p (eval (source p) point place r)
-    → IsOutcome p effects (λ v. Fits p i v t) r (eval (source p) point place r)
+    → IsOutcome p i effects (λ v. Fits p i v t) r (eval (source p) point place r)
 
 -- the evaluation of a session
 abbrev pub SessionLaw : Type 0
 SessionLaw = (p : Program) → AreBoundAndApart p → (shaped : IsShaped p)
     → (arg : List ℕ) (r : Run) → r.returns ≡ None → AreAnswered p (session p shaped.main arg r)
-    → IsOutcome p shaped.effects (λ v. Fits p shaped.instances v shaped.answer) r (session p shaped.main arg r)
+    → IsOutcome p shaped.instances shaped.effects (λ v. Fits p shaped.instances v shaped.answer) r (session p shaped.main arg r)
 
 -- in a value of a type without functions stands none
 abbrev pub PlainLaw : Type 0

@@ -1,4 +1,5 @@
 pub mod Acts
+pub mod Captures
 pub mod Functions
 pub mod Instances
 pub mod Law

@@ -8,7 +8,8 @@ ghost use Rattle.lk_sound.specs.Law.{InstanceLaw, MainLaw, PlainLaw, PointLaw, S
 ///
 /// `point`: the evaluation of a point that has a type never lacks a rule; it comes to a value of the type, or stops for a
 /// reason that its effects allow, and logs nothing else than they allow. What it reads and writes are readings and writings of
-/// the program: a query gives rows over all tables that fit, and a change leaves rows that fit.
+/// the program: a query gives rows over all tables that fit, and a change leaves rows that fit. What a query, an update or a
+/// deletion captures there has the types that the instance tells.
 ///
 /// `session`: the same of the evaluation of a session, whose `main` has these effects and this answer.
 ///
