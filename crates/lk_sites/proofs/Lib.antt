@@ -1,5 +1,6 @@
 pub mod Passing
 pub mod SiteLabels
+pub mod SiteNodes
 pub mod SiteRests
 pub mod SiteTyping
 pub mod SitesFound

@@ -42,7 +42,7 @@ left t = pending t.types t.calls
 
 -- ---- operators
 
-operator_insides : (l : Layer) (h : Head) → head label_of expr_of l ≡ Some h → insides l ≡ parts label_of expr_of l
+pub operator_insides : (l : Layer) (h : Head) → head label_of expr_of l ≡ Some h → insides l ≡ parts label_of expr_of l
 operator_insides (Node-F.Lambda l) h is = absurd (none-some h is)
 operator_insides (Node-F.Var x d rest) h is = absurd (none-some h is)
 operator_insides (Node-F.Switch d cases last) h is = absurd (none-some h is)
@@ -53,7 +53,7 @@ operator_insides (Node-F.Update change) h is = absurd (none-some h is)
 operator_insides (Node-F.Delete change) h is = absurd (none-some h is)
 operator_insides other h is = refl
 
-operator_open : (l : Layer) (h : Head) → head label_of expr_of l ≡ Some h → is_closed l ≡ false
+pub operator_open : (l : Layer) (h : Head) → head label_of expr_of l ≡ Some h → is_closed l ≡ false
 operator_open (Node-F.Query keys d) h is = absurd (none-some h is)
 operator_open (Node-F.Update change) h is = absurd (none-some h is)
 operator_open (Node-F.Delete change) h is = absurd (none-some h is)
@@ -81,11 +81,11 @@ site_acts other site = let wrong : false ≡ true = site in absurd cc
 
 -- ---- which operators use functions
 
-data UsesFunction (h : Head) : Type 0 where
+pub data UsesFunction (h : Head) : Type 0 where
   by_name : (g : Label) → h ≡ operator.Function g → UsesFunction h
   by_call : (g : Label) → h ≡ operator.Call g → UsesFunction h
 
-uses_function : (functions : Named (Entry Ground)) (tables : List TableDecl) (names : Named Ground) (effects : EffectSet) (h : Head) (ts : List Ground) (t : Ground) (u : Use) (r : Rule functions tables names effects h ts t) → used_by r ≡ Some u → UsesFunction h
+pub uses_function : (functions : Named (Entry Ground)) (tables : List TableDecl) (names : Named Ground) (effects : EffectSet) (h : Head) (ts : List Ground) (t : Ground) (u : Use) (r : Rule functions tables names effects h ts t) → used_by r ≡ Some u → UsesFunction h
 uses_function functions tables names effects _ _ t u (rule.function {g = g} may) is = by_name g refl
 uses_function functions tables names effects _ ts t u (rule.call {g = g} may) is = by_call g refl
 uses_function functions tables names effects h ts t u by is = absurd cc
@@ -106,13 +106,13 @@ reading_uses functions tables names effects _ ts t x (rule.call may) is = absurd
 reading_uses functions tables names effects h ts t x by is = refl
 
 -- what an operator takes
-takes_none : (functions : Named (Entry Ground)) (tables : List TableDecl) (names : Named Ground) (effects : EffectSet) (l : Layer) (h : Head) (ts : List Ground) (a : Ground) (r : Rule functions tables names effects h ts a) → head label_of expr_of l ≡ Some h → used_by r ≡ None
+pub takes_none : (functions : Named (Entry Ground)) (tables : List TableDecl) (names : Named Ground) (effects : EffectSet) (l : Layer) (h : Head) (ts : List Ground) (a : Ground) (r : Rule functions tables names effects h ts a) → head label_of expr_of l ≡ Some h → used_by r ≡ None
     → (t : Tour) → behind_node l t ≡ behind_type t
 takes_none functions tables names effects (Node-F.Function g) h ts a r is no_use t = absurd (name_uses functions tables names effects h ts a g r (let same : h ≡ operator.Function g = cc in same) no_use)
 takes_none functions tables names effects (Node-F.Call g args) h ts a r is no_use t = absurd (call_uses functions tables names effects h ts a g.text r (let same : h ≡ operator.Call g.text = cc in same) no_use)
 takes_none functions tables names effects other h ts a r is no_use t = refl
 
-takes_use : (l : Layer) (h : Head) → head label_of expr_of l ≡ Some h → UsesFunction h → (t : Tour) → behind_node l t ≡ behind_use t
+pub takes_use : (l : Layer) (h : Head) → head label_of expr_of l ≡ Some h → UsesFunction h → (t : Tour) → behind_node l t ≡ behind_use t
 takes_use (Node-F.Function g) h is uses t = refl
 takes_use (Node-F.Call g args) h is uses t = refl
 takes_use l h is (by_name g same) t = absurd cc
@@ -190,14 +190,14 @@ module _ (p : Program) (i : Instances) (fun : ℕ) (P : Site → Type 0) (typed_
       record { rest = two.rest; sites = λ before. two.sites (one.sites before) }
 
   -- behind a node that uses no function
-  behind_other : (l : Layer) (e : Expr) (flag : Bool) (node : TypedNode) (nodes : List TypedNode) (t : Tour) (q : Pending) → node.part.use_of ≡ None → behind_node l t ≡ behind_type t → Taken (node ∷ nodes) (left t) q → Taken nodes (left (entered fun l e flag t)) q
+  pub behind_other : (l : Layer) (e : Expr) (flag : Bool) (node : TypedNode) (nodes : List TypedNode) (t : Tour) (q : Pending) → node.part.use_of ≡ None → behind_node l t ≡ behind_type t → Taken (node ∷ nodes) (left t) q → Taken nodes (left (entered fun l e flag t)) q
   behind_other l e flag node nodes t q no_use takes passes =
       subst (λ r. Taken nodes r q) (sym (entered_left fun l e flag t ∙ ap left takes)) (passes_behind i.mains i.helpers node nodes (left t) q no_use passes)
 
   not_site : (e : Expr) (flag : Bool) (t : Tour) → flag ≡ false → false ≡ true → P (site_at fun e t)
   not_site e flag t outside wrong = absurd cc
 
-  form_blocks : (e : Expr) (l : Layer) → layer e ≡ l → AreBlocksOf p e → Each (AreBlocksOf p) (insides l)
+  pub form_blocks : (e : Expr) (l : Layer) → layer e ≡ l → AreBlocksOf p e → Each (AreBlocksOf p) (insides l)
   form_blocks e l is blocks = subst (λ l. Each (AreBlocksOf p) (insides l)) is (insides_blocks p e blocks)
 
   -- a block outside of others
@@ -303,7 +303,7 @@ module _ (p : Program) (i : Instances) (fun : ℕ) (P : Site → Type 0) (typed_
         (λ outside site. typed_block {effects = effects} flag (delete change is changes writes) fine blocks t q (passes_block i.mains i.helpers _ (change_nodes changes) (left t) q refl (inside_changes changes) passes) outside (ap is_site is))
         (change_visited changes fine.1 (form_blocks e (Node-F.Delete change) is blocks) _ q (behind_other (Node-F.Delete change) e flag _ (change_nodes changes) t q refl refl passes))
 
-    exprs_visited : {effects : EffectSet} {locals : Named Ground} {es : List Expr} {ts inside : List Ground} (flag : Bool) (d : HaveTypes functions (tables_of p) locals effects es ts inside) → Fine (each_nodes flag d) → Each (AreBlocksOf p) es
+    pub exprs_visited : {effects : EffectSet} {locals : Named Ground} {es : List Expr} {ts inside : List Ground} (flag : Bool) (d : HaveTypes functions (tables_of p) locals effects es ts inside) → Fine (each_nodes flag d) → Each (AreBlocksOf p) es
         → (t : Tour) (q : Pending) → Taken (each_nodes flag d) (left t) q → Visited t q (all (map (visit fun) es) flag t)
     exprs_visited flag none fine blocks t _ Passes.done = not_moved fun P t
     exprs_visited flag (more {e = e} {es = es} inside rest first others) fine blocks t q passes =
@@ -311,7 +311,7 @@ module _ (p : Program) (i : Instances) (fun : ℕ) (P : Site → Type 0) (typed_
         (λ r taken. expr_visited flag first (each_front (IsFine i) (nodes_of flag first) (each_nodes flag others) fine) blocks.0 t r taken)
         (λ m taken. exprs_visited flag others (each_back (IsFine i) (nodes_of flag first) (each_nodes flag others) fine) blocks.1 m q taken)
 
-    cases_visited : {effects : EffectSet} {locals : Named Ground} {cases : List Case} {ts : List Ground} {tags : Named Ground} {inside : List Ground} (flag : Bool) (d : HaveCases functions (tables_of p) locals effects cases ts tags inside) → Fine (case_nodes flag d) → Each (AreBlocksOf p) (bodies_of cases)
+    pub cases_visited : {effects : EffectSet} {locals : Named Ground} {cases : List Case} {ts : List Ground} {tags : Named Ground} {inside : List Ground} (flag : Bool) (d : HaveCases functions (tables_of p) locals effects cases ts tags inside) → Fine (case_nodes flag d) → Each (AreBlocksOf p) (bodies_of cases)
         → (t : Tour) (q : Pending) → Taken (case_nodes flag d) (left t) q → Visited t q (all (map (visit fun) (bodies_of cases)) flag t)
     cases_visited flag no_cases fine blocks t _ Passes.done = not_moved fun P t
     cases_visited flag (case_of {case = case} {cases = cases} b bound inside rest held body others) fine blocks t q passes =

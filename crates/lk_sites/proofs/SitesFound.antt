@@ -55,7 +55,7 @@ module _ (P : Site → Type 0) (fun : ℕ) where
   abbrev HasOne : Tour → Type 0
   HasOne t = OneOf P t.found
 
-  behind_has : (l : Layer) (t : Tour) → HasOne t → HasOne (behind_node l t)
+  pub behind_has : (l : Layer) (t : Tour) → HasOne t → HasOne (behind_node l t)
   behind_has (Node-F.Function g) t one = one
   behind_has (Node-F.Call g args) t one = one
   behind_has other t one = one
@@ -71,15 +71,15 @@ module _ (P : Site → Type 0) (fun : ℕ) where
   entered_has l e true t one = behind_has l t one
   entered_has l e false t one = behind_has l (at_node fun l e t) (at_has l e t one)
 
-  keeps : (e : Expr) (flag : Bool) (t : Tour) → HasOne t → HasOne (visit fun e flag t)
+  pub keeps : (e : Expr) (flag : Bool) (t : Tour) → HasOne t → HasOne (visit fun e flag t)
   keeps = visit_keeps fun HasOne entered_has
 
-  all_keeps : (es : List Expr) (flag : Bool) (t : Tour) → HasOne t → HasOne (all (map (visit fun) es) flag t)
+  pub all_keeps : (es : List Expr) (flag : Bool) (t : Tour) → HasOne t → HasOne (all (map (visit fun) es) flag t)
   all_keeps = all_keep fun HasOne entered_has
 
   -- ---- what stands outside of others is found
 
-  at_itself : (l : Layer) (e : Expr) (t : Tour) → is_site l ≡ true → P (site_at fun e t) → HasOne (at_node fun l e t)
+  pub at_itself : (l : Layer) (e : Expr) (t : Tour) → is_site l ≡ true → P (site_at fun e t) → HasOne (at_node fun l e t)
   at_itself (Node-F.Table table) e t site here = one_in_back P t.found (site_at fun e t ∷ []) (inl here)
   at_itself (Node-F.Query keys body) e t site here = one_in_back P t.found (site_at fun e t ∷ []) (inl here)
   at_itself (Node-F.Update change) e t site here = one_in_back P t.found (site_at fun e t ∷ []) (inl here)
@@ -107,7 +107,7 @@ module _ (P : Site → Type 0) (fun : ℕ) where
   instance_keeps f t one = keeps (function_of f).body false (record { label = t.label + 1; types = f.types; calls = f.calls; found = t.found }) one
 
 module _ (P : Site → Type 0) where
-  instances_keep : (fun : ℕ) (fs : List GroundFun) (t : Tour) → OneOf P t.found → OneOf P (in_instances fun fs t).found
+  pub instances_keep : (fun : ℕ) (fs : List GroundFun) (t : Tour) → OneOf P t.found → OneOf P (in_instances fun fs t).found
   instances_keep fun [] t one = one
   instances_keep fun (f ∷ fs) t one = instances_keep (fun + 1) fs (in_instance fun f t) (instance_keeps P fun f t one)
 

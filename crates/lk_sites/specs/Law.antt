@@ -1,5 +1,5 @@
 -- The laws of sites: each is a typed block of an instance of the program, and has its label; and nothing is left out.
-use Rattle.std.specs.Prelude.{◌≡◌, true, ℕ, List, [], ◌∷◌, drop, map, Some, slice_get, if◌then◌else◌}
+use Rattle.std.specs.Prelude.{◌≡◌, true, false, ℕ, List, [], ◌∷◌, drop, map, Some, slice_get, if◌then◌else◌}
 use Rattle.std.specs.List.Sorted.{IsStrictlyIncreasing}
 use Rattle.lk_ast.specs.Children.{children}
 use Rattle.lk_ast.specs.Layers.{Layer, layer}
@@ -17,6 +17,8 @@ use Rattle.lk_mono.specs.Instanced.{HasInstances}
 use Rattle.lk_sites.specs.Blocks.{IsBlock}
 use Rattle.lk_sites.specs.SiteKinds.{is_site}
 use Rattle.lk_sites.specs.Sites.{Site, is_closed, sites_of}
+use Rattle.lk_sound.specs.Instances.{Instances}
+use Rattle.lk_sound.specs.Nodes.{Block, TypedNode, nodes_of}
 use Rattle.lk_types.specs.Each.{Each, OneOf}
 
 -- a typed block of an instance, one of the program's text
@@ -50,6 +52,18 @@ pub data StandsOutside (block : Expr) : Expr → Type 0 where
 abbrev pub SitesFoundLaw : Type 0
 SitesFoundLaw = (g : GroundProgram) (fun : ℕ) (f : GroundFun) → slice_get g.funs fun ≡ Some f → (block : Expr) → StandsOutside block (language.function_of f).body → is_site (layer block) ≡ true
     → OneOf (λ site. (site.fun ≡ fun) × (site.block ≡ block)) (sites_of g)
+
+-- the node is the first of the site's block
+pub record IsFirstOf (p : Program) (i : Instances) (node : TypedNode) (site : Site) : Type 0 where
+  pub block : IsBlock p i site.block site.types site.calls
+  pub others : List TypedNode
+  pub first : nodes_of false block.typed ≡ node ∷ others
+
+-- where the program's instances are a closed set, so it is with each query, update and deletion among the nodes of their bodies, if
+-- it stands outside of others
+abbrev pub NodesFoundLaw : Type 0
+NodesFoundLaw = (p : Program) → (g : GroundProgram) → (has : HasInstances p g) → (node : TypedNode) → OneOf (λ other. other ≡ node) has.shaped.instances.nodes → node.part.inside ≡ false
+    → (its : Block) → node.block ≡ Some its → OneOf (IsFirstOf p has.shaped.instances node) (sites_of g)
 
 -- their labels rise, in the order in which they are listed, so that none is listed twice
 abbrev pub SitesOrderLaw : Type 0
