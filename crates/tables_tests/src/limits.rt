@@ -202,8 +202,14 @@ fn as_many_calls_in_calls_as_may_be(rt: HostRuntime) -> Result<(), Fail> {
 fn thousands_of_statements(rt: HostRuntime) -> Result<(), Fail> {
     let alloc = rt.alloc();
     let statements = times(alloc, "var x = 1; ", 4_999)?;
-    let main = format!(in alloc; "fun main(a) client {{ query {{ {statements}var x = 7; for (y <-- t) [(n = y.n + x)] }} }}")?;
+    let main = format!(in alloc;
+        "fun main(a) client {{ query {{ {statements}var x = 7; for (y <-- t) [(n = y.n + x)] }} }}"
+    )?;
     let ended = run_over(alloc, main.as_str(), "[{\"n\":3}]")?;
-    let want = ("enter\nread @45 [] [{\"n\":10}]\nleave\n", "done 1 [{\"n\":10}]", 0);
+    let want = (
+        "enter\nread @45 [] [{\"n\":10}]\nleave\n",
+        "done 1 [{\"n\":10}]",
+        0,
+    );
     check(&rt, alloc, &ended, "[{\"n\":3}]", want)
 }
