@@ -1,5 +1,5 @@
 #!/usr/bin/env python3
-"""Measures the built program: time and peak memory of `check`, `sql` and `source`, as lines of a Markdown table.
+"""Measures the built program: processor time and peak memory of `check`, `sql` and `source`, as lines of a Markdown table.
 
     tools/measure.py LINKS growth     three shapes of programs at 1, 4 and 16 times a size, with the growth
     tools/measure.py LINKS hard       texts of nearly a mebibyte of each degenerate kind, and tables files of nearly 16 MiB
@@ -12,13 +12,11 @@ import os
 import subprocess
 import sys
 import tempfile
-import time
 
 MEBIBYTE = 1 << 20
 
 
 def run_once(words):
-    start = time.perf_counter()
     with open(os.devnull, "wb") as nothing:
         child = subprocess.Popen(words, stdin=nothing, stdout=subprocess.PIPE, stderr=nothing)
         # (what it prints is read, so that it doesn't wait, and only its front is kept)
@@ -27,11 +25,11 @@ def run_once(words):
             pass
         _, status, used = os.wait4(child.pid, 0)
         child.returncode = os.waitstatus_to_exitcode(status)
-    return time.perf_counter() - start, used.ru_maxrss / 1024, child.returncode, printed
+    return used.ru_utime + used.ru_stime, used.ru_maxrss / 1024, child.returncode, printed
 
 
 def measured(words, times=3):
-    """The least time, the most memory in MB, the status, and the first line that is printed."""
+    """The least processor time, the most memory in MB, the status, and the first line that is printed."""
     runs = [run_once(words) for _ in range(times if times == 1 or run_once(words)[0] < 5 else 1)]
     printed = runs[0][3].split(b"\n")[0].decode(errors="replace")
     return min(run[0] for run in runs), max(run[1] for run in runs), runs[0][2], printed if len(printed) < 50 else printed[:46] + " .."
