@@ -236,6 +236,11 @@ const ORDERS_REFUSED: Rows = &[
         "fun main(a) client { if ((x = 1) >= (x = 2)) a else a }",
         "OrderAtNonBase 25 43",
     ),
+    // records, at most
+    (
+        "fun main(a) client { if ((x = 1) <= (x = 2)) a else a }",
+        "OrderAtNonBase 25 43",
+    ),
     // variants
     (
         "fun main(a) client { if (T <= T) a else a }",

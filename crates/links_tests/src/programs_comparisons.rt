@@ -209,6 +209,9 @@ const ORDERED_TRUTHS_AND_TEXTS: Bodies = &[
     ("\"\" < \"a\"", "done 3 true\n", 0),
     ("\"b\" > \"ab\"", "done 3 true\n", 0),
     ("\"10\" < \"9\"", "done 3 true\n", 0),
+    ("\"Z\" <= \"a\"", "done 3 true\n", 0),
+    ("\"ab\" <= \"ab\"", "done 3 true\n", 0),
+    ("\"ab\" <= \"a\"", "done 3 false\n", 0),
     ("\"\u{e9}\" > \"z\"", "done 3 true\n", 0),
     ("\"\u{ff5e}\" < \"\u{1f600}\"", "done 3 true\n", 0),
 ];
