@@ -1,0 +1,106 @@
+#!/usr/bin/env python3
+"""Says what docs/ARCHITECTURE.md names that isn't there, in its table "From the language to the code".
+
+    tools/named.py        at the top of the repository
+
+It looks whether each crate, file, definition, function, clause and test of the table is in the tree, as it is spelt. No gate
+runs this.
+"""
+
+import os
+import re
+import sys
+
+HEADING = "## From the language to the code\n"
+FUNCTION = r"\s*(?:pub(?:\(crate\))? )?(?:const )?fn "
+DEFINITION = r"^\s*(?:abbrev pub|unfoldable pub|opaque pub|pub (?:record|data)|pub) "
+
+
+def text_of(path):
+    with open(path, encoding="utf-8") as file:
+        return file.read()
+
+
+def clauses(path, name):
+    """The names of a function's clauses, `ensures` where one has none; nothing where there is no such function."""
+    lines = text_of(path).split("\n")
+    starts = [at for at, line in enumerate(lines) if re.match(FUNCTION + name + r"\b", line)]
+    if not starts:
+        return None
+    found = []
+    for line in lines[starts[0] + 1 :]:
+        if re.match(r"\s*\{\s*$", line) or re.match(FUNCTION, line):
+            break
+        clause = re.match(r"\s*ensures\s*(\w+)?\s*\{", line)
+        if clause:
+            found.append(clause.group(1) or "ensures")
+    return found
+
+
+def missing_definitions(cell):
+    """What isn't there of a cell such as: lk_types `Rows` (`with_field`), `Grounding`."""
+    crate, path = None, None
+    for match in re.finditer(r"(lk_\w+)|\(([^)]*)\)|`(\w+)`", cell):
+        if match.group(1):
+            crate = match.group(1)
+        elif match.group(3):
+            path = f"crates/{crate}/specs/{match.group(3)}.antt"
+            if not os.path.exists(path):
+                yield path
+        else:
+            for name in re.findall(r"`(\w+)`", match.group(2)):
+                if not os.path.exists(path) or not re.search(DEFINITION + name + r"(?=[ :\n])", text_of(path), re.M):
+                    yield f"{path} {name}"
+
+
+def missing_functions(functions, clause_names):
+    """What isn't there of functions such as: lk_types `ty.rt` `of`; `text.rt` `push`; and of their clauses, in the same order."""
+    crate = None
+    parts, named = functions.split("; "), clause_names.split("; ")
+    told = clause_names != "no clause says so"
+    if told and len(parts) != len(named):
+        yield f"{len(parts)} functions and {len(named)} groups of clauses: {functions}"
+    for part, names in zip(parts, named if told else [""] * len(parts)):
+        match = re.match(r"(?:(lk_\w+) )?`(\S+\.rt)` `(\w+)`$", part)
+        if not match:
+            yield part
+            continue
+        crate = match.group(1) or crate
+        path = f"crates/{crate}/src/{match.group(2)}"
+        have = clauses(path, match.group(3)) if os.path.exists(path) else None
+        if have is None:
+            yield f"{path} {match.group(3)}"
+        else:
+            yield from (f"{path} {match.group(3)} {name}" for name in re.findall(r"`(\w+)`", names) if name not in have)
+
+
+def missing_tests(cell):
+    """What isn't there of tests such as: unit_tests `types.rt`; check_tests `rows.rt`."""
+    crate = None
+    for match in re.finditer(r"(\w+_tests)|`(\S+\.(?:rt|py))`", cell):
+        if match.group(1):
+            crate = match.group(1)
+        else:
+            path = match.group(2) if match.group(2).startswith("tools/") else f"crates/{crate}/src/{match.group(2)}"
+            if not os.path.exists(path):
+                yield path
+
+
+def main():
+    section = text_of("docs/ARCHITECTURE.md").split(HEADING)[1].split("\n## ")[0]
+    rows = [line.strip().strip("|").split(" | ") for line in section.split("\n") if line.startswith("| ") and not line.startswith("| Rule")]
+    faults = [f"not five cells: {row}" for row in rows if len(row) != 5]
+    for row in rows:
+        if len(row) == 5:
+            _, definition, functions, clause_names, tests = (cell.strip() for cell in row)
+            faults += [] if definition.startswith("none") else missing_definitions(definition)
+            faults += missing_functions(functions, clause_names)
+            faults += missing_tests(tests)
+    for fault in faults:
+        print(fault)
+    print(f"{len(rows)} rows, {len(faults)} names that aren't there")
+    sys.exit(bool(faults))
+
+
+if __name__ == "__main__":
+    main()
