@@ -1,5 +1,5 @@
 -- Values of flat types as captured ones: each is of the kind that is told of its type, field by field.
-use Rattle.std.proofs.Common.{◌≡◌, refl, sym, ap, ap₂, ◌∙◌, subst, Bool, true, false, ◌&&◌, ◌||◌, List, [], ◌∷◌, map, Some, bytes_eq, if◌then◌else◌}
+use Rattle.std.proofs.Common.{◌≡◌, inl, inr, refl, sym, ap, ap₂, ◌∙◌, subst, Bool, true, false, ◌&&◌, ◌||◌, List, [], ◌∷◌, map, Some, bytes_eq, if◌then◌else◌}
 use Rattle.std.specs.Cmp.Lexicographic.{bytes_decides}
 use Rattle.std.specs.List.{list_all}
 use Rattle.lk_ast.specs.Tables.{cells_fit, is_of_kind}
@@ -18,10 +18,10 @@ use Rattle.lk_query.specs.Captured.{AreCaptured, IsCaptured}
 use Rattle.lk_query.specs.Given.{cell_with, row_with}
 use Rattle.lk_query.specs.declared.query.Captured.TheVariants as captured
 use Rattle.lk_sound.proofs.FlatTypes.{IsFlatRow, base_is, first_holds, flat_row_is, second_holds}
+use Rattle.lk_sound.proofs.Names.{IsAmong}
 use Rattle.lk_sound.proofs.Shapes.{IsRecord, fits_fields}
 use Rattle.lk_sound.proofs.TableRows.{IsBaseOf, base_of_fits, cell_fields}
 use Rattle.lk_sound.specs.Instances.{Instances}
-use Rattle.lk_sound.specs.Points.{AreLocals}
 use Rattle.lk_sound.specs.Values.{Fits, FieldsFit, field}
 use Rattle.lk_types.specs.Each.{Each}
 use Rattle.lk_types.specs.Rows.{Label}
@@ -33,6 +33,10 @@ use Rattle.lk_typing.specs.Types as types
 all_hold : (a b c : Bool) → a ≡ true → b ≡ true → c ≡ true → ((a && b) && c) ≡ true
 all_hold true b c first second third = ap (λ x. x && c) second ∙ third
 all_hold false b c first second third = absurd cc
+
+-- each of these names that has a type has a value of it
+abbrev pub HaveTheirs : Program → Instances → Named Ground → Names → List Label → Type 0
+HaveTheirs p i locals names xs = (x : Label) → IsAmong x xs → (t : Ground) → named x locals ≡ Some t → (v : Value) × (lookup names x ≡ Some v) × Fits p i v t
 
 module _ (p : Program) (i : Instances) where
   -- ---- one value
@@ -85,9 +89,10 @@ module _ (p : Program) (i : Instances) where
     pub found : lookup_all names (names_of kept) ≡ Some args
     pub are : AreCaptured (map captured_as (types_of kept)) args
 
-  pub values_captured : (locals : Named Ground) (names : Names) → AreLocals p i locals names → (kept : Named Ground) → Each (λ (e : Label × Ground). named e.0 locals ≡ Some e.1) kept → Each (λ t. is_flat t ≡ true) (types_of kept) → HaveValues names kept
-  values_captured locals names fit [] entries flat = record { args = []; found = refl; are = tt }
-  values_captured locals names fit (e ∷ kept) entries flat =
-      let one : (v : Value) × (lookup names e.0 ≡ Some v) × Fits p i v e.1 = fit e.0 e.1 entries.0 in
-      let rest : HaveValues names kept = values_captured locals names fit kept entries.1 flat.1 in
+  -- where each of them has a value of its type
+  pub values_captured : (locals : Named Ground) (names : Names) (kept : Named Ground) → HaveTheirs p i locals names (names_of kept) → Each (λ (e : Label × Ground). named e.0 locals ≡ Some e.1) kept → Each (λ t. is_flat t ≡ true) (types_of kept) → HaveValues names kept
+  values_captured locals names [] fit entries flat = record { args = []; found = refl; are = tt }
+  values_captured locals names (e ∷ kept) fit entries flat =
+      let one : (v : Value) × (lookup names e.0 ≡ Some v) × Fits p i v e.1 = fit e.0 (inl refl) e.1 entries.0 in
+      let rest : HaveValues names kept = values_captured locals names kept (λ x among. fit x (inr among)) entries.1 flat.1 in
       record { args = one.0 ∷ rest.args; found = ap₂ with_value one.1 rest.found; are = (flat_captured e.1 one.0 flat.0 one.2, rest.are) }

@@ -10,7 +10,7 @@ use Rattle.lk_ast.specs.declared.expression.SortKey.{SortKey}
 use Rattle.lk_ast.specs.declared.place.Loc.TheVariants.{Server}
 use Rattle.lk_ast.specs.declared.place.Word.{Word}
 use Rattle.lk_ast.specs.declared.value.Value.{Value}
-use Rattle.lk_bag.specs.Legal.{captured_by}
+use Rattle.lk_bag.specs.Legal.{captured_by, captured_in}
 use Rattle.lk_bodies.specs.Captured.{captured_as}
 use Rattle.lk_bodies.specs.Uses.{change_uses, query_uses}
 use Rattle.lk_evaluation.specs.Evaluation.{Act, Uses}
@@ -19,7 +19,7 @@ use Rattle.lk_ground.specs.declared.program.GroundProgram.{GroundProgram}
 use Rattle.lk_index.specs.Free.{captured_change, captured_query}
 use Rattle.lk_inline.proofs.BlockForms.{IsChangeAlone, IsChangeBlock, IsQueryAlone, change_alone, delete_block, query_alone, query_block, update_block}
 use Rattle.lk_inline.proofs.BlockNames.{AreKept, captured_are}
-use Rattle.lk_inline.proofs.CapturedValues.{HaveValues, values_captured}
+use Rattle.lk_inline.proofs.CapturedValues.{HaveTheirs, HaveValues, values_captured}
 use Rattle.lk_inline.proofs.UsesTyped.{change_typed, uses_typed}
 use Rattle.lk_inline.specs.Inlined.{change_at, inlined_by, query_at, reading_at}
 use Rattle.lk_inline.specs.Law.{CapturedLaw, Captures, captured_of, done_with}
@@ -32,12 +32,12 @@ use Rattle.lk_sites.specs.Sites.{Site}
 use Rattle.lk_sound.proofs.Bags.{all_early}
 use Rattle.lk_sound.specs.Instances.{Instances}
 use Rattle.lk_sound.specs.Nodes.{change_nodes, nodes_of}
-use Rattle.lk_sound.specs.Points.{AreLocals}
 use Rattle.lk_types.specs.Rows.{Label}
 use Rattle.lk_typing.proofs.Values.{just}
 use Rattle.lk_typing.specs.Names.{types_of}
 
-module _ (p : Program) (g : GroundProgram) (has : HasInstances p g) (site : Site) (block : IsBlock p has.shaped.instances site.block site.types site.calls) (names : Names) (fit : AreLocals p has.shaped.instances block.locals names) where
+module _ (p : Program) (g : GroundProgram) (has : HasInstances p g) (site : Site) (block : IsBlock p has.shaped.instances site.block site.types site.calls) (names : Names)
+    (fit : HaveTheirs p has.shaped.instances block.locals names (captured_in site.block)) where
   abbrev i : Instances
   i = has.shaped.instances
 
@@ -52,7 +52,7 @@ module _ (p : Program) (g : GroundProgram) (has : HasInstances p g) (site : Site
   by_types : (found : Inlined) (xs : List Label) (all : AreKept block.locals xs) → captured_of found ≡ map captured_as (types_of all.kept) → captured_by (layer site.block) ≡ xs
       → (does : Option (List Value) → Act Point) → acts (layer site.block) ≡ does (lookup_all names xs) → ((args : List Value) → does (Some args) ≡ Uses Server (done_with found site.block.span.start args)) → Found found
   by_types found xs all kinds_are names_are does act_is done =
-      let held : HaveValues p i names all.kept = values_captured p i block.locals names fit all.kept all.entries all.flat in
+      let held : HaveValues p i names all.kept = values_captured p i block.locals names all.kept (subst (HaveTheirs p i block.locals names) (names_are ∙ sym all.names) fit) all.entries all.flat in
       let values : lookup_all names xs ≡ Some held.args = ap (lookup_all names) (sym all.names) ∙ held.found in
       record {
         args = held.args;
@@ -83,7 +83,7 @@ module _ (p : Program) (g : GroundProgram) (has : HasInstances p g) (site : Site
       (λ x among. (change_typed p i.helpers (length (functions_of p)) alone.typed (all_early p i has.shaped.closed (change_nodes alone.typed) alone.flat) (drop 1 site.types) site.calls block.after alone.takes x among).1))
       names_are (writes site.block.span) act_is (λ args. refl)
 
-  by_form : (l : Layer) → layer site.block ≡ l → (found : Inlined) → inlined_by p g.helpers site l ≡ Some found → Found found
+  pub by_form : (l : Layer) → layer site.block ≡ l → (found : Inlined) → inlined_by p g.helpers site l ≡ Some found → Found found
   by_form (Node-F.Query keys body) is found at = subst Found (just at) (query_captures keys body is)
   by_form (Node-F.Table name) is found at = subst Found (just at) (reading_captures name is)
   by_form (Node-F.Update change) is found at =
@@ -93,4 +93,4 @@ module _ (p : Program) (g : GroundProgram) (has : HasInstances p g) (site : Site
   by_form other is found at = let wrong : None ≡ Some found = at in absurd cc
 
 pub blocks-capture : CapturedLaw
-blocks-capture p bound g has site block names fit found at = by_form p g has site block names fit (layer site.block) refl found at
+blocks-capture p bound g has site block names fit found at = by_form p g has site block names (λ x among. fit x) (layer site.block) refl found at

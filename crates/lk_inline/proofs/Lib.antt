@@ -42,6 +42,7 @@ pub mod LabelOrder
 pub mod LawBlocks
 pub mod LawCaptured
 pub mod LawKinds
+pub mod LawSessions
 pub mod LawTypes
 pub mod Looping
 pub mod Loops

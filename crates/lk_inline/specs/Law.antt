@@ -1,9 +1,13 @@
 -- The laws of inlining: what stands at a site gives what the program's text says (Cooper, The script-writer's dream, DBPL 2009).
 use Rattle.std.specs.Prelude.{◌≡◌, Bool, true, ℕ, List, [], map, Some}
+use Rattle.lk_ast.specs.Functions.{main_of}
 use Rattle.lk_ast.specs.Layers.{Layer, layer}
 use Rattle.lk_ast.specs.Rows.{row_value}
 use Rattle.lk_ast.specs.Tables.{HaveColumns, Tables, row_fits}
+use Rattle.lk_ast.specs.declared.declaration.FunDef.{FunDef}
 use Rattle.lk_ast.specs.declared.declaration.Program.{Program}
+use Rattle.lk_ast.specs.declared.event.Event.TheVariants.{Print, Enter, Leave, Read, Write}
+use Rattle.lk_ast.specs.declared.event.Event.{Event}
 use Rattle.lk_ast.specs.declared.expression.ChangeExpr.{ChangeExpr, out-ChangeExpr}
 use Rattle.lk_ast.specs.declared.expression.Expr.{Expr}
 use Rattle.lk_ast.specs.declared.expression.Node.TheOpen.{Node-F}
@@ -11,12 +15,14 @@ use Rattle.lk_ast.specs.declared.place.Loc.TheVariants.{Server}
 use Rattle.lk_ast.specs.declared.table.Row.{Row}
 use Rattle.lk_ast.specs.declared.table.TableDef.{TableDef}
 use Rattle.lk_ast.specs.declared.value.Value.{Value}
-use Rattle.lk_bag.specs.Blocks.{blocks_of}
+use Rattle.lk_bag.specs.Blocks.{block_at, blocks_of}
 use Rattle.lk_bag.specs.Change.{is_met, updated}
 use Rattle.lk_bag.specs.Legal.{bag, captured_in, names_in}
 use Rattle.lk_bodies.specs.Shapes.{columns_of, labels}
 use Rattle.lk_evaluation.specs.Evaluation.{Primitive, Reading, Uses, Writing}
-use Rattle.lk_evaluation.specs.Source.{source, under}
+use Rattle.lk_evaluation.specs.Laws.{run_of}
+use Rattle.lk_evaluation.specs.Run.{Entry, start}
+use Rattle.lk_evaluation.specs.Source.{session, source, under}
 use Rattle.lk_ground.specs.declared.program.GroundFun.{GroundFun}
 use Rattle.lk_ground.specs.declared.program.GroundProgram.{GroundProgram}
 use Rattle.lk_inline.specs.Inlined.{inlined_at}
@@ -31,12 +37,14 @@ use Rattle.lk_query.specs.Given.{gives}
 use Rattle.lk_query.specs.Kinds.{IsTyped, IsTypedChange, Kind}
 use Rattle.lk_query.specs.Order.{AreOrdered}
 use Rattle.lk_query.specs.declared.query.Captured.{Captured}
-use Rattle.lk_query.specs.declared.query.Inlined.{Inlined}
 use Rattle.lk_query.specs.declared.query.Inlined.TheVariants as inlined
+use Rattle.lk_query.specs.declared.query.Inlined.{Inlined}
 use Rattle.lk_query.specs.declared.query.InlinedChange.{InlinedChange}
 use Rattle.lk_query.specs.declared.query.Query.{Query}
 use Rattle.lk_sites.specs.Blocks.{IsBlock}
-use Rattle.lk_sites.specs.Sites.{Site}
+use Rattle.lk_sites.specs.Sites.{Site, sites_of}
+use Rattle.lk_sound.specs.Captures.{is_block}
+use Rattle.lk_sound.specs.Law.{AreAnswered, AreBoundAndApart}
 use Rattle.lk_sound.specs.Points.{AreLocals}
 use Rattle.lk_sound.specs.Tables.{AreTables, table_at}
 use Rattle.lk_sql.specs.Good.{are_in_order}
@@ -119,6 +127,35 @@ abbrev pub CapturedLaw : Type 0
 CapturedLaw = (p : Program) → IsBound p → (g : GroundProgram) → (has : HasInstances p g) → (site : Site) → (block : IsBlock p has.shaped.instances site.block site.types site.calls)
     → (names : Names) → AreLocals p has.shaped.instances block.locals names
     → (found : Inlined) → inlined_at p g.helpers site ≡ Some found → Captures p site.block names found
+
+-- ---- what sessions capture
+
+-- The block stands at one of the ground program's sites, and these values are of the kinds that are told of what it captures
+-- there.
+pub record IsOfSite (p : Program) (g : GroundProgram) (block : Expr) (args : List Value) : Type 0 where
+  pub site : Site
+  pub listed : OneOf (λ other. other ≡ site) (sites_of g)
+  pub is : site.block ≡ block
+  pub are : (found : Inlined) → inlined_at p g.helpers site ≡ Some found → AreCaptured (captured_of found) args
+
+-- if a query, an update or a deletion begins at this place, it captured such values
+abbrev pub CapturesThere : Program → GroundProgram → ℕ → List Value → Type 0
+CapturesThere p g place args = (block : Expr) → block_at p place ≡ Some block → is_block (layer block) ≡ true → IsOfSite p g block args
+
+-- the same of the query by which an event reads, and of the update or the deletion by which it writes
+abbrev pub CapturesIn : Program → GroundProgram → Event → Type 0
+CapturesIn p g (Print bytes) = Unit {0}
+CapturesIn p g Enter = Unit {0}
+CapturesIn p g Leave = Unit {0}
+CapturesIn p g (Read e) = CapturesThere p g e.site e.args
+CapturesIn p g (Write e) = CapturesThere p g e.site e.args
+
+-- So it is in each session of a program whose names are bound and whose functions, lambdas, queries and changes begin at places of
+-- their own, if its instances are a closed set and each reading is answered by its bag over some tables that fit.
+abbrev pub SessionCapturedLaw : Type 0
+SessionCapturedLaw = (p : Program) → AreBoundAndApart p → (g : GroundProgram) → HasInstances p g → (main : FunDef) → main_of p ≡ Some main
+    → (arg : List ℕ) (fuel : ℕ) (answers : List (List Row)) → AreAnswered p (session p main arg (start fuel answers))
+    → Each (λ (entry : Entry). CapturesIn p g entry.event) (run_of (session p main arg (start fuel answers))).log
 
 -- ---- kinds
 

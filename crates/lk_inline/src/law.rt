@@ -1,6 +1,6 @@
 //! The laws of inlining.
 
-ghost use Rattle.lk_inline.specs.Law.{BlockLaw, CapturedLaw, KindsLaw, TypesLaw};
+ghost use Rattle.lk_inline.specs.Law.{BlockLaw, CapturedLaw, KindsLaw, SessionCapturedLaw, TypesLaw};
 
 /// The laws of inlining for those who inline blocks of a program, as facts. A call does nothing.
 ///
@@ -12,6 +12,9 @@ ghost use Rattle.lk_inline.specs.Law.{BlockLaw, CapturedLaw, KindsLaw, TypesLaw}
 /// `captured`: wherever the local names of the block have values of their types, the values that it captures are such, and with
 /// them the program's evaluation reads or writes tables there.
 ///
+/// `session`: in each session they have. What a query, an update or a deletion captured where a session has read or written by it
+/// is of the kinds that are told of one of the sites, which is that query, update or deletion in an instance.
+///
 /// `kinds`: each part that is inlined there gives a thing of its kind, so that SQL can say it, and those of an update or a
 /// deletion read no table, if the types in helpers have their labels in order, too. Of a query it is said where each table of the
 /// program has a column.
@@ -20,6 +23,7 @@ ghost use Rattle.lk_inline.specs.Law.{BlockLaw, CapturedLaw, KindsLaw, TypesLaw}
 pub fn inline_laws()
     ensures blocks { BlockLaw }
     ensures captured { CapturedLaw }
+    ensures session { SessionCapturedLaw }
     ensures kinds { KindsLaw }
     ensures types { TypesLaw }
 {}

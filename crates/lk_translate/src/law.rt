@@ -12,10 +12,10 @@ use lk_sites::sites_laws;
 /// may be answered with, over tables that fit and for all values of what it captures, is a legal answer of the program
 /// (`answers`); the SQL of an update or a deletion changes the rows that the program changes, to what it makes of them, whatever
 /// rows its tables have (`changes`); and the SQL is well formed, that of a query where each table of the program has a column
-/// (`good`). All this holds for all values of what the site captures, which has no others where its local names have values of
-/// their types (`captured` of `inline_laws`). It is said of sites where the labels of records stand in order in the types from
-/// there on and, of changes and of good SQL, in those of helpers. In a ground program they do, so that all that `translate` makes
-/// of it is so (`translated`).
+/// (`good`). All this holds for all values of what the site captures, and what a session captures is such at one of the sites of
+/// that query, update or deletion (`session` of `inline_laws`). It is said of sites where the labels of records stand in order in
+/// the types from there on and, of changes and of good SQL, in those of helpers. In a ground program they do, so that all that
+/// `translate` makes of it is so (`translated`).
 pub fn translate_laws()
     ensures answers { AnswerLaw }
     ensures changes { ChangeLaw }
