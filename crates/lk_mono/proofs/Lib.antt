@@ -1,3 +1,4 @@
+pub mod Alone
 pub mod Behind
 pub mod BlockParts
 pub mod BlockUses
@@ -7,6 +8,7 @@ pub mod Calling
 pub mod Closed
 pub mod Distinct
 pub mod Faults
+pub mod FaultsOnce
 pub mod FindingMembers
 pub mod FirstNode
 pub mod Fitting
@@ -15,8 +17,10 @@ pub mod FlatUses
 pub mod FunctionLists
 pub mod Gathering
 pub mod Growing
+pub mod GrowingOnce
 pub mod HelperUses
 pub mod Inside
+pub mod InstancesOnce
 pub mod Judging
 pub mod Keeping
 pub mod Looking
@@ -32,6 +36,7 @@ pub mod MayUse
 pub mod MembersAt
 pub mod NodeTypes
 pub mod Nothing
+pub mod OneAnswer
 pub mod Ones
 pub mod OwnMembers
 pub mod PlacedLevels
@@ -50,4 +55,5 @@ pub mod Siting
 pub mod Stepping
 pub mod UsedLevels
 pub mod UsedNames
+pub mod WalkedOnce
 pub mod Walking

@@ -5,6 +5,7 @@ pub mod Instanced
 pub mod Instances
 pub mod Judged
 pub mod Keeps
+pub mod Law
 pub mod Listed
 pub mod Looks
 pub mod Mains
