@@ -1,11 +1,8 @@
-pub mod Forms
 pub mod Grounds
 pub mod Limits
 pub mod Lines
 pub mod LoadedTables
-pub mod Numbers
 pub mod Putting
-pub mod Samples
 pub mod ScannedTables
 pub mod TablesApart
 pub mod Found

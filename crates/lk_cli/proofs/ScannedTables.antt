@@ -1,5 +1,5 @@
 -- Tables that are scanned one after the other, and what a session makes of them.
-use Rattle.std.proofs.Common.{◌≡◌, ◌≢◌, ◌∙◌, refl, sym, ap, subst, inl, inr, true, ℕ, List, [], ◌∷◌, ◌++◌, map}
+use Rattle.std.proofs.Common.{◌≡◌, ◌∙◌, refl, sym, ap, subst, inl, inr, true, ℕ, List, [], ◌∷◌, ◌++◌, map}
 use Rattle.std.specs.Prelude.{Option, Some, None, option_map, IfSome}
 use Rattle.std.specs.List.{AllZip}
 use Rattle.lk_ast.specs.Tables.{Tables, all_fit, rows_of, table_defs}
@@ -12,13 +12,13 @@ use Rattle.lk_outside.specs.declared.fault.OutFault.TheVariants.{Failed, NoMemor
 use Rattle.lk_sem.specs.Histories.{KeepsOthers}
 use Rattle.lk_sem.specs.SourceRuns.{HasBegunSession, HasHistory, IsRun}
 use Rattle.lk_sem.specs.declared.run.SourceRun.{SourceRun}
-use Rattle.lk_sem.specs.declared.run.SourceEnd.TheVariants as end
 use Rattle.lk_sound.specs.Tables.{table_at}
 use Rattle.lk_types.specs.Each.{Each}
 use Rattle.lk_cli.specs.Answers.{IsSessionOver}
+use Rattle.lk_cli.specs.Ended.{run_of}
 use Rattle.lk_cli.specs.Loading.{AreLeft, BreaksOff, FitsTold, HasRowsOf, HasToldSession, IsOfTable, IsScanned, empty_table, loaded_over, rows_if}
 use Rattle.lk_cli.specs.declared.answer.Done.{Done}
-use Rattle.lk_cli.specs.declared.command.SourceCommand.{SourceCommand}
+use Rattle.lk_words.specs.declared.command.SourceCommand.{SourceCommand}
 
 pub scanned_more : (told : Option Tables) (defs : List TableDef) (def : TableDef) (tables : List TableRows) (table : TableRows)
     → AllZip (IsScanned told) defs tables → IsScanned told def table → AllZip (IsScanned told) (defs ++ def ∷ []) (tables ++ table ∷ [])
@@ -64,12 +64,11 @@ told_session program loaded events printed (Some old) (Some new) history others 
 -- a session over tables that were loaded
 pub session_over : (program : Program) (command : SourceCommand) (loaded : List TableRows) (done : Done) (old between new : Option Tables)
     → between ≡ option_map (loaded_over (table_defs program) loaded) old
-    → IsRun program command.arg command.fuel new done.run → done.run.end ≢ end.StoreFault
+    → IsRun program command.arg command.fuel new (run_of done.run)
     → HasHistory program between new done.run.log → KeepsOthers program between new → AllZip (IsScanned new) (table_defs program) done.tables
     → IsSessionOver program command loaded done old new
-session_over program command loaded done old between new is run ended history others are = record {
+session_over program command loaded done old between new is run history others are = record {
   run = run;
-  ended = ended;
   tables = all_of_table new (table_defs program) done.tables are;
   told = told_session program loaded done.run.log done.tables old new (subst (λ told. HasHistory program told new done.run.log) is history) (subst (λ told. KeepsOthers program told new) is others) are;
 }

@@ -12,15 +12,15 @@ use Rattle.lk_outside.specs.declared.fault.OutFault.TheVariants.{Failed, NoMemor
 use Rattle.lk_cli.specs.Answers.{Answers, AnswersSession, HasBrokenOff, HasNoRows, IsAcceptedOf, IsSessionOver, answer_of}
 use Rattle.lk_cli.specs.Loading.{AreLeft, AreLoaded}
 use Rattle.lk_cli.specs.Seen.{CameBack, FilesSeen, StoreSeen, StoresSeen, store_seen, stores_seen}
-use Rattle.lk_cli.specs.Words.{store_of}
+use Rattle.lk_words.specs.Words.{store_of}
 use Rattle.lk_cli.specs.declared.answer.Answer.{Answer}
 use Rattle.lk_cli.specs.declared.answer.Answer.TheVariants.{Schemes, Queries, Run}
 use Rattle.lk_cli.specs.declared.answer.Done.{Done}
 use Rattle.lk_cli.specs.declared.answer.Refusal.{Refusal}
 use Rattle.lk_cli.specs.declared.answer.Refusal.TheVariants as refused
-use Rattle.lk_cli.specs.declared.command.Command.{Command}
-use Rattle.lk_cli.specs.declared.command.Command.TheVariants.{Source}
-use Rattle.lk_cli.specs.declared.command.SourceCommand.{SourceCommand}
+use Rattle.lk_words.specs.declared.command.Command.{Command}
+use Rattle.lk_words.specs.declared.command.Command.TheVariants.{Source}
+use Rattle.lk_words.specs.declared.command.SourceCommand.{SourceCommand}
 
 -- ---- errors
 

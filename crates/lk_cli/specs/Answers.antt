@@ -1,5 +1,5 @@
 -- The answers to a command line: which come, with their causes; what is printed for each, and the status.
-use Rattle.std.specs.Prelude.{◌≡◌, ◌≢◌, ◌⊎◌, ℕ, List, [], ◌∷◌, Option, Some, None, Result, Ok, Err, MatchResult, length, ◌<◌, codes, decimal}
+use Rattle.std.specs.Prelude.{◌≡◌, ◌⊎◌, ℕ, List, [], ◌∷◌, Option, Some, None, Result, Ok, Err, MatchResult, length, ◌<◌, codes, decimal}
 use Rattle.std.specs.List.{AllZip}
 use Rattle.lk_ast.specs.Functions.{functions_of}
 use Rattle.lk_ast.specs.Tables.{Tables, table_defs}
@@ -35,8 +35,6 @@ use Rattle.lk_parse.specs.Refusals.{IsProgramText, IsRefused}
 use Rattle.lk_parse.specs.declared.error.ParseError.{ParseError}
 use Rattle.lk_parse.specs.declared.error.ParseError.TheVariants as parse
 use Rattle.lk_sem.specs.SourceRuns.{IsRun, IsPlainRun}
-use Rattle.lk_sem.specs.declared.run.SourceEnd.{SourceEnd}
-use Rattle.lk_sem.specs.declared.run.SourceEnd.TheVariants as end
 use Rattle.lk_tables.specs.Reading.{refusal}
 use Rattle.lk_tables.specs.declared.error.TablesError.{TablesError}
 use Rattle.lk_tables.specs.declared.error.TablesError.TheVariants as error
@@ -49,6 +47,7 @@ use Rattle.lk_translate.specs.declared.error.TranslateError.TheVariants as trans
 use Rattle.lk_translate.specs.declared.translated.Translated.{Translated}
 use Rattle.lk_types.specs.Each.{Each}
 use Rattle.lk_typing.specs.Programs.{ArePrincipal, IsWellTyped}
+use Rattle.lk_cli.specs.Ended.{run_of}
 use Rattle.lk_cli.specs.Loading.{AreLeft, AreLoaded, HasToldSession, IsOfTable}
 use Rattle.lk_cli.specs.Report.{IsReport, line, lines_of, query_lines}
 use Rattle.lk_cli.specs.Seen.{CameBack, FilesSeen, HasText, StoresSeen}
@@ -58,9 +57,13 @@ use Rattle.lk_cli.specs.declared.answer.Answer.TheVariants.{Schemes, Queries, Ru
 use Rattle.lk_cli.specs.declared.answer.Done.{Done}
 use Rattle.lk_cli.specs.declared.answer.Refusal.{Refusal}
 use Rattle.lk_cli.specs.declared.answer.Refusal.TheVariants.{Words, ReadFault, TextTooLong, NotUtf8, BadToken, TooNested, Unexpected, Unbound, Twice, NoMain, TypeTooLarge, IllTyped, Shape, TooManyInstances, QueryTooLarge, NoStore, Tables as BadTables, StoreFault, NoMemory}
-use Rattle.lk_cli.specs.declared.command.Command.{Command}
-use Rattle.lk_cli.specs.declared.command.Command.TheVariants.{Check, Source, Sql}
-use Rattle.lk_cli.specs.declared.command.SourceCommand.{SourceCommand}
+use Rattle.lk_cli.specs.declared.answer.TablesFault.{TablesFault}
+use Rattle.lk_cli.specs.declared.answer.TablesFault.TheVariants as no_tables
+use Rattle.lk_cli.specs.declared.ended.End.{End}
+use Rattle.lk_cli.specs.declared.ended.End.TheVariants as end
+use Rattle.lk_words.specs.declared.command.Command.{Command}
+use Rattle.lk_words.specs.declared.command.Command.TheVariants.{Check, Source, Sql}
+use Rattle.lk_words.specs.declared.command.SourceCommand.{SourceCommand}
 
 -- the program that the text of that file is
 abbrev pub IsProgram : FilesSeen → List ℕ → Program → Type 0
@@ -94,11 +97,10 @@ abbrev pub IsAcceptedOf : FilesSeen → List ℕ → Program → Type 0
 IsAcceptedOf files name program = IsProgram files name program × ((typed : Typed) × (queries : List Translated) × IsAccepted program typed queries)
 
 -- An answered session that began with these rows over the tables of a store before it: a run of the program with the argument and
--- the fuel that are asked for, which doesn't end where the store failed, and the declared tables with rows that fit them, which
--- are the rows that they have at its end.
+-- the fuel that are asked for, which has an end of its own, and the declared tables with rows that fit them, which are the rows
+-- that they have at its end.
 pub record IsSessionOver (program : Program) (command : SourceCommand) (loaded : List TableRows) (done : Done) (before after : Option Tables) : Type 0 where
-  pub run : IsRun program command.arg command.fuel after done.run
-  pub ended : done.run.end ≢ end.StoreFault
+  pub run : IsRun program command.arg command.fuel after (run_of done.run)
   pub tables : AllZip IsOfTable (table_defs program) done.tables
   pub told : HasToldSession program loaded done.run.log done.tables before after
 
@@ -171,8 +173,20 @@ refusal_of_queries translate.NoMemory = NoMemory
 
 -- a reason why a text isn't a tables file as a refusal
 abbrev pub refusal_of_tables : TablesError → Refusal
+refusal_of_tables error.TooLong = BadTables no_tables.TooLong
+refusal_of_tables error.NotJson = BadTables no_tables.NotJson
+refusal_of_tables error.UnknownTable = BadTables no_tables.UnknownTable
+refusal_of_tables error.BadRows = BadTables no_tables.BadRows
+refusal_of_tables error.TooManyRows = BadTables no_tables.TooManyRows
 refusal_of_tables error.NoMemory = NoMemory
-refusal_of_tables kind = BadTables kind
+
+-- and the other way round
+abbrev pub tables_error : TablesFault → TablesError
+tables_error no_tables.TooLong = error.TooLong
+tables_error no_tables.NotJson = error.NotJson
+tables_error no_tables.UnknownTable = error.UnknownTable
+tables_error no_tables.BadRows = error.BadRows
+tables_error no_tables.TooManyRows = error.TooManyRows
 
 -- Why a program isn't typed. Its names aren't bound, for this first reason in text order; or they are, and there is no
 -- `main`. Or its names are bound, and this is the first place of the walk through it at which what is said up to there
@@ -204,7 +218,7 @@ IsNotTranslated program typed refusal = ⊥
 
 -- what is printed for the answer has no function in it
 abbrev pub IsShown : Result Answer Refusal → Type 0
-IsShown (Ok (Run done)) = IsPlainRun done.run
+IsShown (Ok (Run done)) = IsPlainRun (run_of done.run)
 IsShown (Ok (Schemes checked)) = Unit {0}
 IsShown (Ok (Queries checked)) = Unit {0}
 IsShown (Err refusal) = Unit {0}
@@ -220,7 +234,7 @@ HasNoAccepted files name refusal = HasNoProgram files name refusal ⊎ ((program
 -- why there are no rows to begin with: the tables file that is asked for couldn't be read, or its text isn't one
 abbrev pub HasNoRows : FilesSeen → Option (List ℕ) → List TableDef → Refusal → Type 0
 HasNoRows files (Some file) defs (ReadFault failed) = HasFailed files file failed
-HasNoRows files (Some file) defs (BadTables kind) = (text : List ℕ) × HasText files file text × (refusal defs text ≡ Some kind)
+HasNoRows files (Some file) defs (BadTables why) = (text : List ℕ) × HasText files file text × (refusal defs text ≡ Some (tables_error why))
 HasNoRows files file defs NoMemory = Unit {0}
 HasNoRows files file defs other = ⊥
 
@@ -311,13 +325,12 @@ abbrev pub refused_size : Size → Span → List ℕ
 refused_size kind at = line (codes "refused" ∷ codes "14" ∷ codes "QueryTooLarge" ∷ size_name kind ∷ decimal at.start ∷ decimal at.end ∷ [])
 
 -- why a text isn't a tables file
-abbrev pub tables_word : TablesError → List ℕ
-tables_word error.TooLong = codes "TooLong"
-tables_word error.NotJson = codes "NotJson"
-tables_word error.UnknownTable = codes "UnknownTable"
-tables_word error.BadRows = codes "BadRows"
-tables_word error.TooManyRows = codes "TooManyRows"
-tables_word error.NoMemory = codes "NoMemory"
+abbrev pub tables_word : TablesFault → List ℕ
+tables_word no_tables.TooLong = codes "TooLong"
+tables_word no_tables.NotJson = codes "NotJson"
+tables_word no_tables.UnknownTable = codes "UnknownTable"
+tables_word no_tables.BadRows = codes "BadRows"
+tables_word no_tables.TooManyRows = codes "TooManyRows"
 
 -- what is printed for a refusal: `words`, `read fault NAME`, `store NAME`, `tables KIND`, `store fault`, or `refused` with its
 -- number, its name and its fields
@@ -338,7 +351,7 @@ refusal_text (Shape kind at) = refused_shape kind at
 refusal_text TooManyInstances = line (codes "refused" ∷ codes "13" ∷ codes "TooManyInstances" ∷ [])
 refusal_text (QueryTooLarge kind at) = refused_size kind at
 refusal_text (NoStore name) = line (codes "store" ∷ name ∷ [])
-refusal_text (BadTables kind) = line (codes "tables" ∷ tables_word kind ∷ [])
+refusal_text (BadTables why) = line (codes "tables" ∷ tables_word why ∷ [])
 refusal_text StoreFault = line (codes "store" ∷ codes "fault" ∷ [])
 refusal_text NoMemory = []
 
@@ -350,12 +363,11 @@ IsPrintedFor (Ok (Queries checked)) text = text ≡ query_lines checked.queries
 IsPrintedFor (Ok (Run done)) text = IsReport done text
 IsPrintedFor (Err refusal) text = text ≡ refusal_text refusal
 
-abbrev pub end_status : SourceEnd → ℕ
+abbrev pub end_status : End → ℕ
 end_status (end.Value v) = 0
 end_status (end.Trap trap) = 8
 end_status end.Spent = 12
 end_status (end.TableFull size) = 8
-end_status end.StoreFault = 13
 
 abbrev pub status_of : Result Answer Refusal → ℕ
 status_of (Ok (Schemes checked)) = 0
@@ -377,7 +389,7 @@ status_of (Err (QueryTooLarge kind at)) = 1
 status_of (Err Words) = 2
 status_of (Err (ReadFault name)) = 3
 status_of (Err NoMemory) = 5
-status_of (Err (BadTables kind)) = 6
+status_of (Err (BadTables why)) = 6
 status_of (Err (NoStore name)) = 11
 status_of (Err StoreFault) = 13
 

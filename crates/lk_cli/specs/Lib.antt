@@ -1,5 +1,5 @@
 pub mod Answers
+pub mod Ended
 pub mod Loading
 pub mod Report
 pub mod Seen
-pub mod Words

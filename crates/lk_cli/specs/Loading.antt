@@ -17,7 +17,7 @@ use Rattle.lk_sem.specs.declared.run.SourceRun.{SourceRun}
 use Rattle.lk_sound.specs.Tables.{table_at}
 use Rattle.lk_tables.specs.Reading.{refusal, tables_in}
 use Rattle.lk_cli.specs.Seen.{FilesSeen, HasText}
-use Rattle.lk_cli.specs.declared.command.SourceCommand.{SourceCommand}
+use Rattle.lk_words.specs.declared.command.SourceCommand.{SourceCommand}
 
 -- ---- the rows that a session begins with
 

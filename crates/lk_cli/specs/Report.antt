@@ -13,8 +13,6 @@ use Rattle.lk_ast.specs.declared.event.Trap.TheVariants.{Divide, Head, Tail}
 use Rattle.lk_ast.specs.declared.table.TableRows.{TableRows}
 use Rattle.lk_ast.specs.declared.value.Value.TheVariants as value
 use Rattle.lk_operators.specs.Values.{text}
-use Rattle.lk_sem.specs.declared.run.SourceEnd.{SourceEnd}
-use Rattle.lk_sem.specs.declared.run.SourceEnd.TheVariants as end
 use Rattle.lk_sql.specs.Text.{sql_text}
 use Rattle.lk_tables.specs.Printing.{IsPrinted}
 use Rattle.lk_translate.specs.declared.translated.Code.{Code}
@@ -25,6 +23,8 @@ use Rattle.lk_types.specs.declared.scheme.Scheme.{Scheme}
 use Rattle.serde_json.specs.Data.{Data}
 use Rattle.serde_json.specs.Written.{compact_text}
 use Rattle.lk_cli.specs.declared.answer.Done.{Done}
+use Rattle.lk_cli.specs.declared.ended.End.{End}
+use Rattle.lk_cli.specs.declared.ended.End.TheVariants as end
 
 -- words with a space between them, and a line feed
 abbrev pub line : List (List ℕ) → List ℕ
@@ -85,13 +85,12 @@ abbrev pub IsTablesLine : List TableRows → List ℕ → Type 0
 IsTablesLine [] text = text ≡ []
 IsTablesLine (table ∷ tables) text = (object : List ℕ) × IsTablesText (table ∷ tables) object × (text ≡ line (codes "tables" ∷ object ∷ []))
 
--- `done FUEL VALUE`, `trap FUEL KIND`, `spent` or `table-full SIZE`; where the store failed, a session isn't answered
-abbrev pub end_line : SourceEnd → ℕ → List ℕ
+-- `done FUEL VALUE`, `trap FUEL KIND`, `spent` or `table-full SIZE`
+abbrev pub end_line : End → ℕ → List ℕ
 end_line (end.Value v) used = line (codes "done" ∷ decimal used ∷ value_text_of v ∷ [])
 end_line (end.Trap trap) used = line (codes "trap" ∷ decimal used ∷ trap_name trap ∷ [])
 end_line end.Spent used = line (codes "spent" ∷ [])
 end_line (end.TableFull size) used = line (codes "table-full" ∷ decimal size ∷ [])
-end_line end.StoreFault used = line (codes "store" ∷ codes "fault" ∷ [])
 
 -- what is printed for a session
 abbrev pub IsReport : Done → List ℕ → Type 0

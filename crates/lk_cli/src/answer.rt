@@ -4,6 +4,7 @@ ghost use Rattle.std.specs.Prelude.{◌≡◌, [], ◌∷◌, IfOk};
 ghost use Rattle.lk_cli.specs.Report.{line};
 ghost use Rattle.lk_cli.specs.Answers.{IsPrintedFor, IsShown, end_status, refusal_text, refused_at, refused_shape, refused_size, shape_name, size_name, status_of, tables_word};
 
+use crate::ended::{End, Ended};
 use crate::queries::print_queries;
 use crate::report::report;
 use crate::schemes::print_schemes;
@@ -12,7 +13,6 @@ use lk_infer::{InferError, Typed};
 use lk_mono::{MonoError, ShapeKind};
 use lk_names::{NameError, Scoped};
 use lk_parse::ParseError;
-use lk_sem::{SourceEnd, SourceRun};
 use lk_tables::TablesError;
 use lk_translate::{Size, TranslateError, Translated};
 use std::alloc::Global;
@@ -40,8 +40,8 @@ pub struct Checked {
 /// A session that has come to its end.
 #[derive(Drop)]
 pub struct Done {
-    /// Its run, which doesn't end where the store failed.
-    pub run: SourceRun,
+    /// Its run.
+    pub run: Ended,
     /// The declared tables with the rows that they have then.
     pub tables: List<TableRows>,
 }
@@ -82,11 +82,21 @@ pub enum Refusal {
     #[error("no store has the name")]
     NoStore(Text),
     #[error("the text is not a tables file")]
-    Tables(TablesError),
+    Tables(TablesFault),
     #[error("a store failed")]
     StoreFault,
     #[error("out of memory")]
     NoMemory,
+}
+
+/// Why a text isn't a tables file.
+#[derive(Clone, Copy, Debug)]
+pub enum TablesFault {
+    TooLong,
+    NotJson,
+    UnknownTable,
+    BadRows,
+    TooManyRows,
 }
 
 impl From<OutOfMemory> for Refusal {
@@ -180,8 +190,12 @@ impl From<TablesError> for Refusal {
 
     fn from(error: TablesError) -> Self {
         match error {
+            TablesError::TooLong => Refusal::Tables(TablesFault::TooLong),
+            TablesError::NotJson => Refusal::Tables(TablesFault::NotJson),
+            TablesError::UnknownTable => Refusal::Tables(TablesFault::UnknownTable),
+            TablesError::BadRows => Refusal::Tables(TablesFault::BadRows),
+            TablesError::TooManyRows => Refusal::Tables(TablesFault::TooManyRows),
             TablesError::NoMemory => Refusal::NoMemory,
-            kind => Refusal::Tables(kind),
         }
     }
 }
@@ -237,16 +251,15 @@ fn name_of_size(size: Size) -> &'static str
     }
 }
 
-fn word_of_tables(kind: TablesError) -> &'static str
-    ensures { result.now ≡ tables_word kind }
+fn word_of_tables(fault: TablesFault) -> &'static str
+    ensures { result.now ≡ tables_word fault }
 {
-    match kind {
-        TablesError::TooLong => "TooLong",
-        TablesError::NotJson => "NotJson",
-        TablesError::UnknownTable => "UnknownTable",
-        TablesError::BadRows => "BadRows",
-        TablesError::TooManyRows => "TooManyRows",
-        TablesError::NoMemory => "NoMemory",
+    match fault {
+        TablesFault::TooLong => "TooLong",
+        TablesFault::NotJson => "NotJson",
+        TablesFault::UnknownTable => "UnknownTable",
+        TablesFault::BadRows => "BadRows",
+        TablesFault::TooManyRows => "TooManyRows",
     }
 }
 
@@ -291,7 +304,7 @@ fn print_refusal(alloc: Global, refusal: &Refusal) -> Result<Text, OutOfMemory>
         Refusal::TooManyInstances => Ok(Text::from_str(alloc, "refused 13 TooManyInstances\n")?),
         Refusal::QueryTooLarge(size, at) => refused_size(alloc, *size, *at),
         Refusal::NoStore(name) => line_with(alloc, "store", name.as_str()),
-        Refusal::Tables(kind) => line_with(alloc, "tables", word_of_tables(*kind)),
+        Refusal::Tables(fault) => line_with(alloc, "tables", word_of_tables(*fault)),
         Refusal::StoreFault => Ok(Text::from_str(alloc, "store fault\n")?),
         Refusal::NoMemory => Ok(Text::new(alloc)),
     }
@@ -334,13 +347,12 @@ pub fn answer_status(answer: &Result<Answer, Refusal>) -> u8
     }
 }
 
-fn status_of_end(end: &SourceEnd) -> u8
+fn status_of_end(end: &End) -> u8
     ensures { result ≡ end_status end.now }
 {
     match end {
-        SourceEnd::Value(_) => 0,
-        SourceEnd::Trap(_) | SourceEnd::TableFull(_) => 8,
-        SourceEnd::Spent => 12,
-        SourceEnd::StoreFault => 13,
+        End::Value(_) => 0,
+        End::Trap(_) | End::TableFull(_) => 8,
+        End::Spent => 12,
     }
 }

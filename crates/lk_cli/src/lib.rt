@@ -3,8 +3,8 @@
 #![tactic(auto)]
 
 mod answer;
-mod command;
 mod compile;
+mod ended;
 mod load;
 mod queries;
 mod report;
@@ -12,9 +12,9 @@ mod schemes;
 mod session;
 mod top;
 
-// No public call takes or gives an answer, a refusal or a command: they are public for the clauses of the top call.
-pub use answer::{Answer, Checked, Done, Refusal};
-pub use command::{CheckCommand, Command, SourceCommand, SqlCommand};
+// No public call takes or gives an answer or a refusal: they are public for the clauses of the top call.
+pub use answer::{Answer, Checked, Done, Refusal, TablesFault};
+pub use ended::{End, Ended};
 pub use top::{Ran, links_main};
 
 /// How many bytes of a program's file are read: one more than a program's text may have.

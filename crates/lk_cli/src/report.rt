@@ -5,23 +5,24 @@ ghost use Rattle.std.specs.Prelude.{◌≡◌, ◌++◌, IfOk, false};
 ghost use Rattle.lk_ast.specs.JsonText.{value_text_of};
 ghost use Rattle.lk_ast.specs.Plain.{holds_function};
 ghost use Rattle.lk_ast.specs.declared.value.Value.TheVariants.{List as list_value};
+ghost use Rattle.lk_cli.specs.Ended.{run_of, source_end};
 ghost use Rattle.lk_cli.specs.Report.{IsReport, IsTablesLine, event_line, end_line, trap_name};
 ghost use Rattle.lk_operators.specs.Values.{text as text_value};
 ghost use Rattle.lk_types.specs.Each.{Each};
 ghost use Rattle.lk_sem.specs.SourceRuns.{IsPlainEnd, IsPlainEvent, IsPlainRun};
 
 use crate::answer::Done;
+use crate::ended::End;
 use lk_ast::{
     Base, Event, NoMemory, TableRows, Text, Trap, Value, copy_values, rows_value, value_text,
 };
-use lk_sem::SourceEnd;
 use lk_tables::print_tables;
 use std::alloc::Global;
 
 /// The report of a session in which no function is shown: a line for each event in order, one for the declared tables, and
 /// one for the end.
 pub fn report(alloc: Global, done: &Done) -> Result<Text, NoMemory>
-    requires shown { IsPlainRun done.now.run }
+    requires shown { IsPlainRun (run_of done.now.run) }
     ensures { IfOk result (IsReport done.now) }
 {
     let events = lines_of_events(alloc, done.run.log.as_slice())?;
@@ -94,23 +95,22 @@ fn line_of_event(alloc: Global, event: &Event) -> Result<Text, NoMemory>
     }
 }
 
-fn line_of_end(alloc: Global, end: &SourceEnd, used: u64) -> Result<Text, NoMemory>
-    requires shown { IsPlainEnd end.now }
+fn line_of_end(alloc: Global, end: &End, used: u64) -> Result<Text, NoMemory>
+    requires shown { IsPlainEnd (source_end end.now) }
     ensures { IfOk result (λ line. line ≡ end_line end.now used) }
 {
     match end {
-        SourceEnd::Value(value) => {
+        End::Value(value) => {
             let value = value_text(alloc, value)?;
             let line = format!(in alloc; "done {} {}\n", used, value.as_str())?;
             Ok(Text::from_string(line))
         }
-        SourceEnd::Trap(trap) => {
+        End::Trap(trap) => {
             let line = format!(in alloc; "trap {} {}\n", used, name_of_trap(*trap))?;
             Ok(Text::from_string(line))
         }
-        SourceEnd::Spent => Ok(Text::from_str(alloc, "spent\n")?),
-        SourceEnd::StoreFault => Ok(Text::from_str(alloc, "store fault\n")?),
-        SourceEnd::TableFull(size) => {
+        End::Spent => Ok(Text::from_str(alloc, "spent\n")?),
+        End::TableFull(size) => {
             let line = format!(in alloc; "table-full {}\n", *size)?;
             Ok(Text::from_string(line))
         }

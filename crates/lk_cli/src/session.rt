@@ -1,24 +1,25 @@
 //! The session of a program over a store.
 
 ghost use Rattle.std.specs.List.{AllZip};
-ghost use Rattle.std.specs.Prelude.{◌≡◌, ◌≢◌, false, IfErr, IfOk, IfSome};
+ghost use Rattle.std.specs.Prelude.{◌≡◌, false, IfErr, IfOk, IfSome};
 ghost use Rattle.lk_ast.specs.Tables.{table_defs as declared_tables};
 ghost use Rattle.lk_cli.specs.Answers.{IsSessionOver};
+ghost use Rattle.lk_cli.specs.Ended.{run_of};
 ghost use Rattle.lk_cli.specs.Loading.{AreLeft, BreaksOff, IsOfTable, IsScanned};
 ghost use Rattle.lk_outside.specs.Causes.{HasCause};
 ghost use Rattle.lk_sem.specs.Histories.{KeepsOthers};
 ghost use Rattle.lk_sem.specs.SourceRuns.{HasBegunSession, HasHistory, IsPlainRun, IsRun};
-ghost use Rattle.lk_sem.specs.declared.run.SourceEnd.TheVariants.{StoreFault as store_fault};
 ghost use Rattle.lk_sound.specs.Instances.{IsShaped};
 ghost use Rattle.lk_sound.specs.Law.{AreBoundAndApart};
 ghost use Rattle.lk_sound.specs.Tables.{AreTables};
 
 use crate::answer::Done;
-use crate::command::SourceCommand;
+use crate::ended::{Ended, ended_run};
 use crate::load::{last_scan, load};
 use lk_ast::{List, Program, TableDef, TableRows};
 use lk_outside::{OutFault, Store};
-use lk_sem::{SourceEnd, SourceRun, source_run};
+use lk_sem::source_run;
+use lk_words::SourceCommand;
 use std::alloc::Global;
 
 /// What became of a session, and the store that it ran over.
@@ -51,7 +52,7 @@ pub fn run_in_box(
     ensures name { name result.store ≡ name store }
     ensures idle { is_open result.store ≡ false }
     ensures session { IfOk result.outcome (λ done. IsSessionOver program.now command.now rows.loaded done (tables store) (tables result.store)) }
-    ensures plain { IfOk result.outcome (λ done. IsPlainRun done.run) }
+    ensures plain { IfOk result.outcome (λ done. IsPlainRun (run_of done.run)) }
     ensures refused { IfErr result.outcome (λ fault. AreLeft program.now command.now rows.loaded fault (tables store) (tables result.store)) }
     ensures cause { HasCause (faults store) (faults result.store) result.outcome }
 {
@@ -76,7 +77,7 @@ fn run_over(
     ensures name { name store.new ≡ name store.old }
     ensures idle { is_open store.new ≡ false }
     ensures session { IfOk result (λ done. IsSessionOver program.now command.now rows.loaded done (tables store.old) (tables store.new)) }
-    ensures plain { IfOk result (λ done. IsPlainRun done.run) }
+    ensures plain { IfOk result (λ done. IsPlainRun (run_of done.run)) }
     ensures refused { IfErr result (λ fault. AreLeft program.now command.now rows.loaded fault (tables store.old) (tables store.new)) }
     ensures cause { HasCause (faults store.old) (faults store.new) result }
 {
@@ -100,12 +101,11 @@ fn run_loaded(
     requires idle { is_open store.old ≡ false }
     ensures name { name store.new ≡ name store.old }
     ensures idle { is_open store.new ≡ false }
-    ensures run { IfOk result (λ done. IsRun program.now command.now.arg command.now.fuel (tables store.new) done.run) }
-    ensures ended { IfOk result (λ done. done.run.end ≢ store_fault) }
+    ensures run { IfOk result (λ done. IsRun program.now command.now.arg command.now.fuel (tables store.new) (run_of done.run)) }
     ensures history { IfOk result (λ done. HasHistory program.now (tables store.old) (tables store.new) done.run.log) }
     ensures others { KeepsOthers program.now (tables store.old) (tables store.new) }
     ensures scanned { IfOk result (λ done. AllZip (IsScanned (tables store.new)) defs.now done.tables) }
-    ensures plain { IfOk result (λ done. IsPlainRun done.run) }
+    ensures plain { IfOk result (λ done. IsPlainRun (run_of done.run)) }
     ensures refused { IfErr result (λ fault. BreaksOff program.now command.now fault (tables store.old) (tables store.new)) }
     ensures cause { HasCause (faults store.old) (faults store.new) result }
 {
@@ -120,26 +120,25 @@ fn evaluate(
     program: &Program,
     command: &SourceCommand,
     store: &mut dyn Store,
-) -> Result<SourceRun, OutFault>
+) -> Result<Ended, OutFault>
     requires apart { AreBoundAndApart program.now }
     requires shaped { IsShaped program.now }
     requires fit { IfSome (tables store.old) (AreTables program.now) }
     requires idle { is_open store.old ≡ false }
     ensures name { name store.new ≡ name store.old }
     ensures idle { is_open store.new ≡ false }
-    ensures run { IfOk result (IsRun program.now command.now.arg command.now.fuel (tables store.new)) }
-    ensures ended { IfOk result (λ run. run.end ≢ store_fault) }
+    ensures run { IfOk result (λ run. IsRun program.now command.now.arg command.now.fuel (tables store.new) (run_of run)) }
     ensures history { IfOk result (λ run. HasHistory program.now (tables store.old) (tables store.new) run.log) }
     ensures begun { IfOk result (λ run. HasBegunSession program.now command.now.arg command.now.fuel run.log) }
     ensures others { KeepsOthers program.now (tables store.old) (tables store.new) }
-    ensures plain { IfOk result IsPlainRun }
+    ensures plain { IfOk result (λ run. IsPlainRun (run_of run)) }
     ensures fit { IfSome (tables store.new) (AreTables program.now) }
     ensures refused { IfErr result (λ fault. BreaksOff program.now command.now fault (tables store.old) (tables store.new)) }
     ensures cause { HasCause (faults store.old) (faults store.new) result }
 {
     let run = source_run(alloc, program, &command.arg, store, command.fuel)?;
-    match run.end {
-        SourceEnd::StoreFault => Err(OutFault::Failed),
-        _ => Ok(run),
+    match ended_run(run) {
+        Some(run) => Ok(run),
+        None => Err(OutFault::Failed),
     }
 }

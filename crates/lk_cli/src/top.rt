@@ -7,16 +7,15 @@ ghost use Rattle.lk_bag.specs.Blocks.{AreBlocksApart};
 ghost use Rattle.lk_cli.specs.Answers.{Answers, AnswersSession, Ends, HasNoAccepted, HasNoRows, HasNoStore, IsAccepted, IsProgram, IsShown, answer_of};
 ghost use Rattle.lk_cli.specs.Loading.{AreLoaded, IsOfTable};
 ghost use Rattle.lk_cli.specs.Seen.{StoresSeen, seen, stores_seen};
-ghost use Rattle.lk_cli.specs.Words.{form_of, store_of};
+ghost use Rattle.lk_words.specs.Words.{form_of, store_of};
 ghost use Rattle.lk_cli.specs.declared.answer.Answer.{Answer as TheAnswer};
 ghost use Rattle.lk_cli.specs.declared.answer.Refusal.{Refusal as TheRefusal};
-ghost use Rattle.lk_cli.specs.declared.command.Command.TheVariants.{Check, Source, Sql};
+ghost use Rattle.lk_words.specs.declared.command.Command.TheVariants.{Check, Source, Sql};
 ghost use Rattle.lk_index.specs.Places.{ArePlaced};
 ghost use Rattle.lk_sound.specs.Instances.{IsShaped};
 ghost use Rattle.lk_sound.specs.Law.{AreBoundAndApart};
 
 use crate::answer::{Answer, Checked, Refusal, answer_status, print_answer};
-use crate::command::{CheckCommand, Command, SourceCommand, SqlCommand, read_words};
 use crate::compile::{check_program, read_program};
 use crate::load::rows_to_load;
 use crate::session::{Rows, Tried, run_in_box};
@@ -24,6 +23,7 @@ use lk_ast::{Program, Text};
 use lk_bag::table_defs;
 use lk_outside::{Files, OutFault, Sink, Store};
 use lk_store::pick;
+use lk_words::{CheckCommand, Command, SourceCommand, SqlCommand, WordsError, read_words};
 use std::alloc::Global;
 
 /// The status of a run, and the store that was picked for it.
@@ -100,23 +100,23 @@ fn answer_words<F: Files>(
     ensures named { IfSome result.store (λ store. name store ≡ store_of (form_of (map string_bytes words.now))) }
 {
     match read_words(alloc, words) {
-        Err(_) => Answered {
+        Err(WordsError::NoMemory) => Answered {
             answer: Err(Refusal::NoMemory),
             store: None,
         },
-        Ok(None) => Answered {
+        Err(WordsError::NoForm) => Answered {
             answer: Err(Refusal::Words),
             store: None,
         },
-        Ok(Some(Command::Check(command))) => Answered {
+        Ok(Command::Check(command)) => Answered {
             answer: answer_check(alloc, &command, files),
             store: None,
         },
-        Ok(Some(Command::Sql(command))) => Answered {
+        Ok(Command::Sql(command)) => Answered {
             answer: answer_sql(alloc, &command, files),
             store: None,
         },
-        Ok(Some(Command::Source(command))) => answer_source(alloc, &command, files, stores),
+        Ok(Command::Source(command)) => answer_source(alloc, &command, files, stores),
     }
 }
 

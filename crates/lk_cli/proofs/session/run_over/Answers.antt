@@ -23,4 +23,4 @@ returns-clause-session g c =
     let declared : c.as_slice.result.now ≡ table_defs c.args.program.now = c.as_slice.ensures ∙ c.requires.declared in
     let again : c.as_slice-2.result.now ≡ table_defs c.args.program.now = c.as_slice-2.ensures ∙ c.requires.declared in
     let is = c.in_ok-run_loaded.ensures in
-    session_over c.args.program.now c.args.command.now c.args.rows.loaded c.in_ok-run_loaded.field-0 _ _ _ (rw declared at c.in_ok-load.ensures.loaded) is.run is.ended is.history is.others (rw again at is.scanned)
+    session_over c.args.program.now c.args.command.now c.args.rows.loaded c.in_ok-run_loaded.field-0 _ _ _ (rw declared at c.in_ok-load.ensures.loaded) is.run is.history is.others (rw again at is.scanned)

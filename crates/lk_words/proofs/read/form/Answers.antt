@@ -1,7 +1,7 @@
 use Rattle.std.proofs.Common.{◌∙◌, sym, map, string_bytes}
 use Rattle.std.proofs.lemmas.Result.{IfOk-weaker}
-use Rattle.lk_cli.proofs.Forms.{form_of_parsed, form_of_refused}
-use Rattle.lk_cli.proofs.command.read_words.Goals as goal
+use Rattle.lk_words.proofs.Forms.{form_of_parsed, form_of_refused}
+use Rattle.lk_words.proofs.read.form.Goals as goal
 
 pub returns-in-Ok : goal.returns-in-Ok
 returns-in-Ok c =

@@ -1,15 +1,18 @@
-//! The words of a command line.
+//! Words as a command.
 
-ghost use Rattle.std.specs.Prelude.{◌≡◌, false, IfOk, map, option_and_then, option_map, string_bytes, unwrap_or};
-ghost use Rattle.clap.specs.Walk.{first_of, rows_of, rule_of};
-ghost use Rattle.clap.specs.Words.{app_of, found_of, subcommand_rows_of};
-ghost use Rattle.clap.specs.declared.builder.command.Command.TheViews.{out-Command as fields_of};
-ghost use Rattle.lk_cli.specs.Words.{bare_app, bare_source_app, links_app, source_app, sql_app, needed, optional, form_of, check_app, check_of, command_of, sql_of, default_store, source_of, number_or, number_of};
+ghost use Rattle.std.specs.Prelude.{◌≡◌, Some, IfErr, IfOk, map, option_and_then, option_map, string_bytes};
+ghost use Rattle.clap.specs.Walk.{first_of, rows_of};
+ghost use Rattle.clap.specs.Words.{found_of, subcommand_rows_of};
+ghost use Rattle.lk_words.specs.Refused.{IsRefused};
+ghost use Rattle.lk_words.specs.Words.{check_of, command_of, form_of, number_of, number_or, source_of, sql_of};
 
+use crate::command::{CheckCommand, Command, SourceCommand, SqlCommand};
+use crate::error::WordsError;
+use crate::line::links_command;
+use clap::ArgMatches;
 use clap::error::ErrorKind;
-use clap::{Arg, ArgAction, ArgMatches};
 use lk_ast::{NoMemory, Text};
-use std::alloc::{AllocError, Global};
+use std::alloc::Global;
 
 /// The fuel of `source` where the words ask for none.
 const DEFAULT_FUEL: u64 = 1_000_000;
@@ -20,45 +23,19 @@ const DEFAULT_STORE: &str = "memory";
 /// The most fuel that the words may ask for.
 const MOST_FUEL: u64 = 1_000_000_000;
 
-/// What words ask for.
-#[derive(Debug, Drop)]
-pub enum Command {
-    Check(CheckCommand),
-    Sql(SqlCommand),
-    Source(SourceCommand),
+/// The command that the words ask for.
+pub fn read_words(alloc: Global, words: &[String]) -> Result<Command, WordsError>
+    ensures found { IfOk result (λ command. Some command ≡ form_of (map string_bytes words.now)) }
+    ensures refused { IfErr result (IsRefused (map string_bytes words.now)) }
+{
+    match form(alloc, words)? {
+        Some(command) => Ok(command),
+        None => Err(WordsError::NoForm),
+    }
 }
 
-/// `check PROGRAM`.
-#[derive(Debug, Drop)]
-pub struct CheckCommand {
-    /// The file of the program.
-    pub program: Text,
-}
-
-/// `sql PROGRAM`.
-#[derive(Debug, Drop)]
-pub struct SqlCommand {
-    /// The file of the program.
-    pub program: Text,
-}
-
-/// `source PROGRAM ARG`, with `--tables FILE`, `--store NAME` and `--fuel N`.
-#[derive(Debug, Drop)]
-pub struct SourceCommand {
-    /// The file of the program.
-    pub program: Text,
-    /// The argument of its session.
-    pub arg: Text,
-    /// The file of the rows that the session begins with, where it doesn't begin with none.
-    pub tables: Option<Text>,
-    /// The name of the store that the session runs over.
-    pub store: Text,
-    /// How many nodes the evaluation may enter.
-    pub fuel: u64,
-}
-
-/// The command that the words ask for, or `None` where they have no form. The program's own name isn't among them.
-pub fn read_words(alloc: Global, words: &[String]) -> Result<Option<Command>, NoMemory>
+/// The command that the words ask for, where they have a form.
+fn form(alloc: Global, words: &[String]) -> Result<Option<Command>, NoMemory>
     ensures { IfOk result (λ command. command ≡ form_of (map string_bytes words.now)) }
 {
     let command = links_command(alloc)?;
@@ -175,73 +152,4 @@ fn number_of(text: &str) -> Option<u64>
         Ok(_) => None,
         Err(_) => None,
     }
-}
-
-/// The command line.
-fn links_command<'a>(alloc: Global) -> Result<clap::Command<'a>, AllocError>
-    ensures { IfOk result (λ command. app_of command ≡ links_app) }
-{
-    bare_command(alloc)
-        .subcommand(check_command(alloc)?)?
-        .subcommand(sql_command(alloc)?)?
-        .subcommand(source_command(alloc)?)
-}
-
-/// A command line without its subcommands, one of which has to be there.
-fn bare_command<'a>(alloc: Global) -> clap::Command<'a>
-    ensures { app_of result ≡ bare_app }
-{
-    clap::Command::new(alloc, "links")
-        .no_binary_name(true)
-        .disable_help_flag(true)
-        .disable_version_flag(true)
-        .disable_help_subcommand(true)
-        .subcommand_required(true)
-}
-
-/// `check PROGRAM`.
-fn check_command<'a>(alloc: Global) -> Result<clap::Command<'a>, AllocError>
-    ensures { IfOk result (λ command. (app_of command ≡ check_app) × ((fields_of command).has_globals ≡ false)) }
-{
-    clap::Command::new(alloc, "check").arg(needed(alloc, "program"))
-}
-
-/// `sql PROGRAM`.
-fn sql_command<'a>(alloc: Global) -> Result<clap::Command<'a>, AllocError>
-    ensures { IfOk result (λ command. (app_of command ≡ sql_app) × ((fields_of command).has_globals ≡ false)) }
-{
-    clap::Command::new(alloc, "sql").arg(needed(alloc, "program"))
-}
-
-/// `source PROGRAM ARG`, with `--tables FILE`, `--store NAME` and `--fuel N`.
-fn source_command<'a>(alloc: Global) -> Result<clap::Command<'a>, AllocError>
-    ensures { IfOk result (λ command. (app_of command ≡ source_app) × ((fields_of command).has_globals ≡ false)) }
-{
-    bare_source(alloc)?
-        .arg(optional(alloc, "tables"))?
-        .arg(optional(alloc, "store"))?
-        .arg(optional(alloc, "fuel"))
-}
-
-/// `source PROGRAM ARG`, without its options.
-fn bare_source<'a>(alloc: Global) -> Result<clap::Command<'a>, AllocError>
-    ensures { IfOk result (λ command. (app_of command ≡ bare_source_app) × ((fields_of command).has_globals ≡ false)) }
-{
-    clap::Command::new(alloc, "source")
-        .arg(needed(alloc, "program"))?
-        .arg(needed(alloc, "arg"))
-}
-
-/// An argument that has to be there, at its place among the others.
-fn needed<'a>(alloc: Global, name: &'a str) -> Arg<'a>
-    ensures { (rule_of result ≡ needed name.entry.now) × (result.global ≡ false) }
-{
-    Arg::new(alloc, name).required(true).action(ArgAction::Set)
-}
-
-/// An option with one value.
-fn optional<'a>(alloc: Global, name: &'a str) -> Arg<'a>
-    ensures { (rule_of result ≡ optional name.entry.now) × (result.global ≡ false) }
-{
-    Arg::new(alloc, name).long(name).action(ArgAction::Set)
 }

@@ -9,8 +9,8 @@ use Rattle.clap.specs.declared.error.kind.ErrorKind.{ErrorKind}
 use Rattle.clap.specs.declared.error.kind.ErrorKind.TheVariants.{OutOfMemory}
 use Rattle.clap.specs.declared.parser.matches.ArgMatches.{ArgMatches}
 use Rattle.clap.proofs.OnLiterals.{clap_on_literals}
-use Rattle.lk_cli.specs.Words.{command_of, form_of, links_app, unless}
-use Rattle.lk_cli.specs.declared.command.Command.{Command}
+use Rattle.lk_words.specs.Words.{command_of, form_of, links_app, unless}
+use Rattle.lk_words.specs.declared.command.Command.{Command}
 
 -- of this command clap says exactly what it makes of the words
 exact : is_simple_and_free links_app ≡ true

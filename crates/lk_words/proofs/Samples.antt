@@ -2,9 +2,9 @@
 use Rattle.std.proofs.Common.{◌≡◌, ℕ, List, [], ◌∷◌, codes, refl, Option, Some, None}
 use Rattle.std.specs.Fmt.{digits}
 use Rattle.clap.proofs.OnLiterals.{clap_on_literals}
-use Rattle.lk_cli.specs.Words.{check_of, form_of, source_of}
-use Rattle.lk_cli.specs.declared.command.Command.{Command}
-use Rattle.lk_cli.specs.declared.command.Command.TheVariants.{Check, Source}
+use Rattle.lk_words.specs.Words.{check_of, form_of, source_of}
+use Rattle.lk_words.specs.declared.command.Command.{Command}
+use Rattle.lk_words.specs.declared.command.Command.TheVariants.{Check, Source}
 
 -- `source p` with this argument and fuel, and no other option
 abbrev source : List ℕ → ℕ → Option Command

@@ -1,6 +1,6 @@
 use Rattle.std.proofs.Common.{◌∙◌, ℕ, List, ap, slice_get, sym}
-use Rattle.lk_cli.proofs.Numbers.{number_refused, number_parsed, number_unparsed}
-use Rattle.lk_cli.proofs.command.number_of.Goals as goal
+use Rattle.lk_words.proofs.Numbers.{number_refused, number_parsed, number_unparsed}
+use Rattle.lk_words.proofs.read.number_of.Goals as goal
 
 pub returns-then-first-le48 : goal.returns-then-first-le48
 returns-then-first-le48 c =

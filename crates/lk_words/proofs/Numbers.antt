@@ -7,7 +7,7 @@ use Rattle.std.proofs.lemmas.Bool.Decides.{Decides-and, nat_tests}
 use Rattle.std.proofs.lemmas.Fmt.{decimal_nonempty, digits_decimal, digits_value-decimal, decimal-digits_value, first_decimal, decimal_digit}
 use Rattle.std.proofs.lemmas.Slice.Eq.{bytes_eq-Decides}
 use Rattle.std.proofs.lemmas.Str.Parse.{IsNumeralModel, numerals_by_value, parse_digits, parse_plain, tells_digits}
-use Rattle.lk_cli.specs.Words.{most_fuel, number_of}
+use Rattle.lk_words.specs.Words.{most_fuel, number_of}
 
 -- the text is the one that writes this number
 abbrev pub IsNumber : List ℕ → ℕ → Type 0
