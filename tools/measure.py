@@ -179,18 +179,23 @@ def put(path, make):
 
 
 def hard(links, folder):
-    print("| input | bytes | command | time | memory | status | first line |")
-    print("|---|---|---|---|---|---|---|")
+    print("| input | bytes | check | sql | source | memory | status | first line of `check`, else of `source` |")
+    print("|---|---|---|---|---|---|---|---|")
     program, rows = f"{folder}/p.links", f"{folder}/t.json"
     cases = [(name, program, make, ("check", "sql", "source")) for name, make in TEXTS] + [(name, rows, make, ("source",)) for name, make in TABLES]
     for name, path, make, commands in cases:
         apart(put, path, make)
         if path == rows:
             put(program, lambda: ASKS)
+        runs = {}
         for command in commands:
             words = [links, command, program] + (["ann"] if command == "source" else []) + (["--tables", rows] if path == rows else [])
-            seconds, memory, status, line = measured(words, 1)
-            print(f"| {name} | {os.path.getsize(path):,} | {command} | {seconds:.2f} s | {memory:.0f} MB | {status} | `{line.replace('|', '&#124;')}` |", flush=True)
+            runs[command] = measured(words, 1)
+        times = " | ".join(f"{runs[command][0]:.2f} s" if command in runs else "" for command in ("check", "sql", "source"))
+        memory = max(run[1] for run in runs.values())
+        statuses = ", ".join(str(status) for status in sorted({run[2] for run in runs.values()}))
+        line = runs[commands[0]][3].replace("|", "&#124;")
+        print(f"| {name} | {os.path.getsize(path):,} | {times} | {memory:.0f} MB | {statuses} | `{line}` |", flush=True)
 
 
 def main():
