@@ -1,5 +1,5 @@
-//! Tests of the crates below the top call, each of its public calls on values made by hand. They stand apart, since a crate
-//! with tests of its own is proved twice.
+//! Tests of plain data, of queries and of the outside, each public call on values made by hand. They stand apart from what
+//! they test, since a crate with tests of its own is proved twice.
 #![tactic(auto)]
 
 #[cfg(test)]
@@ -7,40 +7,12 @@ mod ast;
 #[cfg(test)]
 mod bag;
 #[cfg(test)]
-mod classes;
-#[cfg(test)]
-mod equations;
-#[cfg(test)]
-mod grammar;
-#[cfg(test)]
-mod ground_types;
-#[cfg(test)]
 mod index;
 #[cfg(test)]
 mod locals;
 #[cfg(test)]
-mod names;
-#[cfg(test)]
-mod outline;
-#[cfg(test)]
 mod outside;
-#[cfg(test)]
-mod parse;
-#[cfg(test)]
-mod read;
-#[cfg(test)]
-mod rows;
-#[cfg(test)]
-mod scope;
 #[cfg(test)]
 mod store;
 #[cfg(test)]
 mod tables;
-#[cfg(test)]
-mod types;
-#[cfg(test)]
-mod typing;
-#[cfg(test)]
-mod unify_constraints;
-#[cfg(test)]
-mod unify_equations;
