@@ -14,6 +14,7 @@ pub mod Looks
 pub mod Loose
 pub mod Mades
 pub mod Merged
+pub mod Noted
 pub mod Ordered
 pub mod Pairs
 pub mod Placed

@@ -1,5 +1,6 @@
 pub mod Counting
 pub mod Kinds
+pub mod Lookups
 pub mod Measures
 pub mod Openings
 pub mod Order

@@ -7,11 +7,13 @@ ghost use Rattle.lk_arena.specs.Shapes.{shape_at, IsArena, IsEnd, IsFlatBut, Nev
 ghost use Rattle.lk_arena.specs.Ways.{HasWay};
 
 use crate::arena::Arena;
+use crate::by_label::{lacks_all, note_labels};
 use crate::kind::is_row;
-use crate::labels::{append, lacks_all};
+use crate::labels::append;
 use crate::node::{Field, Shape};
 use lk_ast::{List, NoMemory};
 use std::alloc::Global;
+use std::collections::BTreeMap;
 
 /// All fields of a row, and the class of a tail without fields of its own.
 #[derive(Debug, Drop)]
@@ -23,11 +25,11 @@ pub struct Flat {
 
 /// The fields of a row, which are its own and those of the rows that its tails stand for. None where a label stands twice, or a
 /// tail is no row, or is the hole: then the row and the hole differ in all values that fit.
-pub fn flat_row(
+pub fn flat_row<'a>(
     alloc: Global,
-    arena: &Arena,
+    arena: &'a Arena,
     row: usize,
-    own: &[Field],
+    own: &'a [Field],
     first: usize,
     hole: usize,
 ) -> Result<Option<Flat>, NoMemory>
@@ -41,6 +43,9 @@ pub fn flat_row(
 {
     let mut fields = List::new(alloc);
     append(alloc, &mut fields, own)?;
+    // Labels are noted only where another row comes, since most have none.
+    let mut labels = BTreeMap::new(alloc);
+    let mut unnoted = own;
     let mut tail = arena.class_of(first);
     loop {
         if tail == hole {
@@ -51,10 +56,12 @@ pub fn flat_row(
         }
         match arena.shape_of(tail) {
             Shape::Row(more, next) => {
-                if !lacks_all(fields.as_slice(), more.as_slice()) {
+                note_labels(&mut labels, unnoted)?;
+                if !lacks_all(&labels, more.as_slice()) {
                     return Ok(None);
                 }
                 append(alloc, &mut fields, more.as_slice())?;
+                unnoted = more.as_slice();
                 tail = arena.class_of(*next);
             }
             _ => return Ok(Some(Flat { row, fields, tail })),

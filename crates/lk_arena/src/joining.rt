@@ -113,6 +113,11 @@ pub fn join_rows(
         return Ok(false);
     }
     join_tails(alloc, arena, queue, left.tail, right.tail, lefts, rights)?;
-    push_common(queue, left.fields.as_slice(), right.fields.as_slice())?;
+    push_common(
+        alloc,
+        queue,
+        left.fields.as_slice(),
+        right.fields.as_slice(),
+    )?;
     Ok(true)
 }

@@ -6,6 +6,7 @@
 #![tactic(auto)]
 
 mod arena;
+mod by_label;
 mod clean;
 mod counting;
 mod depth;
@@ -18,10 +19,10 @@ mod node;
 mod order;
 
 pub use arena::Arena;
+pub use by_label::{are_distinct, node_of};
 pub use clean::is_clean;
 pub use counting::{Count, count_at, counts};
 pub use kind::is_loose;
-pub use labels::node_of;
 pub use merge::merge_nodes;
 pub use node::{Field, Head, Pair, Shape};
 pub use order::{is_ordered, parts_first};

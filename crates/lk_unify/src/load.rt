@@ -1,13 +1,12 @@
 //! Types as nodes.
 
-ghost use Rattle.std.specs.Prelude.{◌≡◌, ◌∷◌, [], IfOk, IsTrue, false, Some};
+ghost use Rattle.std.specs.Prelude.{◌≡◌, ◌∷◌, [], IfOk, Some};
 ghost use Rattle.lk_types.specs.TypeText.{effect_word};
 ghost use Rattle.lk_arena.specs.Kinds.{OfTypes, OfFields, OfEffects};
-ghost use Rattle.lk_arena.specs.Shapes.{IsDistinct};
 ghost use Rattle.lk_unify.specs.Loading.{type_meaning, types_meaning, row_meaning, effects_meaning, end_value, shape_for, kind_of, IsLoader, Adds, AddsRow, AddsFunction, Loads, LoadsEnd, Loaded, LoadedAll, LoadedFields, LoadedEquation, effect_fields, node_for};
 
 use crate::loader::Loader;
-use lk_arena::{Field, Head, Pair, Shape, node_of};
+use lk_arena::{Field, Head, Pair, Shape, are_distinct};
 use lk_ast::{List, NoMemory, Text};
 use lk_types::{Effect, Effects, Equation, Ty, TyField, TyRow, Variable, effect_word};
 use std::alloc::Global;
@@ -23,19 +22,6 @@ fn shape_for(variable: Variable) -> Shape
     }
 }
 
-/// Whether no label stands twice.
-fn are_distinct(fields: &[Field]) -> bool
-    ensures distinct { IsTrue result → IsDistinct fields.now }
-    ensures twice { (result ≡ false) → IsDistinct fields.now → ⊥ }
-{
-    for i in 0..fields.len() {
-        if node_of(&fields[i + 1..], &fields[i].label).is_some() {
-            return false;
-        }
-    }
-    true
-}
-
 /// Adds a node.
 fn add_node(loader: &mut Loader, shape: Shape) -> Result<usize, NoMemory>
     ensures { IfOk result (λ n. Adds loader.old loader.new shape n) }
@@ -44,10 +30,15 @@ fn add_node(loader: &mut Loader, shape: Shape) -> Result<usize, NoMemory>
 }
 
 /// Adds fields before a row, if no label stands twice among them.
-fn add_row(loader: &mut Loader, fields: List<Field>, tail: usize) -> Result<Option<usize>, NoMemory>
+fn add_row(
+    alloc: Global,
+    loader: &mut Loader,
+    fields: List<Field>,
+    tail: usize,
+) -> Result<Option<usize>, NoMemory>
     ensures { IfOk result (λ answer. AddsRow loader.old loader.new fields tail answer) }
 {
-    if are_distinct(fields.as_slice()) {
+    if are_distinct(alloc, fields.as_slice())? {
         return Ok(Some(add_node(loader, Shape::Row(fields, tail))?));
     }
     Ok(None)
@@ -144,7 +135,7 @@ fn load_effects(
     let nothing = add_node(loader, Shape::Empty)?;
     let unit = add_node(loader, Shape::Made(Head::Fields, one(alloc, nothing)?))?;
     let fields = effect_fields(alloc, effects.labels.as_slice(), unit)?;
-    Ok(add_row(loader, fields, tail)?)
+    Ok(add_row(alloc, loader, fields, tail)?)
 }
 
 /// A node for a constructor without parts.
@@ -270,7 +261,7 @@ fn load_row(alloc: Global, loader: &mut Loader, row: &TyRow) -> Result<Option<us
     if fields.is_empty() {
         return Ok(Some(tail));
     }
-    Ok(add_row(loader, fields, tail)?)
+    Ok(add_row(alloc, loader, fields, tail)?)
 }
 
 #[cycle(loading)]

@@ -1,5 +1,5 @@
 use Rattle.std.proofs.Common.{◌≡◌, drop}
-use Rattle.lk_arena.proofs.labels.node_of.Given as goal
+use Rattle.lk_arena.proofs.by_label.node_of.Given as goal
 use Rattle.lk_arena.specs.Shapes.{found_at}
 
 abbrev pub invariant-loop-field : goal.invariant-loop-field

@@ -1,6 +1,6 @@
 use Rattle.std.proofs.Common.{◌≡◌, true, false, refl}
 use Rattle.lk_arena.proofs.RowAlgebra.{found_now, found_later}
-use Rattle.lk_arena.proofs.labels.node_of.Goals as goal
+use Rattle.lk_arena.proofs.by_label.node_of.Goals as goal
 
 pub returns-then-equals : goal.returns-then-equals
 returns-then-equals c =

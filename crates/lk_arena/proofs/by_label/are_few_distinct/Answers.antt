@@ -1,5 +1,5 @@
 use Rattle.lk_arena.proofs.Distinct.{distinct_twice, distinct_more, distinct_less, distinct_end}
-use Rattle.lk_unify.proofs.load.are_distinct.Goals as goal
+use Rattle.lk_arena.proofs.by_label.are_few_distinct.Goals as goal
 use Rattle.std.proofs.Common.{sym, ◌∙◌}
 
 pub loop-i-init : goal.loop-i-init
