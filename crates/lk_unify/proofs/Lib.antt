@@ -44,7 +44,6 @@ pub mod OpenUnfold
 pub mod OpenVariables
 pub mod OwnInOrder
 pub mod OwnModel
-pub mod Placing
 pub mod ReadMade
 pub mod ReadParts
 pub mod ReadRows
@@ -59,6 +58,7 @@ pub mod SideTypes
 pub mod Solved
 pub mod SolvedForm
 pub mod Solving
+pub mod TypeEntries
 pub mod TypeInduction
 pub mod ValueCounts
 pub mod ValueKinds

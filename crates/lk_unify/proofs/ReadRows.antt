@@ -13,15 +13,14 @@ use Rattle.lk_types.specs.declared.ty.RowTail.{RowTail}
 use Rattle.lk_types.specs.declared.ty.RowTail.TheVariants.{Closed, Var}
 use Rattle.lk_types.specs.declared.ty.Ty.{Ty}
 use Rattle.lk_types.specs.declared.ty.Ty.TheVariants as ty
-use Rattle.lk_types.specs.declared.ty.TyRow.{roll-TyRow}
 use Rattle.lk_arena.proofs.EachLemmas.{Each-zip, Each-from_map}
 use Rattle.lk_unify.proofs.EffectSets.{set_in-effect_row}
 use Rattle.lk_unify.proofs.ReadParts.{shape_parts_can, shape_kind, shape_built, open_value}
 use Rattle.lk_arena.proofs.RowAlgebra.{same_rows}
-use Rattle.lk_arena.proofs.Sizes.{plain_or, row_with, get-row_with, no_entries}
+use Rattle.lk_arena.proofs.Sizes.{plain_or, row_with, get-row_with}
 use Rattle.lk_arena.specs.Kinds.{OfTypes, OfFields, OfEffects}
 use Rattle.lk_unify.specs.Models.{IsOwn}
-use Rattle.lk_arena.specs.Openings.{OpenRow, only_tail, field_type, row_type, effects_type}
+use Rattle.lk_arena.specs.Openings.{OpenRow, only_tail, effects_type}
 use Rattle.lk_unify.specs.Reading.{CanRead, CanStand, name_in, type_in, row_in, effects_in, with_entry, with_fields}
 use Rattle.lk_arena.specs.Shapes.{shape_at, found_at, plain_of, value_at, IsPlain, IsRowOf, IsDistinct, fields_in}
 use Rattle.lk_arena.specs.Values.{Value, Plain, OfRow, IsMadeOf, effect_row}
@@ -147,9 +146,6 @@ module _ (s : EffectSet) (xs labels : List Effect) (i j : ℕ) (is : j ≡ suc i
 
 -- ---- rows of fields
 
-no_fields : (tail : RowTail) → roll-TyRow (record { fields = []; tail = tail }) ≡ row_type (only_tail tail)
-no_fields tail = sym (ap (λ (es : List (Label × Ty)). roll-TyRow (record { fields = map field_type es; tail = tail })) no_entries)
-
 module _ (nodes : Arena) (numbers : List ℕ) (fuel node : ℕ) (can : CanRead nodes numbers fuel node OfFields) where
   abbrev the_shape : Shape
   the_shape = shape_at nodes.shapes (class_at nodes.classes node)
@@ -161,16 +157,16 @@ module _ (nodes : Arena) (numbers : List ℕ) (fuel node : ℕ) (can : CanRead n
       (Each-from_map (λ p. CanRead nodes numbers (fuel - 1) p (can.kind p)) (λ f. f.node) fs (shape_parts_can nodes numbers fuel node OfFields can (shape.Row fs t) is).1)
 
   module _ (u : ℕ → Value) (own : IsOwn nodes.shapes nodes.classes (name_in numbers) u) where
-    pub fields_open : the_shape ≡ Open → roll-TyRow (record { fields = []; tail = Var (name_in numbers (class_at nodes.classes node)) }) ≡ row_type (row_in (u node))
-    fields_open is = no_fields (Var (name_in numbers (class_at nodes.classes node))) ∙ ap (λ x. row_type (row_in x)) (sym (open_value nodes numbers fuel node OfFields can u own is))
+    pub fields_open : the_shape ≡ Open → only_tail (Var (name_in numbers (class_at nodes.classes node))) ≡ row_in (u node)
+    fields_open is = ap row_in (sym (open_value nodes numbers fuel node OfFields can u own is))
 
-    pub fields_none : (the_shape ≡ Open → ⊥) → ((fs : List Field) (t : ℕ) → the_shape ≡ shape.Row fs t → ⊥) → roll-TyRow (record { fields = []; tail = Closed }) ≡ row_type (row_in (u node))
+    pub fields_none : (the_shape ≡ Open → ⊥) → ((fs : List Field) (t : ℕ) → the_shape ≡ shape.Row fs t → ⊥) → only_tail Closed ≡ row_in (u node)
     fields_none not_open n = by_shape the_shape refl
       where
-        by_shape : (s : Shape) → the_shape ≡ s → roll-TyRow (record { fields = []; tail = Closed }) ≡ row_type (row_in (u node))
+        by_shape : (s : Shape) → the_shape ≡ s → only_tail Closed ≡ row_in (u node)
         by_shape Free is = absurd (shape_kind nodes numbers fuel node OfFields can Free is)
         by_shape Open is = absurd (not_open is)
-        by_shape Empty is = no_fields Closed ∙ ap (λ x. row_type (row_in x)) (sym (shape_built nodes numbers fuel node OfFields can u own Empty is))
+        by_shape Empty is = ap row_in (sym (shape_built nodes numbers fuel node OfFields can u own Empty is))
         by_shape (Made h ps) is = absurd (shape_kind nodes numbers fuel node OfFields can (Made h ps) is)
         by_shape (shape.Row fs t) is = absurd (n fs t is)
 
@@ -187,40 +183,14 @@ module _ (nodes : Arena) (numbers : List ℕ) (fuel node : ℕ) (can : CanRead n
 
 -- ---- one field after another, from the last
 
-distinct_at : (fs : List Field) (i : ℕ) (d : Field) → i < length fs → IsDistinct fs → found_at (drop (suc i) fs) (get_or fs i d).label ≡ None
-distinct_at [] i d h e = absurd (omega arith)
-distinct_at (f ∷ fs) zero d h e = e.0
-distinct_at (f ∷ fs) (suc i) d h e = distinct_at fs i d (omega arith) e.1
-
-Each-drop : (P : Field → Type 0) (i : ℕ) (fs : List Field) → Each P fs → Each P (drop i fs)
-Each-drop P zero fs e = e
-Each-drop P (suc i) [] e = tt
-Each-drop P (suc i) (f ∷ fs) e = Each-drop P i fs e.1
-
-Each-at : (P : Field → Type 0) (fs : List Field) (i : ℕ) (d : Field) → i < length fs → Each P fs → P (get_or fs i d)
-Each-at P [] i d h e = absurd (omega arith)
-Each-at P (f ∷ fs) zero d h e = e.0
-Each-at P (f ∷ fs) (suc i) d h e = Each-at P fs i d (omega arith) e.1
-
 with_fields-drop : (fs : List Field) (u : ℕ → Value) (m : OpenRow) (i : ℕ) (d : Field) → i < length fs →
     with_fields (drop i fs) u m ≡ with_entry (with_fields (drop (suc i) fs) u m) (get_or fs i d).label (type_in (u (get_or fs i d).node))
 with_fields-drop [] u m i d h = absurd (omega arith)
 with_fields-drop (f ∷ fs) u m zero d h = refl
 with_fields-drop (f ∷ fs) u m (suc i) d h = with_fields-drop fs u m i d (omega arith)
 
-missing_below : (fs : List Field) (u : ℕ → Value) (m : OpenRow) (l : Label) → Each (λ f. IsPlain (u f.node)) fs → found_at fs l ≡ None → fin.get m.fields l ≡ None →
-    fin.get (with_fields fs u m).fields l ≡ None
-missing_below fs u m l p n g =
-    ap (λ (m : OpenRow). fin.get m.fields l) (sym (fields_same fs u m)) ∙ get-row_with fs u m p l ∙ ap (λ o. value_at u o (fin.get m.fields l)) n ∙ g
-
 -- the field f at the place i
-module _ (fs : List Field) (u : ℕ → Value) (m : OpenRow) (can : CanStand fs u m) (i j : ℕ) (is : j ≡ suc i) (h : i < length fs) (f : Field) (at : f ≡ get_or fs i f) where
-  pub next_new : fin.get (with_fields (drop j fs) u m).fields f.label ≡ None
-  next_new =
-      missing_below (drop j fs) u m f.label (Each-drop (λ f. IsPlain (u f.node)) j fs can.plain)
-      (ap (λ k. found_at (drop k fs) f.label) is ∙ ap (λ g. found_at (drop (suc i) fs) g.label) at ∙ distinct_at fs i f h can.distinct)
-      (ap (λ g. fin.get m.fields g.label) at ∙ Each-at (λ f. fin.get m.fields f.label ≡ None) fs i f h can.fresh)
-
+module _ (fs : List Field) (u : ℕ → Value) (m : OpenRow) (i j : ℕ) (is : j ≡ suc i) (h : i < length fs) (f : Field) (at : f ≡ get_or fs i f) where
   pub next_row : with_entry (with_fields (drop j fs) u m) f.label (type_in (u f.node)) ≡ with_fields (drop i fs) u m
   next_row =
       ap (λ k. with_entry (with_fields (drop k fs) u m) f.label (type_in (u f.node))) is

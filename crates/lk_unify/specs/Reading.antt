@@ -1,7 +1,6 @@
 -- What is read back of the classes: what their values put for the variables.
 use Rattle.std.specs.FinMap as fin
-use Rattle.std.specs.Ordering.{is_lt}
-use Rattle.std.specs.Prelude.{◌≡◌, ◌==◌, ◌&&◌, ℕ, suc, ◌<◌, Bool, true, List, [], ◌∷◌, flat_map, length, slice_index_or as get_or, Option, Some, None, is_some, if◌then◌else◌}
+use Rattle.std.specs.Prelude.{◌≡◌, ◌==◌, ◌&&◌, ℕ, ◌<◌, Bool, true, List, [], ◌∷◌, flat_map, length, slice_index_or as get_or, Option, Some, None, is_some}
 use Rattle.lk_classes.specs.Classes.{class_at}
 use Rattle.lk_types.specs.Each.{Each}
 use Rattle.lk_types.specs.Rows.{Label, label_order}
@@ -13,7 +12,6 @@ use Rattle.lk_types.specs.declared.equation.Subst.{Subst}
 use Rattle.lk_types.specs.declared.ty.RowTail.TheVariants.{Closed, Var}
 use Rattle.lk_types.specs.declared.ty.Ty.{Ty}
 use Rattle.lk_types.specs.declared.ty.Ty.TheVariants as ty
-use Rattle.lk_types.specs.declared.ty.TyField.{TyField}
 use Rattle.lk_types.specs.declared.ty.Variable.{Variable}
 use Rattle.lk_types.specs.declared.ty.Variable.TheVariants as variable
 use Rattle.lk_arena.specs.Kinds.{Kind, OfTypes, OfFields, OfEffects, OfUnit, OfNothing, AreKinded}
@@ -24,6 +22,7 @@ use Rattle.lk_arena.specs.Shapes.{shape_at, is_loose_shape, IsArena, IsDistinct,
 use Rattle.lk_arena.specs.Values.{Value, Plain, OfRow}
 use Rattle.lk_arena.specs.declared.arena.Arena.{Arena}
 use Rattle.lk_unify.specs.declared.loader.Loader.{Loader}
+use Rattle.lk_unify.specs.declared.row_fields.MadeRow.{MadeRow}
 use Rattle.lk_arena.specs.declared.node.Field.{Field}
 use Rattle.lk_arena.specs.declared.node.Head.{Head}
 use Rattle.lk_arena.specs.declared.node.Head.TheVariants as head
@@ -128,10 +127,16 @@ CanReadParts _ _ _ _ _ = ⊥
 
 -- ---- rows, field by field
 
--- how many fields stand before the first whose label isn't below this one
-abbrev pub place_in : Label → List TyField → ℕ
-place_in l [] = 0
-place_in l (f ∷ fs) = if is_lt (label_order f.label l) then suc (place_in l fs) else 0
+-- types under their labels
+abbrev pub RowTypes : Type 0
+RowTypes = fin.FinMap label_order Ty
+
+abbrev pub no_types : RowTypes
+no_types = fin.empty
+
+-- a row that is made
+abbrev pub as_open : MadeRow → OpenRow
+as_open row = record { fields = row.types; tail = row.tail }
 
 -- the row with one field more
 abbrev pub with_entry : OpenRow → Label → Ty → OpenRow

@@ -1,19 +1,18 @@
 //! Types read back of the classes of their nodes.
 
-ghost use Rattle.std.specs.FinMap as fin;
 ghost use Rattle.std.specs.Prelude.{◌≡◌, ℕ, ◌<◌, length, map, IfOk};
 ghost use Rattle.lk_types.specs.Each.{Each};
 ghost use Rattle.lk_arena.specs.Kinds.{Kind, OfTypes, OfFields};
 ghost use Rattle.lk_unify.specs.Loading.{kind_of, IsKinded, IsLoader};
 ghost use Rattle.lk_unify.specs.Models.{IsOwn};
-ghost use Rattle.lk_arena.specs.Openings.{OpenRow, row_type};
+ghost use Rattle.lk_arena.specs.Openings.{row_type};
 ghost use Rattle.lk_arena.specs.Order.{IsRanked};
-ghost use Rattle.lk_unify.specs.Reading.{image_of, name_in, number_of, row_in, subst_by, type_in, with_fields, CanRead, CanReadParts, CanStand};
+ghost use Rattle.lk_unify.specs.Reading.{as_open, image_of, name_in, number_of, row_in, subst_by, type_in, with_fields, CanRead, CanReadParts};
 ghost use Rattle.lk_arena.specs.Values.{IsMadeOf, Value};
 
 use crate::chain::read_effects;
 use crate::loader::Loader;
-use crate::row_fields::put_field;
+use crate::row_fields::{MadeRow, into_row, only_end, with_field};
 use lk_arena::{Arena, Field, Head, Shape};
 use lk_ast::{Boxed, List, NoMemory};
 use lk_types::{Binding, Image, RowTail, Subst, Ty, TyRow, Variable};
@@ -111,25 +110,35 @@ pub fn read_row(
     requires { CanRead arena.now numbers.now fuel node OfFields }
     ensures { IfOk result (λ row. (u : ℕ → Value) → IsOwn arena.now.shapes arena.now.classes (name_in numbers.now) u → row ≡ row_type (row_in (u node))) }
 {
+    let made = make_row(alloc, arena, numbers, fuel, node)?;
+    Ok(into_row(alloc, made)?)
+}
+
+/// The row of a node, field by field.
+#[cycle(reading)]
+fn make_row(
+    alloc: Global,
+    arena: &Arena,
+    numbers: &[u32],
+    fuel: usize,
+    node: usize,
+) -> Result<MadeRow, NoMemory>
+    requires { CanRead arena.now numbers.now fuel node OfFields }
+    ensures { IfOk result (λ row. (u : ℕ → Value) → IsOwn arena.now.shapes arena.now.classes (name_in numbers.now) u → as_open row ≡ row_in (u node)) }
+{
     let class = arena.class_of(node);
     match arena.shape_of(class) {
-        Shape::Open => Ok(TyRow {
-            fields: List::new(alloc),
-            tail: RowTail::Var(numbers[class]),
-        }),
+        Shape::Open => Ok(only_end(alloc, RowTail::Var(numbers[class]))),
         Shape::Row(own, tail) => {
-            let below = read_row(alloc, arena, numbers, fuel - 1, *tail)?;
+            let below = make_row(alloc, arena, numbers, fuel - 1, *tail)?;
             let row = read_fields(alloc, arena, numbers, fuel - 1, own.as_slice(), below)?;
             Ok(row)
         }
-        _ => Ok(TyRow {
-            fields: List::new(alloc),
-            tail: RowTail::Closed,
-        }),
+        _ => Ok(only_end(alloc, RowTail::Closed)),
     }
 }
 
-/// The row with these fields more, whose labels it lacks.
+/// The row with these fields more.
 #[cycle(reading)]
 fn read_fields(
     alloc: Global,
@@ -137,17 +146,16 @@ fn read_fields(
     numbers: &[u32],
     fuel: usize,
     own: &[Field],
-    below: TyRow,
-) -> Result<TyRow, NoMemory>
+    below: MadeRow,
+) -> Result<MadeRow, NoMemory>
     requires { Each (λ f. CanRead arena.now numbers.now fuel f.node OfTypes) own.now }
-    ensures { IfOk result (λ row. (u : ℕ → Value) → IsOwn arena.now.shapes arena.now.classes (name_in numbers.now) u → (m : OpenRow) → below ≡ row_type m → CanStand own.now u m → row ≡ row_type (with_fields own.now u m)) }
+    ensures { IfOk result (λ row. (u : ℕ → Value) → IsOwn arena.now.shapes arena.now.classes (name_in numbers.now) u → as_open row ≡ with_fields own.now u (as_open below)) }
 {
     let mut row = below;
     for i in (0..own.len()).rev() {
         let field = &own[i];
         let ty = read_type(alloc, arena, numbers, fuel, field.node)?;
-        let label = field.label.copy(alloc)?;
-        row = put_field(row, label, ty)?;
+        row = with_field(alloc, row, &field.label, ty)?;
     }
     Ok(row)
 }

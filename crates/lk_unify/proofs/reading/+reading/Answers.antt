@@ -1,13 +1,11 @@
-use Rattle.std.proofs.Common.{◌-◌, [], drop, sym, ◌∙◌, ap, arith}
-use Rattle.std.specs.FinMap as fin
-use Rattle.lk_types.specs.declared.ty.RowTail.TheVariants.{Closed, Var}
-use Rattle.lk_types.specs.declared.ty.TyRow.{roll-TyRow}
+use Rattle.std.proofs.Common.{◌-◌, sym, ◌∙◌, ap, arith}
+use Rattle.lk_types.specs.declared.ty.RowTail.TheVariants.{Var}
 use Rattle.lk_unify.proofs.ReadParts.{made_can}
-use Rattle.lk_unify.proofs.ReadRows.{fields_can, fields_open, fields_none, fields_row, next_new, next_row}
+use Rattle.lk_unify.proofs.ReadRows.{fields_can, fields_open, fields_none, fields_row, next_row}
 use Rattle.lk_unify.proofs.ReadMade.{list_read, fields_read, tags_read, function_read}
 use Rattle.lk_unify.proofs.reading.+reading.Goals as goal
-use Rattle.lk_arena.specs.Openings.{row_type}
-use Rattle.lk_unify.specs.Reading.{name_in, row_in, with_fields, with_entry}
+use Rattle.lk_arena.specs.Openings.{only_tail, row_type}
+use Rattle.lk_unify.specs.Reading.{as_open, name_in, with_fields, with_entry}
 use Rattle.lk_arena.specs.Shapes.{shape_at}
 
 pub read_type-read_made-requires : goal.read_type-read_made-requires
@@ -17,44 +15,48 @@ read_type-read_made-requires t c =
     let room = c.requires.room in
     (omega arith, rw (c.as_slice.ensures) (made_can c.args.arena.now c.args.numbers.now c.args.fuel c.args.node c.requires c.in-Made.head c.in-Made.parts is))
 
-pub read_row-read_fields-requires : goal.read_row-read_fields-requires
-read_row-read_fields-requires t c =
+pub make_row-read_fields-requires : goal.make_row-read_fields-requires
+make_row-read_fields-requires t c =
     let is = ap (shape_at c.args.arena.now.shapes) (sym c.class_of-class.ensures) ∙ sym c.shape_of.ensures ∙ c.in-Row.is in
     let d = c.decreases in
     let room = c.requires.room in
     (omega arith, rw (c.as_slice.ensures) (fields_can c.args.arena.now c.args.numbers.now c.args.fuel c.args.node c.requires c.in-Row.own c.in-Row.tail is))
 
-pub read_row-returns-in-Open : goal.read_row-returns-in-Open
-read_row-returns-in-Open t c u own =
+pub make_row-returns-in-Open : goal.make_row-returns-in-Open
+make_row-returns-in-Open t c u own =
     let is = ap (shape_at c.args.arena.now.shapes) (sym c.class_of-class.ensures) ∙ sym c.shape_of.ensures ∙ c.in-Open.is in
-    ap (λ fs. roll-TyRow (record { fields = fs; tail = Var (name_in c.args.numbers.now c.class_of-class.result) })) c.new.ensures
-    ∙ ap (λ class. roll-TyRow (record { fields = []; tail = Var (name_in c.args.numbers.now class) })) c.class_of-class.ensures
+    c.only_end.ensures
+    ∙ ap (λ class. only_tail (Var (name_in c.args.numbers.now class))) c.class_of-class.ensures
     ∙ fields_open c.args.arena.now c.args.numbers.now c.args.fuel c.args.node c.requires u own is
 
-pub read_row-returns-in_ok-row-in-Row : goal.read_row-returns-in_ok-row-in-Row
-read_row-returns-in_ok-row-in-Row t c u own =
+pub make_row-returns-in_ok-row-in-Row : goal.make_row-returns-in_ok-row-in-Row
+make_row-returns-in_ok-row-in-Row t c u own =
     let is = ap (shape_at c.args.arena.now.shapes) (sym c.class_of-class.ensures) ∙ sym c.shape_of.ensures ∙ c.in-Row.is in
     let row = fields_row c.args.arena.now c.args.numbers.now c.args.fuel c.args.node c.requires u own c.in-Row.own c.in-Row.tail is in
-    (rw (c.as_slice.ensures) at (c.in_ok-row-in-Row.ensures u own (row_in (u c.in-Row.tail)) (c.in_ok-below-in-Row.ensures u own))) row.0 ∙ ap row_type (sym row.1)
+    (rw (c.as_slice.ensures) at (c.in_ok-row-in-Row.ensures u own))
+    ∙ ap (with_fields c.in-Row.own u) (c.in_ok-below-in-Row.ensures u own)
+    ∙ sym row.1
 
-pub read_row-returns-in_default : goal.read_row-returns-in_default
-read_row-returns-in_default t c u own =
+pub make_row-returns-in_default : goal.make_row-returns-in_default
+make_row-returns-in_default t c u own =
     let at = ap (shape_at c.args.arena.now.shapes) (sym c.class_of-class.ensures) ∙ sym c.shape_of.ensures in
-    ap (λ fs. roll-TyRow (record { fields = fs; tail = Closed })) c.new-in_default.ensures
+    c.only_end-in_default.ensures
     ∙ fields_none c.args.arena.now c.args.numbers.now c.args.fuel c.args.node c.requires u own (λ is. c.in_default.not-Open (sym at ∙ is)) (λ fs t is. c.in_default.not-Row fs t (sym at ∙ is))
 
+pub read_row-returns : goal.read_row-returns
+read_row-returns t c u own = c.in_ok-into_row.ensures ∙ ap row_type (c.in_ok-made.ensures u own)
+
 pub read_fields-loop-i-preserved : goal.read_fields-loop-i-preserved
-read_fields-loop-i-preserved t c u own m is can =
+read_fields-loop-i-preserved t c u own =
     let fs = c.args.own.now in
+    let m = as_open c.args.below in
     let i = c.loop-i.i - 1 in
-    let rest = with_fields (drop c.loop-i.i fs) u m in
     let more = c.loop-i-test.true in
     let within = c.loop-i.auto.i in
-    let new = next_new fs u m can i c.loop-i.i (omega arith) (omega arith) c.index-own-i.result c.index-own-i.is in
-    let row = next_row fs u m can i c.loop-i.i (omega arith) (omega arith) c.index-own-i.result c.index-own-i.is in
-    c.in_ok-row.ensures rest (c.loop-i.invariant u own m is can) (ap (λ l. fin.get rest.fields l) c.in_ok-label.ensures ∙ new)
-    ∙ (λ k. row_type (with_entry rest (c.in_ok-label.ensures k) (c.in_ok-ty.ensures u own k)))
-    ∙ ap row_type row
+    let row = next_row fs u m i c.loop-i.i (omega arith) (omega arith) c.index-own-i.result c.index-own-i.is in
+    c.in_ok-row.ensures
+    ∙ (λ k. with_entry (c.loop-i.invariant u own k) c.index-own-i.result.label (c.in_ok-ty.ensures u own k))
+    ∙ row
 
 pub read_made-returns-in_ok-new-in-List : goal.read_made-returns-in_ok-new-in-List
 read_made-returns-in_ok-new-in-List t c u own x made =

@@ -1,8 +1,7 @@
 use Rattle.std.proofs.Common.{◌≡◌, ℕ, ◌+◌, ◌*◌, ◌++◌, drop, map}
 use Rattle.lk_unify.proofs.reading.+reading.Given as goal
 use Rattle.lk_unify.specs.Models.{IsOwn}
-use Rattle.lk_arena.specs.Openings.{OpenRow, row_type}
-use Rattle.lk_unify.specs.Reading.{name_in, type_in, with_fields, CanStand}
+use Rattle.lk_unify.specs.Reading.{as_open, name_in, type_in, with_fields}
 use Rattle.lk_arena.specs.Values.{Value}
 
 -- A part is read with less fuel than the whole.
@@ -15,8 +14,11 @@ decreases-read_made l = l.fuel * 4 + 2
 abbrev pub decreases-read_types : goal.decreases-read_types
 decreases-read_types l = l.fuel * 4 + 1
 
+abbrev pub decreases-make_row : goal.decreases-make_row
+decreases-make_row l = l.fuel * 4
+
 abbrev pub decreases-read_row : goal.decreases-read_row
-decreases-read_row l = l.fuel * 4
+decreases-read_row l = l.fuel * 4 + 1
 
 abbrev pub decreases-read_fields : goal.decreases-read_fields
 decreases-read_fields l = l.fuel * 4 + 1
@@ -28,5 +30,4 @@ invariant-read_types-loop-node l =
 
 abbrev pub invariant-read_fields-loop-i : goal.invariant-read_fields-loop-i
 invariant-read_fields-loop-i l =
-    (u : ℕ → Value) → IsOwn l.arena.shapes l.arena.classes (name_in l.numbers) u →
-    (m : OpenRow) → l.initial.row ≡ row_type m → CanStand l.own u m → l.row ≡ row_type (with_fields (drop l.i l.own) u m)
+    (u : ℕ → Value) → IsOwn l.arena.shapes l.arena.classes (name_in l.numbers) u → as_open l.row ≡ with_fields (drop l.i l.own) u (as_open l.initial.row)

@@ -1,0 +1,5 @@
+use Rattle.lk_unify.proofs.TypeEntries.{none_made}
+use Rattle.lk_unify.proofs.row_fields.TypesByLabel.new.Goals as goal
+
+pub returns : goal.returns
+returns c = none_made _ c.new.ensures.empty
