@@ -1,5 +1,5 @@
 -- Whether equations that are nodes have a solution.
-use Rattle.std.proofs.Common.{◌≡◌, ℕ, ◌+◌, ◌-◌, ◌<◌, ◌≤◌, List, [], ◌∷◌, length, take, subst, arith}
+use Rattle.std.proofs.Common.{◌≡◌, ℕ, zero, suc, ◌+◌, ◌-◌, ◌<◌, ◌≤◌, List, [], length, take, subst, arith}
 use Rattle.std.proofs.lemmas.List.{take_all}
 use Rattle.lk_types.specs.Rows.{no_fields, no_effects}
 use Rattle.lk_types.specs.Solutions.{HasSolution}
@@ -36,9 +36,9 @@ pub none_solved : (es : List Equation) → HasSolution (take 0 es)
 none_solved es = any_solution
 
 -- equations without a solution are one at least
-pub some_unsolved : (es : List Equation) → (HasSolution es → ⊥) → 0 < length es
-some_unsolved [] never = absurd (never any_solution)
-some_unsolved (e ∷ es) never = omega arith
+pub some_unsolved : (es : List Equation) (n : ℕ) → (HasSolution (take n es) → ⊥) → 0 < n
+some_unsolved es zero never = absurd (never any_solution)
+some_unsolved es (suc n) never = omega arith
 
 pub all_unsolved : (es : List Equation) → (HasSolution es → ⊥) → HasSolution (take (length es) es) → ⊥
 all_unsolved es never solution = never (subst HasSolution (take_all (length es) es (omega arith)) solution)

@@ -149,13 +149,15 @@ loaded_more old new sides es k e node below at loaded adds = record {
     types : Each (λ n. kinds.0 n ≡ OfTypes) (sides ++ node ∷ [])
     types = types_more old new e node adds loaded.kind kinds.0 kinds.1 kinds.3 sides (sides_below old (take k es) sides loaded.sides_are) loaded.types
 
--- an equation that what fits doesn't meet leaves no solution
-pub loaded_never : (l : Loader) (sides : List ℕ) (es : List Equation) (k : ℕ) (e : Equation) → k < length es → e ≡ get_or es k e → AreLoaded l sides es k → NeverMeets l e → HasSolution es → ⊥
-loaded_never l sides es k e below at loaded never solution =
-    let solves : OpenSolves (as_opening solution.0) (take k es ++ e ∷ []) =
-    subst (OpenSolves (as_opening solution.0)) (taken es k e below at) (each_first (IsOpenMet (as_opening solution.0)) (k + 1) es (open_solves solution.0 es solution.1)) in
+-- with an equation that what fits doesn't meet there is no solution
+pub loaded_stops : (l : Loader) (sides : List ℕ) (es : List Equation) (k : ℕ) (e : Equation) → k < length es → e ≡ get_or es k e → AreLoaded l sides es k → NeverMeets l e → HasSolution (take (k + 1) es) → ⊥
+loaded_stops l sides es k e below at loaded never solution =
+    let solves : OpenSolves (as_opening solution.0) (take k es ++ e ∷ []) = subst (OpenSolves (as_opening solution.0)) (taken es k e below at) (open_solves solution.0 (take (k + 1) es) solution.1) in
     let v = loaded.says.forth (as_opening solution.0) (Each-append_left (IsOpenMet (as_opening solution.0)) (take k es) (e ∷ []) solves) in
     never v.0 (as_opening solution.0) v.1 v.2 (Each-append_right (IsOpenMet (as_opening solution.0)) (take k es) (e ∷ []) solves).0
+
+pub loaded_never : (l : Loader) (sides : List ℕ) (es : List Equation) (k : ℕ) (e : Equation) → k < length es → e ≡ get_or es k e → AreLoaded l sides es k → NeverMeets l e → HasSolution es → ⊥
+loaded_never l sides es k e below at loaded never solution = loaded_stops l sides es k e below at loaded never (solution.0, each_first (IsMet solution.0) (k + 1) es solution.1)
 
 pub loaded_all : (l : Loader) (sides : List ℕ) (es : List Equation) (k : ℕ) → (k < length es → ⊥) → k ≤ length es → AreLoaded l sides es k → AreLoaded l sides es (length es)
 loaded_all l sides es k end within loaded = subst (AreLoaded l sides es) (let same : k ≡ length es = omega arith in same) loaded

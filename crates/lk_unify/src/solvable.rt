@@ -4,7 +4,7 @@ ghost use Rattle.lk_types.specs.Solutions.{HasSolution};
 ghost use Rattle.lk_types.specs.Variables.{equation_variables};
 ghost use Rattle.lk_unify.specs.Loading.{IsLoader};
 ghost use Rattle.lk_unify.specs.Solving.{AddsEquation, AreBound, AreLoaded, IsFirstWithout, IsStart, NeverMeets};
-ghost use Rattle.std.specs.Prelude.{◌≡◌, false, length, IfNone, IfOk, IfSome, IsTrue, OnOk};
+ghost use Rattle.std.specs.Prelude.{◌≡◌, ◌≤◌, false, length, take, IfNone, IfOk, IfSome, IsTrue, OnOk};
 
 use crate::load::{load_equation, load_variable};
 use crate::loader::Loader;
@@ -110,7 +110,25 @@ pub fn is_solvable(alloc: Global, equations: &[Equation]) -> Result<bool, NoMemo
     Ok(ordered)
 }
 
-/// The first equation with which those up to it have no solution, if there is one. It is searched for by halves.
+/// A number of first equations that have no solution, of equations that have none: those up to the first that can't be merged
+/// with the ones before it, or all.
+fn count_unsolvable(alloc: Global, equations: &[Equation]) -> Result<usize, NoMemory>
+    ensures within { IfOk result (λ count. count ≤ length equations.now) }
+    ensures never { IfOk result (λ count. (HasSolution equations.now → ⊥) → HasSolution (take count equations.now) → ⊥) }
+{
+    let mut loader = start(alloc, equations)?;
+    let mut sides = List::new(alloc);
+    for i in 0..equations.len() {
+        let Some(side) = add_equation(alloc, &mut loader, &equations[i])? else {
+            return Ok(i + 1);
+        };
+        sides.push(side)?;
+    }
+    Ok(equations.len())
+}
+
+/// The first equation with which those up to it have no solution, if there is one. It is looked for where merging ends, and then
+/// searched for by halves.
 pub fn first_unsolvable(alloc: Global, equations: &[Equation]) -> Result<Option<usize>, NoMemory>
     ensures solvable { IfOk result (λ found. IfNone found (HasSolution equations.now)) }
     ensures first { IfOk result (λ found. IfSome found (λ k. IsFirstWithout equations.now k)) }
@@ -119,14 +137,15 @@ pub fn first_unsolvable(alloc: Global, equations: &[Equation]) -> Result<Option<
         return Ok(None);
     }
     let mut low = 0;
-    let mut high = equations.len();
+    let mut high = count_unsolvable(alloc, equations)?;
+    let mut middle = high - 1;
     'halving: while high - low > 1 {
-        let middle = low + (high - low) / 2;
         if is_solvable(alloc, &equations[..middle])? {
             low = middle;
         } else {
             high = middle;
         }
+        middle = low + (high - low) / 2;
     }
     Ok(Some(low))
 }
