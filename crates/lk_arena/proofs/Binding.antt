@@ -2,8 +2,8 @@
 use Rattle.std.proofs.Common.{◌≡◌, ◌≢◌, ℕ, ◌<◌, ⊎_elim, List, ◌∷◌, length, length-set, map, set, refl, sym, subst, arith}
 use Rattle.std.proofs.lemmas.Bool.{cases_eq}
 use Rattle.std.proofs.lemmas.List.{get_or-set_same, get_or-set_other}
+use Rattle.lk_types.proofs.Members.{each_to_map}
 use Rattle.lk_types.specs.Each.{Each}
-use Rattle.lk_arena.proofs.EachLemmas.{Each-to_map}
 use Rattle.lk_arena.proofs.Growth.{HasFields-some}
 use Rattle.lk_arena.proofs.Kinded.{kinds_bind}
 use Rattle.lk_arena.proofs.Weights.{weight-bind}
@@ -40,7 +40,7 @@ module _ (shapes new : List Shape) (classes names : List ℕ) (node : ℕ) (fiel
   bound_arena = record {
     nodes = each_shape (λ i s. Each (λ p. p < length new) (parts_of s))
         (subst (λ n. Each (λ p. p < n) (tail ∷ map (λ f. f.node) fields)) (sym count)
-        (can.tail_below, Each-to_map (λ p. p < length shapes) (λ (f : Field). f.node) fields can.nodes))
+        (can.tail_below, each_to_map (λ p. p < length shapes) (λ (f : Field). f.node) fields can.nodes))
         (λ i h ne. subst (λ n. Each (λ p. p < n) (parts_of (shape_at shapes i))) (sym count) (arena.nodes i h));
     named = rw (count, same) arena.named;
     distinct = each_shape (λ i s. IsDistinct (fields_in s)) can.distinct (λ i h ne. arena.distinct i h);

@@ -2,11 +2,12 @@
 use Rattle.std.proofs.Common.{◌≡◌, ℕ, true, false, List, [], ◌∷◌, ◌++◌, inl, inr, ⊎_elim, map, refl, sym, ◌∙◌, ap, Option, Some, None}
 use Rattle.std.specs.FinMap as fin
 use Rattle.std.specs.Prelude.{IsSome}
+use Rattle.lk_types.proofs.Members.{each_both, each_front, each_weaker}
 use Rattle.lk_types.specs.Each.{Each, OneOf}
 use Rattle.lk_types.specs.Rows.{Label}
 use Rattle.lk_types.specs.declared.ty.RowTail.TheVariants.{Closed}
 use Rattle.lk_types.specs.declared.ty.Ty.{Ty}
-use Rattle.lk_arena.proofs.EachLemmas.{Each-map, Each-zip, Each-append, Each-append_left}
+use Rattle.lk_arena.proofs.EachLemmas.{Each-zip}
 use Rattle.lk_arena.proofs.Heads.{made_plain}
 use Rattle.lk_arena.proofs.RowAlgebra.{bool_cases, label_cases, found_here, found_below, found_prop, found_label, plain_some, row_same, same_rows, AreFound-from_distinct, lacks_first, lacks_less}
 use Rattle.lk_arena.specs.Openings.{OpenRow, only_tail}
@@ -41,7 +42,7 @@ pub IsDistinct-append : (xs ys : List Field) → IsDistinct xs → IsDistinct ys
 IsDistinct-append [] ys d e lacks = e
 IsDistinct-append (x ∷ xs) ys d e lacks = (
   found_second xs ys x.label d.0 ∙ lacks_first x xs ys lacks,
-  IsDistinct-append xs ys d.1 e (Each-map (λ f. found_at (x ∷ xs) f.label ≡ None) (λ f. found_at xs f.label ≡ None) (λ f. lacks_less x xs f.label) ys lacks),
+  IsDistinct-append xs ys d.1 e (each_weaker (λ f. found_at (x ∷ xs) f.label ≡ None) (λ f. found_at xs f.label ≡ None) (λ f. lacks_less x xs f.label) ys lacks),
 )
 
 module _ (xs ys : List Field) (w : ℕ → Value) (x y z : Value) (upper : IsRowOf xs w y x) (lower : IsRowOf ys w z y) where
@@ -67,9 +68,9 @@ module _ (xs ys : List Field) (w : ℕ → Value) (x y z : Value) (upper : IsRow
     row = upper.row;
     tail_is = lower.tail_is;
     row_is = upper.row_is;
-    plain = Each-append (λ f. IsPlain (w f.node)) xs ys upper.plain lower.plain;
-    fresh = Each-append (λ f. fin.get lower.tail.fields f.label ≡ None) xs ys
-        (Each-map (λ f. fin.get upper.tail.fields f.label ≡ None) (λ f. fin.get lower.tail.fields f.label ≡ None) (λ f. lower_lacks f.label) xs upper.fresh) lower.fresh;
+    plain = each_both (λ f. IsPlain (w f.node)) xs ys upper.plain lower.plain;
+    fresh = each_both (λ f. fin.get lower.tail.fields f.label ≡ None) xs ys
+        (each_weaker (λ f. fin.get upper.tail.fields f.label ≡ None) (λ f. fin.get lower.tail.fields f.label ≡ None) (λ f. lower_lacks f.label) xs upper.fresh) lower.fresh;
     at = λ l. go l (found_at xs l) refl;
     same_end = upper.same_end ∙ ap (λ (m : OpenRow). m.tail) middle ∙ lower.same_end;
   }
@@ -141,10 +142,10 @@ module _ (xs ys : List Field) (w : ℕ → Value) (x y z : Value) (whole : IsRow
     row = whole.row;
     tail_is = lower.row_is;
     row_is = whole.row_is;
-    plain = Each-append_left (λ f. IsPlain (w f.node)) xs ys whole.plain;
+    plain = each_front (λ f. IsPlain (w f.node)) xs ys whole.plain;
     fresh = Each-zip (λ f. fin.get whole.tail.fields f.label ≡ None) (λ f. found_at ys f.label ≡ None) (λ f. fin.get lower.row.fields f.label ≡ None)
         (λ f a b. lower.at f.label ∙ ap (λ o. value_at w o (fin.get lower.tail.fields f.label)) b ∙ ap (λ (m : OpenRow). fin.get m.fields f.label) (sym same_tails) ∙ a)
-        xs (Each-append_left (λ f. fin.get whole.tail.fields f.label ≡ None) xs ys whole.fresh) apart;
+        xs (each_front (λ f. fin.get whole.tail.fields f.label ≡ None) xs ys whole.fresh) apart;
     at = λ l. go l (found_at xs l) refl;
     same_end = whole.same_end ∙ ap (λ (m : OpenRow). m.tail) same_tails ∙ sym lower.same_end;
   }

@@ -4,8 +4,9 @@ use Rattle.std.proofs.lemmas.Bool.{cases_eq}
 use Rattle.std.proofs.lemmas.List.{length-take-le, get_or-set_same, get_or-set_other, get_or-take}
 use Rattle.std.specs.Prelude.{slice_index_or as get_or}
 use Rattle.lk_classes.specs.Classes.{class_at, AreClasses}
+use Rattle.lk_types.proofs.Members.{each_from_map}
 use Rattle.lk_types.specs.Each.{Each}
-use Rattle.lk_arena.proofs.EachLemmas.{Each-from_map, Each-zip, Each-get_or, OneOf-at}
+use Rattle.lk_arena.proofs.EachLemmas.{Each-zip, Each-get_or, OneOf-at}
 use Rattle.lk_arena.specs.Counting.{sum_of, counted, saturated, no_count, count_at, type_sum, field_sum, part_sum, type_count, effect_count, AreCounted, IsAmong, IsCountOf, IsPartsFirst}
 use Rattle.lk_arena.specs.Kinds.{Kind, OfTypes, OfFields, OfEffects, OfUnit, OfNothing, TakesKinds, HasKind, AreKinded}
 use Rattle.lk_arena.specs.Shapes.{shape_at, parts_of, AreNodes}
@@ -91,7 +92,7 @@ module _ (closed : ℕ) (small : closed ≤ 1) (kind : ℕ → Kind) (f : ℕ �
   count_shape OfFields Open count h c e r = e
   count_shape OfFields Empty count h c e r = e
   count_shape OfFields (shape.Row fs t) count h c e r =
-      let a = sum_fields fs h.0 (Each-from_map Counts (λ (g : Field). g.node) fs c.1) in
+      let a = sum_fields fs h.0 (each_from_map Counts (λ (g : Field). g.node) fs c.1) in
       let b = fields_count t h.1 c.0 in
       omega arith
   count_shape OfEffects Free count h c e r = absurd h

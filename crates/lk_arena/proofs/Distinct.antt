@@ -5,7 +5,7 @@ use Rattle.std.specs.Prelude.{is_some}
 use Rattle.lk_arena.specs.Shapes.{found_at, IsDistinct}
 use Rattle.lk_arena.specs.declared.node.Field.{Field}
 
-lacks : {A : Type 0} (o : Option A) → is_some o ≡ false → o ≡ None
+pub lacks : {A : Type 0} (o : Option A) → is_some o ≡ false → o ≡ None
 lacks None e = refl
 lacks (Some a) e = cc
 

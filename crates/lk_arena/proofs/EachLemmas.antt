@@ -1,5 +1,5 @@
 -- What holds of each element of a list, or of one of them.
-use Rattle.std.proofs.Common.{ℕ, zero, suc, ◌<◌, inl, inr, List, [], ◌∷◌, ◌++◌, length, get_or, map, arith}
+use Rattle.std.proofs.Common.{ℕ, zero, suc, ◌<◌, inl, inr, List, [], ◌∷◌, length, get_or, map, arith}
 use Rattle.lk_types.specs.Each.{Each, OneOf}
 
 pub Each-get_or : {A : Type 0} (P : A → Type 0) (xs : List A) (k : ℕ) (d : A) → k < length xs → Each P xs → P (get_or xs k d)
@@ -11,18 +11,10 @@ pub Each-of_all : {A : Type 0} (P : A → Type 0) (xs : List A) (d : A) → ((k 
 Each-of_all P [] d h = tt
 Each-of_all P (x ∷ xs) d h = (h zero (omega arith), Each-of_all P xs d (λ k l. h (suc k) (omega arith)))
 
-pub Each-map : {A : Type 0} (P Q : A → Type 0) → ((x : A) → P x → Q x) → (xs : List A) → Each P xs → Each Q xs
-Each-map P Q f [] e = tt
-Each-map P Q f (x ∷ xs) e = (f x e.0, Each-map P Q f xs e.1)
-
 -- with what holds of each element besides
 pub Each-zip : {A : Type 0} (P Q R : A → Type 0) → ((x : A) → P x → Q x → R x) → (xs : List A) → Each P xs → Each Q xs → Each R xs
 Each-zip P Q R f [] d e = tt
 Each-zip P Q R f (x ∷ xs) d e = (f x d.0 e.0, Each-zip P Q R f xs d.1 e.1)
-
-pub Each-append : {A : Type 0} (P : A → Type 0) (xs ys : List A) → Each P xs → Each P ys → Each P (xs ++ ys)
-Each-append P [] ys d e = e
-Each-append P (x ∷ xs) ys d e = (d.0, Each-append P xs ys d.1 e)
 
 pub OneOf-get_or : {A : Type 0} (P : A → Type 0) (xs : List A) (k : ℕ) (d : A) → k < length xs → P (get_or xs k d) → OneOf P xs
 OneOf-get_or P [] k d h p = absurd (omega arith)
@@ -33,22 +25,6 @@ pub OneOf-map : {A : Type 0} (P Q : A → Type 0) → ((x : A) → P x → Q x) 
 OneOf-map P Q f [] e = absurd e
 OneOf-map P Q f (x ∷ xs) (inl p) = inl (f x p)
 OneOf-map P Q f (x ∷ xs) (inr e) = inr (OneOf-map P Q f xs e)
-
-pub Each-from_map : {A B : Type 0} (P : B → Type 0) (f : A → B) (xs : List A) → Each P (map f xs) → Each (λ x. P (f x)) xs
-Each-from_map P f [] e = tt
-Each-from_map P f (x ∷ xs) e = (e.0, Each-from_map P f xs e.1)
-
-pub Each-append_left : {A : Type 0} (P : A → Type 0) (xs ys : List A) → Each P (xs ++ ys) → Each P xs
-Each-append_left P [] ys e = tt
-Each-append_left P (x ∷ xs) ys e = (e.0, Each-append_left P xs ys e.1)
-
-pub Each-append_right : {A : Type 0} (P : A → Type 0) (xs ys : List A) → Each P (xs ++ ys) → Each P ys
-Each-append_right P [] ys e = e
-Each-append_right P (x ∷ xs) ys e = Each-append_right P xs ys e.1
-
-pub Each-to_map : {A B : Type 0} (P : B → Type 0) (f : A → B) (xs : List A) → Each (λ x. P (f x)) xs → Each P (map f xs)
-Each-to_map P f [] e = tt
-Each-to_map P f (x ∷ xs) e = (e.0, Each-to_map P f xs e.1)
 
 pub OneOf-to_map : {A B : Type 0} (P : B → Type 0) (f : A → B) (xs : List A) → OneOf (λ x. P (f x)) xs → OneOf P (map f xs)
 OneOf-to_map P f [] e = e

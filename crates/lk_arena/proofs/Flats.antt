@@ -1,8 +1,8 @@
 -- Two rows of which all fields are known, where they are one row: their common fields are equal, and each tail has what the other
 -- row has besides, before one new row.
 use Rattle.std.proofs.Common.{◌≡◌, ◌≢◌, ℕ, ◌<◌, List, [], ◌∷◌, ◌++◌, length, refl, sym, ap, subst, Option, Some, None}
+use Rattle.lk_types.proofs.Members.{each_both, each_front, each_back}
 use Rattle.lk_types.specs.Each.{Each}
-use Rattle.lk_arena.proofs.EachLemmas.{Each-append, Each-append_left, Each-append_right}
 use Rattle.lk_arena.proofs.Joins.{Equates-same}
 use Rattle.lk_arena.proofs.RowAlgebra.{Each-missing, rows_common, rest, rows_left, rows_right, same_tail_left, empty_left, found_prop, AreFound-from_distinct}
 use Rattle.lk_arena.specs.Openings.{OpenRow}
@@ -76,7 +76,7 @@ HasFit-more old shapes names q cs v within equates h = (
   h.1,
   record {
     nodes = h.2.nodes;
-    equates = Each-append (λ p. h.0 p.left ≡ h.0 p.right) q cs h.2.equates (Equates-same (length old) cs v h.0 h.1 within equates);
+    equates = each_both (λ p. h.0 p.left ≡ h.0 p.right) q cs h.2.equates (Equates-same (length old) cs v h.0 h.1 within equates);
   },
 )
 
@@ -99,7 +99,7 @@ HasFit-at old more shapes names q v e h = rw (← e) h
 
 pub WeakFits-less : (shapes : List Shape) (names : List ℕ) (q cs : List Pair) (v : ℕ → Value) → WeakFits shapes names (q ++ cs) v → WeakFits shapes names q v × Equates cs v
 WeakFits-less shapes names q cs v fits =
-    (record { nodes = fits.nodes; equates = Each-append_left (λ p. v p.left ≡ v p.right) q cs fits.equates }, Each-append_right (λ p. v p.left ≡ v p.right) q cs fits.equates)
+    (record { nodes = fits.nodes; equates = each_front (λ p. v p.left ≡ v p.right) q cs fits.equates }, each_back (λ p. v p.left ≡ v p.right) q cs fits.equates)
 
 pub WeakFits-with : (ss : List Shape) (cs : List ℕ) (q : List Pair) (v : ℕ → Value) → WeakNodes ss cs v → Equates q v → WeakFits ss cs q v
 WeakFits-with ss cs q v fits equates = record { nodes = fits; equates = equates }

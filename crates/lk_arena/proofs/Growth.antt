@@ -4,8 +4,9 @@ use Rattle.std.proofs.lemmas.Bool.{cases_eq, eq-eqb, ne_eqb}
 use Rattle.std.proofs.lemmas.List.{get_or_append_left, get_or_push}
 use Rattle.std.specs.FinMap as fin
 use Rattle.std.specs.Prelude.{◌==◌}
+use Rattle.lk_types.proofs.Members.{each_weaker, each_from_map}
 use Rattle.lk_types.specs.Each.{Each}
-use Rattle.lk_arena.proofs.EachLemmas.{Each-map, Each-zip, Each-from_map}
+use Rattle.lk_arena.proofs.EachLemmas.{Each-zip}
 use Rattle.lk_arena.proofs.RowAlgebra.{found_prop}
 use Rattle.lk_classes.specs.Classes.{class_at}
 use Rattle.lk_arena.specs.Shapes.{shape_at, parts_of, found_at, plain_of, value_at, IsPlain, IsRowOf, IsBuilt, IsDistinct, FitsNodes, IsArena, fields_in, HasFields, HasNode, WeakNodes}
@@ -41,7 +42,7 @@ IsBuilt-same Free v w x e b = b
 IsBuilt-same Open v w x e b = b
 IsBuilt-same Empty v w x e b = b
 IsBuilt-same (Made h ps) v w x e b = subst (λ vs. IsMadeOf h vs x) (map-each v w ps e) b
-IsBuilt-same (shape.Row fs t) v w x e b = IsRowOf-same fs v w (v t) (w t) x e.0 (Each-from_map (λ p. w p ≡ v p) (λ f. f.node) fs e.1) b
+IsBuilt-same (shape.Row fs t) v w x e b = IsRowOf-same fs v w (v t) (w t) x e.0 (each_from_map (λ p. w p ≡ v p) (λ f. f.node) fs e.1) b
 
 pub put : (ℕ → Value) → ℕ → Value → ℕ → Value
 put v n x i = cond (i == n) x (v i)
@@ -76,7 +77,7 @@ module _ (shapes : List Shape) (classes : List ℕ) (s : Shape) (arena : IsArena
 
   pub push_arena : IsDistinct (fields_in s) → HasFields s → IsArena (shapes ++ s ∷ []) (classes ++ length shapes ∷ [])
   push_arena distinct filled = record {
-    nodes = λ i h. Each-map (λ p. p < length shapes) (λ p. p < length (shapes ++ s ∷ [])) (λ p l. omega (arith, more_count)) (parts_of (shape_at (shapes ++ s ∷ []) i))
+    nodes = λ i h. each_weaker (λ p. p < length shapes) (λ p. p < length (shapes ++ s ∷ [])) (λ p l. omega (arith, more_count)) (parts_of (shape_at (shapes ++ s ∷ []) i))
         (⊎_elim (λ l. subst (λ t. Each (λ p. p < length shapes) (parts_of t)) (sym (old_shape i l)) (arena.nodes i l))
         (λ e. subst (λ k. Each (λ p. p < length shapes) (parts_of (shape_at (shapes ++ s ∷ []) k))) (sym e)
         (subst (λ t. Each (λ p. p < length shapes) (parts_of t)) (sym new_shape) parts)) (old_or_new i h));
@@ -106,13 +107,13 @@ module _ (shapes : List Shape) (classes : List ℕ) (s : Shape) (arena : IsArena
           (λ l. subst (λ t. IsBuilt t (put v (length shapes) x) (put v (length shapes) x i)) (sym (old_shape i l))
           (subst (IsBuilt (shape_at shapes i) (put v (length shapes) x)) (sym (below_same i l))
           (IsBuilt-same (shape_at shapes i) v (put v (length shapes) x) (v i)
-          (Each-map (λ p. p < length shapes) (λ p. put v (length shapes) x p ≡ v p) (λ p b. below_same p b) (parts_of (shape_at shapes i)) (arena.nodes i l))
+          (each_weaker (λ p. p < length shapes) (λ p. put v (length shapes) x p ≡ v p) (λ p b. below_same p b) (parts_of (shape_at shapes i)) (arena.nodes i l))
           (fits.builds i l))))
           (λ e. subst (λ k. IsBuilt (shape_at (shapes ++ s ∷ []) k) (put v (length shapes) x) (put v (length shapes) x k)) (sym e)
           (subst (λ t. IsBuilt t (put v (length shapes) x) (put v (length shapes) x (length shapes))) (sym new_shape)
           (subst (IsBuilt s (put v (length shapes) x)) (sym (put_at v (length shapes) x))
           (IsBuilt-same s v (put v (length shapes) x) x
-          (Each-map (λ p. p < length shapes) (λ p. put v (length shapes) x p ≡ v p) (λ p b. below_same p b) (parts_of s) parts) built))))
+          (each_weaker (λ p. p < length shapes) (λ p. put v (length shapes) x p ≡ v p) (λ p b. below_same p b) (parts_of s) parts) built))))
           (old_or_new i h);
       respects = λ i h.
           let c : length classes ≡ length shapes = arena.named.count in

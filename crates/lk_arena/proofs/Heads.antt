@@ -69,7 +69,7 @@ made_view head.Fun (OfRow m ∷ Plain r ∷ vs) x e =
     (ty.Fun e.1 (effects_type e.0) r, e.4, ap view_at (ty.outs-Fun e.1 (effects_type e.0) r) ∙ (λ i. (head.Fun, OfRow (sym e.2 i) ∷ Plain r ∷ sym e.3 i)))
 made_view _ _ x e = absurd e
 
-plain_injective : (s t : Ty) → Plain s ≡ Plain t → s ≡ t
+pub plain_injective : (s t : Ty) → Plain s ≡ Plain t → s ≡ t
 plain_injective s t e = cc
 
 -- a value is made in one way

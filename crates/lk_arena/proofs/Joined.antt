@@ -1,7 +1,7 @@
 -- Two rows whose tails are joined and whose common fields wait as pairs are one row.
 use Rattle.std.proofs.Common.{◌≡◌, ◌≢◌, ℕ, ◌<◌, true, false, List, ◌++◌, length, refl, sym, subst}
+use Rattle.lk_types.proofs.Members.{each_both}
 use Rattle.lk_types.specs.Each.{Each}
-use Rattle.lk_arena.proofs.EachLemmas.{Each-append}
 use Rattle.lk_arena.proofs.Flats.{AreNodePairs-common, flats_common, flats_rest, flats_left, flats_right, HasFit-more, WeakFits-less}
 use Rattle.lk_arena.proofs.Kinded.{common_kinds, fields_missing}
 use Rattle.lk_arena.proofs.Joins.{EqualKinds-same, AreNodePairs-more}
@@ -47,7 +47,7 @@ module _ (shapes : List Shape) (classes : List ℕ) (a b : ℕ) (fs gs : List Fi
         (record {
           arena = joins.arena;
           longer = joins.longer;
-          pairs = Each-append (λ p. (p.left < length shapes') × (p.right < length shapes')) queue' (common fs gs) joins.pairs
+          pairs = each_both (λ p. (p.left < length shapes') × (p.right < length shapes')) queue' (common fs gs) joins.pairs
               (AreNodePairs-more (length shapes) (length shapes') (common fs gs) joins.longer (AreNodePairs-common (length shapes) fs gs left.nodes right.nodes));
           back = λ v fits. joins.back v (WeakFits-less shapes' classes' queue' (common fs gs) v fits).0;
           rebuilt = λ v m x fits e row.
@@ -64,7 +64,7 @@ module _ (shapes : List Shape) (classes : List ℕ) (a b : ℕ) (fs gs : List Fi
                 h.0,
                 h.1,
                 h.2,
-                Each-append (λ p. h.0 p.left ≡ h.0 p.right) queue' (common fs gs) h.3
+                each_both (λ p. h.0 p.left ≡ h.0 p.right) queue' (common fs gs) h.3
                     (EqualKinds-same (length shapes) (common fs gs) kind h.0 h.1 (AreNodePairs-common (length shapes) fs gs left.nodes right.nodes) (common_kinds kind k fs gs f g)),
               );
           lighter = joins.lighter;

@@ -1,6 +1,7 @@
 -- New tails for two rows: the values of the new nodes follow from those of the old ones.
+use Rattle.lk_types.proofs.Members.{each_weaker}
 use Rattle.std.proofs.Common.{◌≡◌, ℕ, ◌<◌, ◌≤◌, List, sym, ◌∙◌, arith}
-use Rattle.lk_arena.proofs.EachLemmas.{Each-map, Each-zip}
+use Rattle.lk_arena.proofs.EachLemmas.{Each-zip}
 use Rattle.lk_arena.specs.Kinds.{Kind, EqualKinds}
 use Rattle.lk_arena.specs.Shapes.{Equates, AreNodePairs, SameBelow}
 use Rattle.lk_arena.specs.Values.{Value}
@@ -18,5 +19,5 @@ EqualKinds-same n q kind more same within e =
 
 pub AreNodePairs-more : (n m : ℕ) (q : List Pair) → n ≤ m → AreNodePairs n q → AreNodePairs m q
 AreNodePairs-more n m q h within =
-    Each-map (λ p. (p.left < n) × (p.right < n)) (λ p. (p.left < m) × (p.right < m))
+    each_weaker (λ p. (p.left < n) × (p.right < n)) (λ p. (p.left < m) × (p.right < m))
     (λ p b. let l = b.0 in let r = b.1 in (omega arith, omega arith)) q within

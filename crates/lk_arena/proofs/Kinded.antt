@@ -2,8 +2,9 @@
 use Rattle.std.proofs.Common.{◌≡◌, ◌≢◌, ℕ, ◌<◌, List, [], ◌∷◌, ◌++◌, ⊎_elim, length, map, Option, Some, None, cond, refl, sym, ◌∙◌, ap, subst, arith}
 use Rattle.std.proofs.lemmas.Bool.{cases_eq, eq-eqb, ne_eqb}
 use Rattle.std.specs.Prelude.{◌==◌}
+use Rattle.lk_types.proofs.Members.{each_both, each_weaker, each_from_map}
 use Rattle.lk_types.specs.Each.{Each}
-use Rattle.lk_arena.proofs.EachLemmas.{Each-append, Each-map, Each-zip, Each-from_map}
+use Rattle.lk_arena.proofs.EachLemmas.{Each-zip}
 use Rattle.lk_arena.proofs.Growth.{map-each, old_shape, new_shape, old_class, new_class, old_or_new}
 use Rattle.lk_arena.proofs.Relabel.{IsRelabeled, class_cases}
 use Rattle.lk_arena.proofs.RowAlgebra.{Each-missing, found_prop}
@@ -44,8 +45,8 @@ module _ (kind : ℕ → Kind) where
 
   pub fields_append : (k : Kind) (fs gs : List Field) → AreFieldsOf kind k fs → AreFieldsOf kind k gs → AreFieldsOf kind k (fs ++ gs)
   fields_append OfTypes fs gs h g = absurd h
-  fields_append OfFields fs gs h g = Each-append (λ f. kind f.node ≡ OfTypes) fs gs h g
-  fields_append OfEffects fs gs h g = Each-append (λ f. IsEffectName f.label × (kind f.node ≡ OfUnit)) fs gs h g
+  fields_append OfFields fs gs h g = each_both (λ f. kind f.node ≡ OfTypes) fs gs h g
+  fields_append OfEffects fs gs h g = each_both (λ f. IsEffectName f.label × (kind f.node ≡ OfUnit)) fs gs h g
   fields_append OfUnit fs gs h g = absurd h
   fields_append OfNothing fs gs h g = absurd h
 
@@ -62,7 +63,7 @@ module _ (kind : ℕ → Kind) where
   one_kind OfFields fs gs h g = (OfTypes, h, g)
   one_kind OfEffects fs gs h g =
       let units : (fs : List Field) → AreFieldsOf kind OfEffects fs → Each (λ f. kind f.node ≡ OfUnit) fs =
-      λ fs. Each-map (λ f. IsEffectName f.label × (kind f.node ≡ OfUnit)) (λ f. kind f.node ≡ OfUnit) (λ f e. e.1) fs in
+      λ fs. each_weaker (λ f. IsEffectName f.label × (kind f.node ≡ OfUnit)) (λ f. kind f.node ≡ OfUnit) (λ f e. e.1) fs in
       (OfUnit, units fs h, units gs g)
   one_kind OfUnit fs gs h g = absurd h
   one_kind OfNothing fs gs h g = absurd h
@@ -160,7 +161,7 @@ module _ (kind more : ℕ → Kind) where
   kind_same (Made h ps) k e a = made_same k h ps e a
   kind_same (shape.Row fs t) k e a =
       let r = row_kind kind k fs t a in
-      kind_row more k fs t (fields_same k fs (Each-from_map (λ p. more p ≡ kind p) (λ (f : Field). f.node) fs e.1) r.0) (e.0 ∙ r.1)
+      kind_row more k fs t (fields_same k fs (each_from_map (λ p. more p ≡ kind p) (λ (f : Field). f.node) fs e.1) r.0) (e.0 ∙ r.1)
   kind_same Free OfTypes e a = tt
   kind_same Free OfFields e a = absurd a
   kind_same Free OfEffects e a = absurd a
@@ -228,13 +229,13 @@ module _ (shapes : List Shape) (classes : List ℕ) (s : Shape) (arena : IsArena
         subst (λ t. HasKind more (more i) t) (sym (old_shape shapes classes s arena parts i b))
             (subst (λ k. HasKind more k (shape_at shapes i)) (sym (more_below i b))
             (kind_same kind more (shape_at shapes i) (kind i)
-            (Each-map (λ p. p < length shapes) (λ p. more p ≡ kind p) (λ p l. more_below p l) (parts_of (shape_at shapes i)) (arena.nodes i b)) (kinded i b).1)),
+            (each_weaker (λ p. p < length shapes) (λ p. more p ≡ kind p) (λ p l. more_below p l) (parts_of (shape_at shapes i)) (arena.nodes i b)) (kinded i b).1)),
       ))
       (λ (e : i ≡ length shapes). subst (λ i. (more (class_at (classes ++ length shapes ∷ []) i) ≡ more i) × HasKind more (more i) (shape_at (shapes ++ s ∷ []) i)) (sym e) (
         ap more (new_class shapes classes s arena parts),
         subst (λ t. HasKind more (more (length shapes)) t) (sym (new_shape shapes classes s arena parts))
             (subst (λ k. HasKind more k s) (sym more_at)
-            (kind_same kind more s k (Each-map (λ p. p < length shapes) (λ p. more p ≡ kind p) (λ p l. more_below p l) (parts_of s) parts) own)),
+            (kind_same kind more s k (each_weaker (λ p. p < length shapes) (λ p. more p ≡ kind p) (λ p l. more_below p l) (parts_of s) parts) own)),
       ))
       (old_or_new shapes classes s arena parts i h)
 

@@ -1,8 +1,8 @@
 -- A step of a search: it stays one, and has less to do.
+use Rattle.lk_types.proofs.Members.{each_both, each_front, each_back}
 use Rattle.std.proofs.Common.{◌≡◌, ℕ, zero, suc, ◌+◌, ◌-◌, ◌^◌, ◌<◌, ◌≤◌, List, [], ◌∷◌, ◌++◌, length, set, arith, min, ap, ◌∙◌}
 use Rattle.std.proofs.lemmas.List.{length-set, length-append}
 use Rattle.std.specs.Prelude.{slice_index_or as get_or}
-use Rattle.lk_arena.proofs.EachLemmas.{Each-append, Each-append_left, Each-append_right}
 use Rattle.lk_arena.specs.Order.{IsSearch}
 use Rattle.lk_arena.specs.Shapes.{shape_at, parts_of, AllBelow}
 use Rattle.lk_arena.specs.declared.node.Shape.{Shape}
@@ -35,19 +35,19 @@ module _ (n : ℕ) (looks rest done path : List ℕ) (node : ℕ) (is : path ≡
   down_all = rw is at search.down
 
   pub node_below : node < n
-  node_below = (Each-append_right (λ i. i < n) rest (node ∷ []) down_all).0
+  node_below = (each_back (λ i. i < n) rest (node ∷ []) down_all).0
 
   pub search_done : (m : ℕ) → IsSearch n (set looks node m) rest (done ++ node ∷ [])
   search_done m = record {
     count = length-set looks node m ∙ search.count;
-    down = Each-append_left (λ i. i < n) rest (node ∷ []) down_all;
-    ended = Each-append (λ i. i < n) done (node ∷ []) search.ended (node_below, tt);
+    down = each_front (λ i. i < n) rest (node ∷ []) down_all;
+    ended = each_both (λ i. i < n) done (node ∷ []) search.ended (node_below, tt);
   }
 
   pub search_more : (m c : ℕ) → c < n → IsSearch n (set looks node m) ((rest ++ node ∷ []) ++ c ∷ []) done
   search_more m c below = record {
     count = length-set looks node m ∙ search.count;
-    down = Each-append (λ i. i < n) (rest ++ node ∷ []) (c ∷ []) down_all (below, tt);
+    down = each_both (λ i. i < n) (rest ++ node ∷ []) (c ∷ []) down_all (below, tt);
     ended = search.ended;
   }
 

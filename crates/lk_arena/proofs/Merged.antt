@@ -1,6 +1,6 @@
 -- Two classes become one: why what the shape of the one that is given up said holds still.
+use Rattle.lk_types.proofs.Members.{each_both}
 use Rattle.std.proofs.Common.{◌≡◌, ℕ, ◌<◌, true, false, List, ◌++◌, length, refl, sym, ◌∙◌, ap, subst, arith}
-use Rattle.lk_arena.proofs.EachLemmas.{Each-append}
 use Rattle.lk_arena.proofs.Flats.{IsFlatOf-later, Fits-with, HasFit-at, WeakFits-with, WeakFits-less}
 use Rattle.lk_arena.proofs.Kinded.{made_kinds}
 use Rattle.lk_arena.specs.Kinds.{AreFieldsOf, HasKind, IsFlatKinded}
@@ -65,7 +65,7 @@ module _ (from to : ℕ) (shapes : List Shape) (classes : List ℕ) (apart : Are
             arena = unites.arena;
             longer = let c = count in omega arith;
             pairs = subst (λ n. AreNodePairs n (queue ++ paired ps qs)) (sym count)
-                (Each-append (λ p. (p.left < length shapes) × (p.right < length shapes)) queue (paired ps qs) pairs
+                (each_both (λ p. (p.left < length shapes) × (p.right < length shapes)) queue (paired ps qs) pairs
                 (AreNodePairs-paired (length shapes) ps qs (parts_below shapes classes from h ps arena apart.from_below is) (parts_below shapes classes to h qs arena apart.to_below is')));
             back = λ v fits.
                 let less = WeakFits-less shapes' classes' queue (paired ps qs) v fits in
@@ -77,7 +77,7 @@ module _ (from to : ℕ) (shapes : List Shape) (classes : List ℕ) (apart : Are
                   v,
                   (λ i h. refl),
                   Fits-with shapes' classes' (queue ++ paired ps qs) v (unites.forth v fits.nodes e)
-                      (Each-append (λ p. v p.left ≡ v p.right) queue (paired ps qs) fits.equates (paired-map v ps qs parts.1)),
+                      (each_both (λ p. v p.left ≡ v p.right) queue (paired ps qs) fits.equates (paired-map v ps qs parts.1)),
                 );
             kinds = λ kind kinded equal e.
                 let other : HasKind kind (kind from) (Made h qs) =
@@ -85,7 +85,7 @@ module _ (from to : ℕ) (shapes : List Shape) (classes : List ℕ) (apart : Are
                   kind,
                   (λ i h. refl),
                   unites.kinds kind kinded e,
-                  Each-append (λ p. kind p.left ≡ kind p.right) queue (paired ps qs) equal
+                  each_both (λ p. kind p.left ≡ kind p.right) queue (paired ps qs) equal
                       (made_kinds kind (kind from) h ps qs (subst (HasKind kind (kind from)) is (kinded from apart.from_below).1) other),
                 );
             lighter = unites.lighter;

@@ -9,10 +9,10 @@ use Rattle.std.specs.Map.{lookup}
 use Rattle.std.specs.Ordering.{nat_cmp}
 use Rattle.std.specs.Prelude.{◌||◌, is_some}
 use Rattle.std.specs.Str.{bytes_eq}
+use Rattle.lk_types.proofs.Members.{each_both}
 use Rattle.lk_types.specs.Each.{Each, OneOf}
 use Rattle.lk_types.specs.Rows.{Label}
 use Rattle.lk_arena.proofs.Chains.{or_found, found_at-append}
-use Rattle.lk_arena.proofs.EachLemmas.{Each-append}
 use Rattle.lk_arena.proofs.RowAlgebra.{label_cases}
 use Rattle.lk_arena.specs.Lookups.{AreNoted, ByLabel, HasNodes, is_label, is_noted, node_in}
 use Rattle.lk_arena.specs.Shapes.{IsDistinct, found_at}
@@ -106,7 +106,7 @@ distinct_behind (f ∷ fs) zero d = d
 distinct_behind (f ∷ fs) (suc i) d = distinct_behind fs i d.1
 
 pub each_taken : {A : Type 0} (P : A → Type 0) (xs : List A) (i : ℕ) (x : A) → i < length xs → x ≡ get_or xs i x → Each P (take i xs) → P x → Each P (take (i + 1) xs)
-each_taken P xs i x below is all now = subst (Each P) (sym (take_more xs i x below ∙ ap (λ y. take i xs ++ y ∷ []) (sym is))) (Each-append P (take i xs) (x ∷ []) all (now, tt))
+each_taken P xs i x below is all now = subst (Each P) (sym (take_more xs i x below ∙ ap (λ y. take i xs ++ y ∷ []) (sym is))) (each_both P (take i xs) (x ∷ []) all (now, tt))
 
 -- ---- rows that come one behind another
 

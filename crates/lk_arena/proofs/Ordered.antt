@@ -1,7 +1,8 @@
 -- What ranks of all classes say. A class without a rank that no sweep can rank has no value: a type would be a part of itself.
+use Rattle.lk_types.proofs.Members.{each_weaker}
 use Rattle.std.proofs.Common.{◌≡◌, ℕ, zero, suc, ◌<◌, List, length, refl, ap, arith, Option, None}
 use Rattle.std.specs.Prelude.{IsSome, unwrap_or, replicate}
-use Rattle.lk_arena.proofs.EachLemmas.{Each-map, Each-zip, OneOf-with, OneOf-none}
+use Rattle.lk_arena.proofs.EachLemmas.{Each-zip, OneOf-with, OneOf-none}
 use Rattle.lk_arena.proofs.Ranks.{some_of}
 use Rattle.lk_arena.proofs.Sizes.{value_size, parts_smaller}
 use Rattle.lk_arena.specs.Order.{rank_at, HasRankBelow, IsRanked, IsPartlyRanked, IsStuck, unknown}
@@ -19,7 +20,7 @@ pub IsRanked-from_partly :
 IsRanked-from_partly shapes classes ranks next count ranked known i h named =
     let o = some_of (rank_at ranks i) (known i (omega arith) named) in
     let r : rank_of ranks i ≡ o.0 = ap (λ o. unwrap_or o 0) o.1 in
-    Each-map (λ p. HasRankBelow ranks o.0 (class_at classes p)) (λ p. rank_of ranks (class_at classes p) < rank_of ranks i)
+    each_weaker (λ p. HasRankBelow ranks o.0 (class_at classes p)) (λ p. rank_of ranks (class_at classes p) < rank_of ranks i)
     (λ p b. let e : rank_of ranks (class_at classes p) ≡ b.0 = ap (λ o. unwrap_or o 0) b.1 in let l : b.0 < o.0 = b.2 in omega arith)
     (parts_of (shape_at shapes i)) (ranked i o.0 h o.1).1
 

@@ -3,8 +3,9 @@ use Rattle.std.proofs.Common.{◌≡◌, ◌≢◌, ℕ, zero, suc, ◌+◌, ◌
 use Rattle.std.proofs.lemmas.Bool.{cases_eq}
 use Rattle.std.proofs.lemmas.List.{get_or-set_same, get_or-set_other}
 use Rattle.std.specs.Prelude.{is_some, IsSome}
+use Rattle.lk_types.proofs.Members.{each_weaker}
 use Rattle.lk_types.specs.Each.{Each}
-use Rattle.lk_arena.proofs.EachLemmas.{Each-map, Each-zip}
+use Rattle.lk_arena.proofs.EachLemmas.{Each-zip}
 use Rattle.lk_arena.specs.Order.{rank_at, HasRankBelow, IsPartlyRanked, unknown}
 use Rattle.lk_classes.specs.Classes.{class_at, AreClasses}
 use Rattle.lk_arena.specs.Shapes.{shape_at, parts_of, AreNodes}
@@ -57,7 +58,7 @@ module _ (ranks : List (Option ℕ)) (i next : ℕ) (below : i < length ranks) (
       let old = ranked j r h (sym (get_or-set_other ranks i j (Some next) None ne) ∙ e) in
       let less : r < next = old.0 in (
         omega arith,
-        Each-map (λ p. HasRankBelow ranks r (class_at classes p)) (λ p. HasRankBelow (set ranks i (Some next)) r (class_at classes p))
+        each_weaker (λ p. HasRankBelow ranks r (class_at classes p)) (λ p. HasRankBelow (set ranks i (Some next)) r (class_at classes p))
             (λ p. HasRankBelow-stays r (class_at classes p)) (parts_of (shape_at shapes j)) old.1,
       ))
       (cases_eq j i)

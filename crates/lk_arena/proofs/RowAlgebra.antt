@@ -6,11 +6,12 @@ use Rattle.std.specs.Cmp.Lexicographic.{nat_list_cmp_total, bytes_decides}
 use Rattle.std.specs.FinMap as fin
 use Rattle.std.specs.Prelude.{is_some, not}
 use Rattle.std.specs.Str.{bytes_eq}
+use Rattle.lk_types.proofs.Members.{each_weaker}
 use Rattle.lk_types.specs.Each.{Each}
 use Rattle.lk_types.specs.Rows.{Label, label_order}
 use Rattle.lk_types.specs.declared.ty.RowTail.TheVariants.{Closed}
 use Rattle.lk_types.specs.declared.ty.Ty.{Ty}
-use Rattle.lk_arena.proofs.EachLemmas.{Each-zip, Each-map}
+use Rattle.lk_arena.proofs.EachLemmas.{Each-zip}
 use Rattle.lk_arena.specs.Openings.{OpenRow, only_tail}
 use Rattle.lk_arena.specs.Shapes.{found_at, plain_of, value_at, IsPlain, IsRowOf, missing, keep_missing, common, pair_common, Equates, IsDistinct, AreFound}
 use Rattle.lk_arena.specs.Values.{Value, Plain, OfRow}
@@ -318,8 +319,8 @@ module _ (w : ℕ → Value) (fs gs : List Field) (y z u x : Value) (right : IsR
     row = right.row;
     tail_is = low.row_is;
     row_is = right.row_is;
-    plain = Each-map (λ f. found_at fs f.label ≡ Some f.node) (λ f. IsPlain (w f.node)) (λ f d. plain_at f d (found_at gs f.label) refl) fs distinct;
-    fresh = Each-map (λ f. found_at fs f.label ≡ Some f.node) (λ f. fin.get low.row.fields f.label ≡ None) (λ f d. fresh_at f d (found_at gs f.label) refl) fs distinct;
+    plain = each_weaker (λ f. found_at fs f.label ≡ Some f.node) (λ f. IsPlain (w f.node)) (λ f d. plain_at f d (found_at gs f.label) refl) fs distinct;
+    fresh = each_weaker (λ f. found_at fs f.label ≡ Some f.node) (λ f. fin.get low.row.fields f.label ≡ None) (λ f d. fresh_at f d (found_at gs f.label) refl) fs distinct;
     at = λ l. go l (found_at fs l) (found_at gs l) refl refl;
     same_end = right.same_end ∙ ap (λ (m : OpenRow). m.tail) same_mid ∙ low'.same_end ∙ ap (λ (m : OpenRow). m.tail) (sym same_low) ∙ sym low.same_end;
   }
@@ -349,7 +350,7 @@ AreFound-from_distinct [] d = tt
 AreFound-from_distinct (f ∷ fs) d =
     let ih = AreFound-from_distinct fs d.1 in (
       found_same f fs f.label refl,
-      Each-map (λ g. found_at fs g.label ≡ Some g.node) (λ g. found_at (f ∷ fs) g.label ≡ Some g.node)
+      each_weaker (λ g. found_at fs g.label ≡ Some g.node) (λ g. found_at (f ∷ fs) g.label ≡ Some g.node)
           (λ g e. found_other f fs g.label (λ same. none-some g.node (sym d.0 ∙ ap (found_at fs) (sym same) ∙ e)) ∙ e) fs ih,
     )
 

@@ -3,10 +3,12 @@ use Rattle.std.proofs.Common.{◌≡◌, ℕ, ◌+◌, ◌*◌, ◌<◌, ◌≤�
 use Rattle.std.proofs.lemmas.List.{nil_from_length}
 use Rattle.std.specs.Cmp.Lexicographic.{nat_list_cmp_total, bytes_decides}
 use Rattle.std.specs.FinMap as fin
-use Rattle.std.specs.Ordering.{eq_by_cmp, is_eq, ordering_reverse}
+use Rattle.std.specs.Ordering.{is_eq}
 use Rattle.std.specs.Str.{bytes_eq}
 use Rattle.std.specs.declared.cmp.Ordering.{Ordering}
 use Rattle.std.specs.declared.cmp.Ordering.TheVariants.{Less, Equal, Greater}
+use Rattle.lk_types.proofs.LabelMaps.{labels_tie, labels_differ}
+use Rattle.lk_types.proofs.Members.{each_weaker, each_to_map, each_from_map}
 use Rattle.lk_types.specs.Each.{Each}
 use Rattle.lk_types.specs.Rows.{Label, label_order, effects_of}
 use Rattle.lk_types.specs.TypeText.{effect_word}
@@ -20,7 +22,6 @@ use Rattle.lk_types.specs.declared.ty.Ty.TheOpen.{Ty-F, TyField-F, TyRow-F}
 use Rattle.lk_types.specs.declared.ty.Ty.TheVariants as ty
 use Rattle.lk_types.specs.declared.ty.TyField.{TyField, fold-TyField}
 use Rattle.lk_types.specs.declared.ty.TyRow.{TyRow, fold-TyRow, roll-TyRow}
-use Rattle.lk_arena.proofs.EachLemmas.{Each-map, Each-to_map}
 use Rattle.lk_arena.proofs.RowAlgebra.{RowFields, label_cases, found_here, found_below, same_rows}
 use Rattle.lk_arena.specs.Counting.{sum_of}
 use Rattle.lk_arena.specs.Openings.{OpenRow, effects_type, field_type, row_type, unit_type}
@@ -123,22 +124,6 @@ map_size-insert m l t e =
 
 -- ---- a row by its fields
 
-self_equal : (o : Ordering) → o ≡ ordering_reverse o → is_eq o ≡ true
-self_equal Less e = cc
-self_equal Equal e = refl
-self_equal Greater e = cc
-
-pub ties : (l k : Label) → l ≡ k → eq_by_cmp label_order l k ≡ true
-ties l k e = ap (λ k. is_eq (label_order l k)) (sym e) ∙ self_equal (label_order l l) (nat_list_cmp_total.antisymm l l)
-
-not_equal : (o : Ordering) → (o ≡ Equal → ⊥) → is_eq o ≡ false
-not_equal Less n = refl
-not_equal Equal n = absurd (n refl)
-not_equal Greater n = refl
-
-pub no_ties : (l k : Label) → (l ≡ k → ⊥) → eq_by_cmp label_order l k ≡ false
-no_ties l k n = not_equal (label_order l k) (λ e. n (fin.slice_cmp-IsAntisymmetric fin.nat_cmp-IsAntisymmetric l k e))
-
 abbrev pub plain_or : Value → Ty
 plain_or (Plain t) = t
 plain_or (OfRow m) = ty.Int
@@ -162,10 +147,10 @@ get-map_with (f ∷ fs) w r p l =
     let ih = get-map_with fs w r p.1 l in
     ⊎_elim
     (λ (e : (bytes_eq l f.label ≡ true) × (l ≡ f.label)).
-    g ∙ ap (λ b. cond b (Some (plain_or (w f.node))) (fin.get (map_with fs w r) l)) (ties l f.label e.1) ∙ sym (plain_or-is (w f.node) p.0)
+    g ∙ ap (λ b. cond b (Some (plain_or (w f.node))) (fin.get (map_with fs w r) l)) (labels_tie l f.label e.1) ∙ sym (plain_or-is (w f.node) p.0)
     ∙ sym (ap (λ o. value_at w o (fin.get r l)) (found_here f fs l e.0)))
     (λ (e : bytes_eq l f.label ≡ false).
-    g ∙ ap (λ b. cond b (Some (plain_or (w f.node))) (fin.get (map_with fs w r) l)) (no_ties l f.label (λ same. (let t : false ≡ true = sym e ∙ (bytes_decides l f.label).1 same in cc)))
+    g ∙ ap (λ b. cond b (Some (plain_or (w f.node))) (fin.get (map_with fs w r) l)) (labels_differ l f.label (λ same. (let t : false ≡ true = sym e ∙ (bytes_decides l f.label).1 same in cc)))
     ∙ ih ∙ sym (ap (λ o. value_at w o (fin.get r l)) (found_below f fs l e)))
     (label_cases l f.label)
 
@@ -207,7 +192,7 @@ row_is_larger fs w y x d r =
 pub fields_larger : (fs : List Field) (w : ℕ → Value) → Each (λ f. value_size (w f.node) < fields_size fs w) fs
 fields_larger [] w = tt
 fields_larger (f ∷ fs) w =
-    (omega arith, Each-map (λ g. value_size (w g.node) < fields_size fs w) (λ g. value_size (w g.node) < fields_size (f ∷ fs) w) (λ g h. omega arith) fs (fields_larger fs w))
+    (omega arith, each_weaker (λ g. value_size (w g.node) < fields_size fs w) (λ g. value_size (w g.node) < fields_size (f ∷ fs) w) (λ g h. omega arith) fs (fields_larger fs w))
 
 -- ---- constructors
 
@@ -286,20 +271,16 @@ made_larger _ _ x e = absurd e
 
 -- ---- parts of a node
 
-Each-of_map : {A B : Type 0} (P : B → Type 0) (f : A → B) (xs : List A) → Each P (map f xs) → Each (λ x. P (f x)) xs
-Each-of_map P f [] e = tt
-Each-of_map P f (x ∷ xs) e = (e.0, Each-of_map P f xs e.1)
-
 pub parts_smaller : (s : Shape) (w : ℕ → Value) (x : Value) → IsDistinct (fields_in s) → HasFields s → IsBuilt s w x → Each (λ p. value_size (w p) < value_size x) (parts_of s)
 parts_smaller Free w x d h b = tt
 parts_smaller Open w x d h b = tt
 parts_smaller Empty w x d h b = tt
-parts_smaller (Made g ps) w x d h b = Each-of_map (λ v. value_size v < value_size x) w ps (made_larger g (map w ps) x b)
+parts_smaller (Made g ps) w x d h b = each_from_map (λ v. value_size v < value_size x) w ps (made_larger g (map w ps) x b)
 parts_smaller (shape.Row [] t) w x d h b = absurd h
 parts_smaller (shape.Row (f ∷ fs) t) w x d h b =
     let e = row_is_larger (f ∷ fs) w (w t) x d b in
     let l = fields_larger (f ∷ fs) w in (
       omega arith,
-      Each-to_map (λ p. value_size (w p) < value_size x) (λ (f : Field). f.node) (f ∷ fs)
-          (Each-map (λ (g : Field). value_size (w g.node) < fields_size (f ∷ fs) w) (λ g. value_size (w g.node) < value_size x) (λ g k. omega arith) (f ∷ fs) l),
+      each_to_map (λ p. value_size (w p) < value_size x) (λ (f : Field). f.node) (f ∷ fs)
+          (each_weaker (λ (g : Field). value_size (w g.node) < fields_size (f ∷ fs) w) (λ g. value_size (w g.node) < value_size x) (λ g k. omega arith) (f ∷ fs) l),
     )

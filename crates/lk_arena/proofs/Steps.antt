@@ -1,6 +1,6 @@
 -- Pairs taken one after another, from the end of a list.
+use Rattle.lk_types.proofs.Members.{each_both, each_front, each_back}
 use Rattle.std.proofs.Common.{◌≡◌, ℕ, ◌<◌, ◌≤◌, List, [], ◌∷◌, ◌++◌, length, refl, sym, ◌∙◌, ap, subst, arith}
-use Rattle.lk_arena.proofs.EachLemmas.{Each-append, Each-append_left, Each-append_right}
 use Rattle.lk_arena.proofs.Flats.{Fits-with, WeakFits-with}
 use Rattle.lk_arena.specs.Kinds.{Kind, AreKinded, EqualKinds}
 use Rattle.lk_classes.specs.Classes.{class_at}
@@ -24,10 +24,10 @@ module _ (shapes : List Shape) (classes : List ℕ) (arena : IsArena shapes clas
   apart = subst (AreNodePairs (length shapes)) taken within
 
   pub rest_within : AreNodePairs (length shapes) rest
-  rest_within = Each-append_left (λ p. (p.left < length shapes) × (p.right < length shapes)) rest (p ∷ []) apart
+  rest_within = each_front (λ p. (p.left < length shapes) × (p.right < length shapes)) rest (p ∷ []) apart
 
   pub last_within : (p.left < length shapes) × (p.right < length shapes)
-  last_within = (Each-append_right (λ p. (p.left < length shapes) × (p.right < length shapes)) rest (p ∷ []) apart).0
+  last_within = (each_back (λ p. (p.left < length shapes) × (p.right < length shapes)) rest (p ∷ []) apart).0
 
   in_classes : (i : ℕ) → i < length shapes → i < length classes
   in_classes i h = let e : length classes ≡ length shapes = arena.named.count in omega arith
@@ -39,15 +39,15 @@ module _ (shapes : List Shape) (classes : List ℕ) (arena : IsArena shapes clas
     both : Equates all v → Equates rest v × (v p.left ≡ v p.right)
     both e =
         let h : Equates (rest ++ p ∷ []) v = subst (λ ps. Equates ps v) taken e in
-        (Each-append_left (λ p. v p.left ≡ v p.right) rest (p ∷ []) h, (Each-append_right (λ p. v p.left ≡ v p.right) rest (p ∷ []) h).0)
+        (each_front (λ p. v p.left ≡ v p.right) rest (p ∷ []) h, (each_back (λ p. v p.left ≡ v p.right) rest (p ∷ []) h).0)
 
     joined : Equates rest v → v p.left ≡ v p.right → Equates all v
-    joined e last = subst (λ ps. Equates ps v) (sym taken) (Each-append (λ p. v p.left ≡ v p.right) rest (p ∷ []) e (last, tt))
+    joined e last = subst (λ ps. Equates ps v) (sym taken) (each_both (λ p. v p.left ≡ v p.right) rest (p ∷ []) e (last, tt))
 
   kinds_both : (kind : ℕ → Kind) → EqualKinds all kind → EqualKinds rest kind × (kind p.left ≡ kind p.right)
   kinds_both kind e =
       let h : EqualKinds (rest ++ p ∷ []) kind = subst (λ ps. EqualKinds ps kind) taken e in
-      (Each-append_left (λ p. kind p.left ≡ kind p.right) rest (p ∷ []) h, (Each-append_right (λ p. kind p.left ≡ kind p.right) rest (p ∷ []) h).0)
+      (each_front (λ p. kind p.left ≡ kind p.right) rest (p ∷ []) h, (each_back (λ p. kind p.left ≡ kind p.right) rest (p ∷ []) h).0)
 
   -- two nodes of one class
   pub last_same : class_at classes p.left ≡ class_at classes p.right → SamePairs classes all rest

@@ -1,9 +1,9 @@
 -- The tails of two rows become fields before one row: both are one already, neither has more fields, one has, or both.
 use Rattle.std.proofs.Common.{◌≡◌, ◌≢◌, ℕ, ◌<◌, List, [], ◌∷◌, ◌++◌, length, refl, sym, ◌∙◌, subst, arith}
 use Rattle.std.proofs.lemmas.List.{nil_from_length}
+use Rattle.lk_types.proofs.Members.{each_both, each_front, each_back, each_weaker}
 use Rattle.lk_types.specs.Each.{Each}
 use Rattle.lk_arena.proofs.Chains.{IsRowOf-nil, IsRowOf-nil_same}
-use Rattle.lk_arena.proofs.EachLemmas.{Each-append, Each-append_left, Each-append_right, Each-map}
 use Rattle.lk_arena.proofs.Growth.{IsRowOf-same}
 use Rattle.lk_arena.proofs.Joins.{Equates-same, EqualKinds-same, AreNodePairs-more}
 use Rattle.lk_arena.proofs.Kinded.{open_kind, fields_same}
@@ -57,10 +57,10 @@ module _ (left right : ℕ) (lefts rights : List Field) (shapes : List Shape) (c
       (record {
         arena = arena;
         longer = omega arith;
-        pairs = Each-append (λ p. (p.left < length shapes) × (p.right < length shapes)) queue (pair ∷ []) pairs ((tails.left_below, tails.right_below), tt);
-        back = λ v fits. record { nodes = fits.nodes; equates = Each-append_left (λ p. v p.left ≡ v p.right) queue (pair ∷ []) fits.equates };
+        pairs = each_both (λ p. (p.left < length shapes) × (p.right < length shapes)) queue (pair ∷ []) pairs ((tails.left_below, tails.right_below), tt);
+        back = λ v fits. record { nodes = fits.nodes; equates = each_front (λ p. v p.left ≡ v p.right) queue (pair ∷ []) fits.equates };
         tails = λ v m fits is.
-            let e : v left ≡ v right = (Each-append_right (λ p. v p.left ≡ v p.right) queue (pair ∷ []) fits.equates).0 in (
+            let e : v left ≡ v right = (each_back (λ p. v p.left ≡ v p.right) queue (pair ∷ []) fits.equates).0 in (
               v right,
               subst (λ x. IsRowOf lefts v (v right) x) (sym e) (no_fields_before lefts v m (v right) none is),
               no_fields_before rights v m (v right) none' is,
@@ -69,10 +69,10 @@ module _ (left right : ℕ) (lefts rights : List Field) (shapes : List Shape) (c
             let e : v left ≡ v right = same_row lefts v (v left) (OfRow m) none row ∙ sym (same_row rights v (v right) (OfRow m) none' row') in (
               v,
               (λ i h. refl),
-              record { nodes = fits.nodes; equates = Each-append (λ p. v p.left ≡ v p.right) queue (pair ∷ []) fits.equates (e, tt) },
+              record { nodes = fits.nodes; equates = each_both (λ p. v p.left ≡ v p.right) queue (pair ∷ []) fits.equates (e, tt) },
             );
         kinds = λ kind k kinded equal l r f g.
-            (kind, (λ i h. refl), kinded, Each-append (λ p. kind p.left ≡ kind p.right) queue (pair ∷ []) equal (l ∙ sym r, tt));
+            (kind, (λ i h. refl), kinded, each_both (λ p. kind p.left ≡ kind p.right) queue (pair ∷ []) equal (l ∙ sym r, tt));
         lighter = omega arith;
       })
 
@@ -124,7 +124,7 @@ module _ (left right : ℕ) (lefts rights : List Field) (shapes : List Shape) (c
     more = let c = new.count in omega arith
 
     each_more : (fs : List Field) → Each (λ f. f.node < length shapes) fs → Each (λ f. f.node < length shapes₁) fs
-    each_more fs = Each-map (λ f. f.node < length shapes) (λ f. f.node < length shapes₁) (λ f b. omega (arith, more)) fs
+    each_more fs = each_weaker (λ f. f.node < length shapes) (λ f. f.node < length shapes₁) (λ f b. omega (arith, more)) fs
 
     pub can_bind_first : length lefts ≢ 0 → CanBind shapes₁ classes₁ left lefts fresh
     can_bind_first some = record {
@@ -161,7 +161,7 @@ module _ (left right : ℕ) (lefts rights : List Field) (shapes : List Shape) (c
             let h = new.forth v (OfRow m) fits.nodes (m, refl) in
             let w = h.0 in
             let same : (fs : List Field) → Each (λ f. f.node < length shapes) fs → Each (λ f. w f.node ≡ v f.node) fs =
-            λ fs. Each-map (λ f. f.node < length shapes) (λ f. w f.node ≡ v f.node) (λ f b. h.1 f.node b) fs in
+            λ fs. each_weaker (λ f. f.node < length shapes) (λ f. w f.node ≡ v f.node) (λ f b. h.1 f.node b) fs in
             let low : (fs : List Field) (i : ℕ) → i < length shapes → Each (λ f. f.node < length shapes) fs → IsRowOf fs v (OfRow m) (v i) → IsRowOf fs w (w fresh) (w i) =
             λ fs i b nodes r. subst (IsRowOf fs w (w fresh)) (sym (h.1 i b)) (IsRowOf-same fs v w (OfRow m) (w fresh) (v i) h.3 (same fs nodes) r) in (
               w,
@@ -177,7 +177,7 @@ module _ (left right : ℕ) (lefts rights : List Field) (shapes : List Shape) (c
             let left_kind : more' left ≡ k = h.1 left tails.left_below ∙ l in
             let right_kind : more' right ≡ k = h.1 right tails.right_below ∙ r in
             let same : (fs : List Field) → Each (λ f. f.node < length shapes) fs → Each (λ f. more' f.node ≡ kind f.node) fs =
-            λ fs. Each-map (λ f. f.node < length shapes) (λ f. more' f.node ≡ kind f.node) (λ f b. h.1 f.node b) fs in
+            λ fs. each_weaker (λ f. f.node < length shapes) (λ f. more' f.node ≡ kind f.node) (λ f b. h.1 f.node b) fs in
             let f' : AreFieldsOf more' (more' left) lefts = subst (λ k. AreFieldsOf more' k lefts) (sym left_kind) (fields_same kind more' k lefts (same lefts tails.left_nodes) f) in
             let g' : AreFieldsOf more' (more' right) rights = subst (λ k. AreFieldsOf more' k rights) (sym right_kind) (fields_same kind more' k rights (same rights tails.right_nodes) g) in (
               more',

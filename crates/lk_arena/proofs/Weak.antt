@@ -1,9 +1,9 @@
 -- The fields of a row and of the classes below it, told from the names of the classes alone.
 use Rattle.std.proofs.Common.{◌≡◌, ◌≢◌, ℕ, ◌+◌, ◌<◌, true, false, List, [], ◌∷◌, ◌++◌, length, map, refl, sym, ◌∙◌, ap, subst, arith, Option, Some, None, append_assoc, append-nil}
 use Rattle.std.specs.Prelude.{IsSome}
+use Rattle.lk_types.proofs.Members.{each_both, each_from_map}
 use Rattle.lk_types.specs.Each.{Each, OneOf}
 use Rattle.lk_arena.proofs.Chains.{IsDistinct-append, IsRowOf-append, IsRowOf-nil, labels_apart, not_row_value, row_value, IsRowOf-front, or_found, found_at-append}
-use Rattle.lk_arena.proofs.EachLemmas.{Each-append, Each-from_map}
 use Rattle.lk_arena.proofs.Sizes.{value_size, fields_size, row_is_larger}
 use Rattle.lk_classes.specs.Classes.{class_at}
 use Rattle.lk_arena.specs.Openings.{OpenRow}
@@ -36,7 +36,7 @@ module _ (hole : ℕ) (shapes : List Shape) (classes : List ℕ) (arena : IsAren
         shape_is = is;
         fields_is = sym (append-nil own);
         distinct = row_distinct row own first b is;
-        nodes = Each-from_map (λ p. p < length shapes) (λ f. f.node) own parts.1;
+        nodes = each_from_map (λ p. p < length shapes) (λ f. f.node) own parts.1;
         below = arena.named.below first parts.0;
         first_below = parts.0;
         row_below = b;
@@ -103,7 +103,7 @@ module _ (hole : ℕ) (shapes : List Shape) (classes : List ℕ) (arena : IsAren
         shape_is = flat.shape_is;
         fields_is = ap (λ fs. fs ++ more) flat.fields_is ∙ append_assoc flat.own flat.rest more;
         distinct = IsDistinct-append fields more flat.distinct (row_distinct tail more next flat.below is) lacks;
-        nodes = Each-append (λ f. f.node < length shapes) fields more flat.nodes (Each-from_map (λ p. p < length shapes) (λ f. f.node) more more_parts.1);
+        nodes = each_both (λ f. f.node < length shapes) fields more flat.nodes (each_from_map (λ p. p < length shapes) (λ f. f.node) more more_parts.1);
         below = arena.named.below next more_parts.0;
         first_below = flat.first_below;
         row_below = flat.row_below;

@@ -1,4 +1,4 @@
-pub mod Ascending
+pub mod ColumnMaps
 pub mod Forms
 pub mod Given
 pub mod InOrder

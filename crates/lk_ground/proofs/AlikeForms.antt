@@ -16,7 +16,7 @@ use Rattle.lk_operators.specs.Operators.{operated}
 use Rattle.lk_operators.specs.Values.{bool_in, text_in, list_in, tag_in, is_unit}
 use Rattle.lk_operators.specs.declared.outcome.Outcome.{Outcome}
 use Rattle.lk_sound.proofs.Inside.{bodies_of, last_body}
-use Rattle.lk_sound.proofs.Members.{one_in_front, one_in_back, found_in}
+use Rattle.lk_types.proofs.Members.{one_in_front, one_in_back, found_in}
 use Rattle.lk_types.specs.Each.{OneOf}
 use Rattle.lk_ground.specs.Alike.{Alike, AllAlike, none, more}
 use Rattle.lk_ground.specs.Language.{Point, within, act_within}

@@ -1,8 +1,9 @@
 -- Labels: what has one is found by it, and each instance and each place that is labelled in one has one.
 use Rattle.std.proofs.Common.{◌≡◌, refl, sym, ◌∙◌, ap, ap₂, subst, arith, ℕ, zero, suc, ◌+◌, ◌≤◌, Bool, true, false, ◌&&◌, ◌==◌, if◌then◌else◌, List, [], ◌∷◌, map, inl, inr, Some, None, slice_get}
 use Rattle.std.proofs.lemmas.Bool.Decides.{nat_tests}
+use Rattle.std.proofs.lemmas.Bool.{and_parts, eqb-true}
 use Rattle.lk_types.specs.Each.{OneOf}
-use Rattle.lk_sound.proofs.Members.{one_in_front, one_in_back}
+use Rattle.lk_types.proofs.Members.{one_in_front, one_in_back}
 use Rattle.lk_ground.specs.Language.{Labelled, Whole, Site, is_same, function_of, instance, labelled_of, labelled_from, labels, place_among, label_of, found_from, labelled}
 use Rattle.lk_ground.specs.Sites.{labelled_in}
 use Rattle.lk_ground.specs.declared.program.GroundFun.{GroundFun}
@@ -10,23 +11,15 @@ use Rattle.lk_ground.specs.declared.program.GroundProgram.{GroundProgram}
 
 -- ---- tests
 
-equal : (a b : ℕ) → (a == b) ≡ true → a ≡ b
-equal a b is = grind (arith, nat_tests)
-
 equal_self : (a : ℕ) → (a == a) ≡ true
 equal_self a = grind (arith, nat_tests)
 
 less_apart : (a b : ℕ) → 1 + a ≤ b → (a == b) ≡ false
 less_apart a b le = grind (arith, nat_tests)
 
-both : (a b : Bool) → (a && b) ≡ true → (a ≡ true) × (b ≡ true)
-both true true is = (refl, refl)
-both true false is = let wrong : false ≡ true = is in cc
-both false b is = let wrong : false ≡ true = is in cc
-
 same_is : (a b : Labelled) → is_same a b ≡ true → a ≡ b
-same_is (Whole a) (Whole b) is = ap Whole (equal a b is)
-same_is (Site a s) (Site b t) is = let x = both (a == b) (s == t) is in ap₂ Site (equal a b x.0) (equal s t x.1)
+same_is (Whole a) (Whole b) is = ap Whole (eqb-true a b is)
+same_is (Site a s) (Site b t) is = let x = and_parts (a == b) (s == t) is in ap₂ Site (eqb-true a b x.0) (eqb-true s t x.1)
 same_is (Whole a) (Site b t) is = let wrong : false ≡ true = is in cc
 same_is (Site a s) (Whole b) is = let wrong : false ≡ true = is in cc
 

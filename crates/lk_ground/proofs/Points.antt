@@ -8,21 +8,16 @@ use Rattle.lk_evaluation.specs.Source as source
 use Rattle.lk_evaluation.specs.Source.{under}
 use Rattle.lk_locals.specs.Names.{Names}
 use Rattle.lk_sound.proofs.Inside.{insides}
-use Rattle.lk_sound.proofs.Members.{each_in}
+use Rattle.lk_types.proofs.Members.{each_in, each_back, each_in_flat}
 use Rattle.lk_sound.proofs.Within.{insides_within}
 use Rattle.lk_sound.specs.Within.{IsWithin}
 use Rattle.lk_types.specs.Each.{Each, OneOf}
-use Rattle.lk_typing.proofs.Lists.{each_front, each_back}
 use Rattle.lk_ground.specs.Language.{Point, within, function_of}
 use Rattle.lk_ground.specs.Law.{NamesAlike, IsPointOf}
 use Rattle.lk_ground.specs.Standing.{IsCalled, StandsIn}
 use Rattle.lk_ground.specs.Sites.{outer_uses, labelled_in}
 use Rattle.lk_ground.specs.declared.program.GroundProgram.{GroundProgram}
 use Rattle.lk_ground.proofs.Levels.{outer, own_use, own_label, uses_level, labelled_level}
-
-each_flat : {X A : Type 0} (P : A → Type 0) (f : X → List A) (xs : List X) → Each P (flat_map f xs) → Each (λ x. Each P (f x)) xs
-each_flat P f [] all = tt
-each_flat P f (x ∷ xs) all = (each_front P (f x) (flat_map f xs) all, each_flat P f xs (each_back P (f x) (flat_map f xs) all))
 
 each_outer : (P : Expr → Type 0) (l : Layer) → Each P (insides l) → Each P (outer l)
 each_outer P (Node-F.Query keys e) all = tt
@@ -35,7 +30,7 @@ module _ (p : GroundProgram) (at : Point) (point : source.Point) (is : IsPointOf
   uses_inside : (d : Expr) → OneOf (λ other. other ≡ d) (outer (layer point.expr)) → Each (IsCalled p is.owner) (outer_uses d)
   uses_inside d one =
       let all : Each (IsCalled p is.owner) (own_use (layer point.expr) point.expr.span.start ++ flat_map outer_uses (outer (layer point.expr))) = subst (Each (IsCalled p is.owner)) (uses_level point.expr) is.stands.calls in
-      each_in (λ e. Each (IsCalled p is.owner) (outer_uses e)) (outer (layer point.expr)) d one (each_flat (IsCalled p is.owner) outer_uses (outer (layer point.expr)) (each_back (IsCalled p is.owner) (own_use (layer point.expr) point.expr.span.start) _ all))
+      each_in (λ e. Each (IsCalled p is.owner) (outer_uses e)) (outer (layer point.expr)) d one (each_in_flat (IsCalled p is.owner) outer_uses (outer (layer point.expr)) (each_back (IsCalled p is.owner) (own_use (layer point.expr) point.expr.span.start) _ all))
 
   abbrev IsThere : ℕ → Type 0
   IsThere site = OneOf (λ other. other ≡ site) (labelled_in (function_of is.owner).body)
@@ -43,7 +38,7 @@ module _ (p : GroundProgram) (at : Point) (point : source.Point) (is : IsPointOf
   labels_inside : (d : Expr) → OneOf (λ other. other ≡ d) (outer (layer point.expr)) → Each IsThere (labelled_in d)
   labels_inside d one =
       let all : Each IsThere (own_label (layer point.expr) point.expr.span.start ++ flat_map labelled_in (outer (layer point.expr))) = subst (Each IsThere) (labelled_level point.expr) is.stands.labels in
-      each_in (λ e. Each IsThere (labelled_in e)) (outer (layer point.expr)) d one (each_flat IsThere labelled_in (outer (layer point.expr)) (each_back IsThere (own_label (layer point.expr) point.expr.span.start) _ all))
+      each_in (λ e. Each IsThere (labelled_in e)) (outer (layer point.expr)) d one (each_in_flat IsThere labelled_in (outer (layer point.expr)) (each_back IsThere (own_label (layer point.expr) point.expr.span.start) _ all))
 
   -- an expression inside stands in the instance
   pub stands_inside : (d : Expr) → OneOf (λ other. other ≡ d) (outer (layer point.expr)) → StandsIn p is.owner d

@@ -25,8 +25,8 @@ use Rattle.lk_types.specs.declared.ty.Variable.{Variable}
 use Rattle.lk_types.specs.declared.ty.Variable.TheVariants as variable
 use Rattle.lk_ground_types.proofs.Binding.{binds_as, binds_both, binds_effects, binds_none, binds_nothing, binds_plain, binds_row}
 use Rattle.lk_ground_types.proofs.EffectLists.{left_of}
-use Rattle.lk_ground_types.proofs.LabelMaps.{get_here, get_there, map_back, removed_here, removed_there, same_maps, tie_cases, Tied, Differ}
-use Rattle.lk_ground_types.proofs.Parts.{all_some, function_some, mapped, same_some, with_one}
+use Rattle.lk_types.proofs.LabelMaps.{get_here, get_there, map_back, removed_here, removed_there, same_maps, tie_cases, Tied, Differ}
+use Rattle.lk_types.proofs.Parts.{all_some, function_some, mapped, same_some, with_one}
 use Rattle.lk_ground_types.specs.Bound.{is_listed, row_of, with_effects, with_plain, with_row, without}
 use Rattle.lk_ground_types.specs.Forms.{fields_in, fields_level, function_in, function_level, item_in, item_level, tags_in, tags_level}
 use Rattle.lk_ground_types.specs.Matching.{Binds}

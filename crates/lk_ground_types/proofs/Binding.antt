@@ -1,12 +1,14 @@
 -- Steps that bind variables, one after another.
 use Rattle.std.proofs.Common.{◌≡◌, ◌⊎◌, inl, inr, ℕ, ◌==◌, Bool, true, false, List, [], ◌∷◌, ◌++◌, refl, ap, sym, subst, ◌∙◌, if◌then◌else◌}
+use Rattle.std.proofs.lemmas.Bool.{eqb-true}
+use Rattle.lk_types.proofs.Members.{each_both}
 use Rattle.lk_types.specs.Each.{Each}
 use Rattle.lk_types.specs.Grounding.{Grounding}
 use Rattle.lk_types.specs.Rows.{EffectSet, Row}
 use Rattle.lk_types.specs.declared.ground.Ground.{Ground}
 use Rattle.lk_types.specs.declared.ty.Variable.{Variable}
 use Rattle.lk_types.specs.declared.ty.Variable.TheVariants as variable
-use Rattle.lk_ground_types.proofs.Variables.{among_each, among_or, each_among, number_self, same_number}
+use Rattle.lk_ground_types.proofs.Variables.{among_each, among_or, each_among, number_self}
 use Rattle.lk_ground_types.specs.Bound.{with_effects, with_plain, with_row}
 use Rattle.lk_ground_types.specs.Least.{AreSameAt, IsAmong, IsLeastBut, least}
 use Rattle.lk_ground_types.specs.Matching.{Binds, IsSameAt}
@@ -31,10 +33,6 @@ among_front (y ∷ xs) ys x (inr among) = inr (among_front xs ys x among)
 among_back : (xs ys : List Variable) (x : Variable) → IsAmong ys x → IsAmong (xs ++ ys) x
 among_back [] ys x among = among
 among_back (y ∷ xs) ys x among = inr (among_back xs ys x among)
-
-each_append : (P : Variable → Type 0) (xs ys : List Variable) → Each P xs → Each P ys → Each P (xs ++ ys)
-each_append P [] ys front back = back
-each_append P (x ∷ xs) ys front back = (front.0, each_append P xs ys front.1 back)
 
 -- ---- steps
 
@@ -62,7 +60,7 @@ module _ {xs ys : List Variable} {P Q : Grounding → Type 0} {a b c : Grounding
       by_case (inr missing) = same_then c b σ x (second.kept x missing) (among_each (IsSameAt b σ) xs (first.bound σ p) x among)
 
   bound_both : (σ : Grounding) → P σ → Q σ → Each (IsSameAt c σ) (xs ++ ys)
-  bound_both σ p q = each_append (IsSameAt c σ) xs ys (each_among (IsSameAt c σ) xs (still σ p q)) (second.bound σ q)
+  bound_both σ p q = each_both (IsSameAt c σ) xs ys (each_among (IsSameAt c σ) xs (still σ p q)) (second.bound σ q)
 
 pub binds_both : {xs ys zs : List Variable} {P Q S : Grounding → Type 0} {a b c : Grounding} → zs ≡ xs ++ ys → Binds xs P a b → Binds ys Q b c
     → ((σ : Grounding) → S σ → P σ × Q σ) → Binds zs S a c
@@ -75,7 +73,7 @@ pub number_cases : {A : Type 0} (m n : ℕ) (x y : A) → ((m ≡ n) → ⊥) �
 number_cases m n x y apart = by_test (m == n) refl
   where
     by_test : (b : Bool) → (m == n) ≡ b → (if b then x else y) ≡ y
-    by_test true is = absurd (apart (same_number m n is))
+    by_test true is = absurd (apart (eqb-true m n is))
     by_test false is = refl
 
 number_here : {A : Type 0} (n : ℕ) (x y : A) → (if n == n then x else y) ≡ x

@@ -12,7 +12,7 @@ use Rattle.std.specs.Ordering.{nat_cmp, eq_by_cmp}
 use Rattle.std.specs.Str.{bytes_eq}
 use Rattle.lk_types.specs.Rows.{Label, Row, label_order}
 use Rattle.lk_types.specs.declared.ground.Ground.{Ground}
-use Rattle.lk_ground_types.proofs.LabelMaps.{same_maps}
+use Rattle.lk_types.proofs.LabelMaps.{same_maps}
 
 abbrev pub Table : Type 0
 Table = BTreeMap (Bor (List ℕ)) (Bor Ground)

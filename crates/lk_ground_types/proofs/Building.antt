@@ -17,7 +17,7 @@ use Rattle.lk_types.specs.declared.ty.TyField.{TyField}
 use Rattle.lk_types.specs.declared.ty.TyRow.{TyRow, out-TyRow}
 use Rattle.lk_ground_types.proofs.Arms.{all_at, all_length}
 use Rattle.lk_ground_types.proofs.EffectLists.{AreApart, apart_of}
-use Rattle.lk_ground_types.proofs.Parts.{function_some, mapped, same_some, with_one}
+use Rattle.lk_types.proofs.Parts.{function_some, mapped, same_some, with_one}
 use Rattle.lk_ground_types.specs.Bound.{is_listed}
 use Rattle.lk_ground_types.specs.Made.{IsIfThere}
 

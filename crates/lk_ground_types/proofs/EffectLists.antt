@@ -1,77 +1,15 @@
 -- Sets of effects and their lists.
 use Rattle.std.proofs.Common.{◌≡◌, Bool, true, false, cond, ◌&&◌, ◌||◌, List, [], ◌∷◌, ◌++◌, refl, sym, ap, ◌∙◌, Some, not}
+use Rattle.std.proofs.lemmas.Bool.{or_parts}
 use Rattle.std.specs.List.{filter}
+use Rattle.lk_types.proofs.SameEffect.{effects_turned, effects_tie}
 use Rattle.lk_types.specs.Grounding.{before_effects}
 use Rattle.lk_types.specs.Rows.{EffectSet, effects_of, same_effect}
 use Rattle.lk_types.specs.declared.ty.Effect.{Effect}
 use Rattle.lk_types.specs.declared.ty.Effect.TheVariants.{Local, Move, Print, Rec, Scan, Trap, Write}
 use Rattle.lk_ground_types.proofs.Emptied.{with_one_effect}
-use Rattle.lk_ground_types.proofs.Parts.{same_some}
+use Rattle.lk_types.proofs.Parts.{same_some}
 use Rattle.lk_ground_types.specs.Bound.{is_listed, without}
-
-pub effect_self : (e : Effect) → same_effect e e ≡ true
-effect_self Local = refl
-effect_self Move = refl
-effect_self Print = refl
-effect_self Rec = refl
-effect_self Scan = refl
-effect_self Trap = refl
-effect_self Write = refl
-
-pub effects_tie : (e x : Effect) → same_effect e x ≡ true → e ≡ x
-effects_tie Local Local is = refl
-effects_tie Local Move is = cc
-effects_tie Local Print is = cc
-effects_tie Local Rec is = cc
-effects_tie Local Scan is = cc
-effects_tie Local Trap is = cc
-effects_tie Local Write is = cc
-effects_tie Move Local is = cc
-effects_tie Move Move is = refl
-effects_tie Move Print is = cc
-effects_tie Move Rec is = cc
-effects_tie Move Scan is = cc
-effects_tie Move Trap is = cc
-effects_tie Move Write is = cc
-effects_tie Print Local is = cc
-effects_tie Print Move is = cc
-effects_tie Print Print is = refl
-effects_tie Print Rec is = cc
-effects_tie Print Scan is = cc
-effects_tie Print Trap is = cc
-effects_tie Print Write is = cc
-effects_tie Rec Local is = cc
-effects_tie Rec Move is = cc
-effects_tie Rec Print is = cc
-effects_tie Rec Rec is = refl
-effects_tie Rec Scan is = cc
-effects_tie Rec Trap is = cc
-effects_tie Rec Write is = cc
-effects_tie Scan Local is = cc
-effects_tie Scan Move is = cc
-effects_tie Scan Print is = cc
-effects_tie Scan Rec is = cc
-effects_tie Scan Scan is = refl
-effects_tie Scan Trap is = cc
-effects_tie Scan Write is = cc
-effects_tie Trap Local is = cc
-effects_tie Trap Move is = cc
-effects_tie Trap Print is = cc
-effects_tie Trap Rec is = cc
-effects_tie Trap Scan is = cc
-effects_tie Trap Trap is = refl
-effects_tie Trap Write is = cc
-effects_tie Write Local is = cc
-effects_tie Write Move is = cc
-effects_tie Write Print is = cc
-effects_tie Write Rec is = cc
-effects_tie Write Scan is = cc
-effects_tie Write Trap is = cc
-effects_tie Write Write is = refl
-
-either_false : (b c : Bool) → (b || c) ≡ false → (b ≡ false) × (c ≡ false)
-either_false true c is = cc
-either_false false c is = (refl, is)
 
 -- ---- the list of the effects of a set
 
@@ -89,13 +27,13 @@ module _ (s : EffectSet) (e : Effect) where
   none_left : (es : List Effect) → is_listed es e ≡ false → is_listed (filter s es) e ≡ false
   none_left [] none = refl
   none_left (x ∷ es) none =
-      let apart = either_false (same_effect e x) (is_listed es e) none in
+      let apart = or_parts (same_effect e x) (is_listed es e) none in
       passed e (filter s es) (s x) x apart.0 ∙ none_left es apart.1
 
   found : (es rest : List Effect) → same_effect e e ≡ true → is_listed es e ≡ false → is_listed rest e ≡ false → is_listed (filter s (es ++ e ∷ rest)) e ≡ s e
   found [] rest itself none after = met_here e (filter s rest) (s e) itself (none_left rest after)
   found (x ∷ es) rest itself none after =
-      let apart = either_false (same_effect e x) (is_listed es e) none in
+      let apart = or_parts (same_effect e x) (is_listed es e) none in
       passed e (filter s (es ++ e ∷ rest)) (s x) x apart.0 ∙ found es rest itself apart.1 after
 
 -- an effect is in the set just where it is in the list
@@ -137,18 +75,6 @@ pub record AreApart (labels : List Effect) (below s : EffectSet) : Type 0 where
   pub is : (e : Effect) → s e ≡ (is_listed labels e || below e)
   pub apart : (e : Effect) → is_listed labels e ≡ true → below e ≡ false
 
-turned : (a b : Effect) → same_effect a b ≡ same_effect b a
-turned a b = by_test (same_effect a b) (same_effect b a) refl refl
-  where
-    both_true : (c d : Effect) → same_effect c d ≡ true → same_effect d c ≡ true
-    both_true c d is = ap (λ x. same_effect d x) (effects_tie c d is) ∙ effect_self d
-
-    by_test : (p q : Bool) → same_effect a b ≡ p → same_effect b a ≡ q → p ≡ q
-    by_test true true is js = refl
-    by_test true false is js = sym (both_true a b is) ∙ js
-    by_test false true is js = sym is ∙ both_true b a js
-    by_test false false is js = refl
-
 or_both : (a b c : Bool) → (a || (b || c)) ≡ ((a || b) || c)
 or_both true b c = refl
 or_both false b c = refl
@@ -162,13 +88,13 @@ apart_of (x ∷ labels) below s is =
     let w = with_one_effect x (before_effects labels below) s is in
     let more = apart_of labels below w.0 w.1 in
     record {
-      is = λ e. ap (λ s. s e) w.3 ∙ ap (λ b. b || w.0 e) (turned x e) ∙ ap (λ b. same_effect e x || b) (more.is e) ∙ or_both (same_effect e x) (is_listed labels e) (below e);
+      is = λ e. ap (λ s. s e) w.3 ∙ ap (λ b. b || w.0 e) (effects_turned x e) ∙ ap (λ b. same_effect e x || b) (more.is e) ∙ or_both (same_effect e x) (is_listed labels e) (below e);
       apart = λ e there. by_test more w.2 e (same_effect e x) refl there;
     }
   where
     by_test : {rest : EffectSet} → AreApart labels below rest → rest x ≡ false → (e : Effect) (b : Bool) → same_effect e x ≡ b → (b || is_listed labels e) ≡ true → below e ≡ false
     by_test {rest} more lacks e true same there =
-        let both = either_false (is_listed labels x) (below x) (sym (more.is x) ∙ lacks) in
+        let both = or_parts (is_listed labels x) (below x) (sym (more.is x) ∙ lacks) in
         ap below (effects_tie e x same) ∙ both.1
     by_test {rest} more lacks e false same there = more.apart e there
 

@@ -1,5 +1,6 @@
 -- A type that becomes something still does where fewer fields and effects stand for the tails of its rows.
 use Rattle.std.proofs.Common.{◌≡◌, ◌⊎◌, inl, inr, ℕ, Bool, true, false, ◌||◌, List, [], ◌∷◌, map, refl, sym, ◌∙◌, ap, Option, Some, None, is_some}
+use Rattle.std.proofs.lemmas.Bool.{or_parts, or_from}
 use Rattle.std.specs.FinMap as fin
 use Rattle.std.specs.Option.{option_map}
 use Rattle.std.specs.Prelude.{if◌then◌else◌}
@@ -19,8 +20,8 @@ use Rattle.lk_types.specs.declared.ty.Ty.TheVariants as ty
 use Rattle.lk_types.specs.declared.ty.TyField.{TyField}
 use Rattle.lk_types.specs.declared.ty.TyRow.{TyRow, roll-TyRow}
 use Rattle.lk_types.specs.declared.ty.Variable.TheVariants as variable
-use Rattle.lk_ground_types.proofs.Parts.{all_some, function_some, mapped, row_rolled, same_some, with_one}
-use Rattle.lk_ground_types.proofs.TypeInduction.{Hereditary, every_type}
+use Rattle.lk_types.proofs.Parts.{all_some, function_some, mapped, row_rolled, same_some, with_one}
+use Rattle.lk_types.proofs.TypeInduction.{Hereditary, every_type}
 use Rattle.lk_ground_types.proofs.Variables.{among_or}
 use Rattle.lk_ground_types.specs.Law.{EmptiedLaw}
 
@@ -33,24 +34,17 @@ IsLessSet a b = (e : Effect) → b e ≡ false → a e ≡ false
 
 -- ---- rows
 
-or_false : (a b : Bool) → (a || b) ≡ false → (a ≡ false) × (b ≡ false)
-or_false true b e = cc
-or_false false b e = (refl, e)
-
-or_neither : (a b : Bool) → a ≡ false → b ≡ false → (a || b) ≡ false
-or_neither a b p q = ap (λ a. a || b) p ∙ q
-
 fresh_field : (l : Label) (g : Ground) (x : Row) (o : Option Ground) (p : Option Row) → o ≡ Some g → p ≡ Some x → has_label x l ≡ false → with_field l o p ≡ Some (fin.insert x l g)
 fresh_field l g x o p a b lacks = (λ i. with_field l (a i) (b i)) ∙ ap (λ b. if b then None else Some (fin.insert x l g)) lacks
 
 longer_lacks : (row : Row) (k : Label) (g : Ground) (l : Label) → has_label (fin.insert row k g) l ≡ false → (same_label l k ≡ false) × (has_label row l ≡ false)
-longer_lacks row k g l lacks = or_false (same_label l k) (has_label row l) (sym (found row k g l) ∙ lacks)
+longer_lacks row k g l lacks = or_parts (same_label l k) (has_label row l) (sym (found row k g l) ∙ lacks)
 
 -- one field more before both
 longer_less : (l : Label) (s t : Ground) (x m : Row) → IsLess x m → IsLess (fin.insert x l s) (fin.insert m l t)
 longer_less l s t x m less k lacks =
     let both = longer_lacks m l t k lacks in
-    found x l s k ∙ or_neither (same_label k l) (has_label x k) both.0 (less k both.1)
+    found x l s k ∙ or_from (same_label k l) (has_label x k) both.0 (less k both.1)
 
 -- ---- effects
 
@@ -76,8 +70,8 @@ effects_less (e ∷ es) a b m less is =
       (λ y. same_effect e y || rest.0 y),
       fresh_effect e (before_effects es a) rest.0 rest.1 (rest.2 e w.2),
       λ y lacks.
-          (let both = or_false (same_effect e y) (w.0 y) (sym (ap (λ s. s y) w.3) ∙ lacks) in
-          or_neither (same_effect e y) (rest.0 y) both.0 (rest.2 y both.1)),
+          (let both = or_parts (same_effect e y) (w.0 y) (sym (ap (λ s. s y) w.3) ∙ lacks) in
+          or_from (same_effect e y) (rest.0 y) both.0 (rest.2 y both.1)),
     )
 
 -- ---- types

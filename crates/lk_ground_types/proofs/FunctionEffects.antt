@@ -11,7 +11,7 @@ use Rattle.lk_types.specs.declared.ty.Effects.{Effects}
 use Rattle.lk_types.specs.declared.ty.Ty.{Ty}
 use Rattle.lk_types.specs.declared.ty.Ty.TheVariants as ty
 use Rattle.lk_types.specs.declared.ty.TyRow.{TyRow}
-use Rattle.lk_ground_types.proofs.Parts.{function_some, mapped, same_some}
+use Rattle.lk_types.proofs.Parts.{function_some, mapped, same_some}
 use Rattle.lk_ground_types.specs.Least.{unit}
 use Rattle.lk_ground_types.specs.Functions.{effects_in, effects_level}
 use Rattle.lk_ground_types.specs.Made.{IsIfThere}

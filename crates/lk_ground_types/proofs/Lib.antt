@@ -7,11 +7,8 @@ pub mod EffectLists
 pub mod Emptied
 pub mod FunctionEffects
 pub mod GroundNodes
-pub mod LabelMaps
 pub mod OwnedRows
-pub mod Parts
 pub mod ShapesUnfold
 pub mod Sizing
 pub mod Tables
-pub mod TypeInduction
 pub mod Variables

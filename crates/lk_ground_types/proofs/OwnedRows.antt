@@ -1,5 +1,5 @@
 -- The entries of maps whose keys are texts, as rows in order.
-use Rattle.std.proofs.Common.{◌≡◌, ℕ, ◌+◌, Bool, true, false, ◌&&◌, ◌⊎◌, inl, inr, T, List, [], ◌∷◌, map, length, Less, Equal, Greater, is_lt, nat_cmp, refl, sym, ap, subst, ◌∙◌, String, string_bytes, string_cmp, Option, Some, None}
+use Rattle.std.proofs.Common.{◌≡◌, ℕ, ◌+◌, ◌&&◌, ◌⊎◌, inl, inr, T, List, [], ◌∷◌, map, length, Less, Equal, Greater, is_lt, nat_cmp, refl, sym, ap, subst, ◌∙◌, String, string_bytes, string_cmp, Option, Some, None}
 use Rattle.std.specs.BTreeMap.{insert_entry}
 use Rattle.std.specs.Borrow.{Bor}
 use Rattle.std.specs.Cmp.Lexicographic.{slice_cmp, nat_list_cmp_total}
@@ -16,16 +16,12 @@ use Rattle.lk_types.specs.declared.ground.GroundField.{GroundField}
 use Rattle.lk_ground_types.proofs.BoundRows.{keyed}
 use Rattle.lk_ground_types.proofs.Counts.{sum_cons}
 use Rattle.lk_ground_types.proofs.GroundNodes.{field_is}
-use Rattle.lk_ground_types.proofs.LabelMaps.{Differ, Tied, entries_back, find_here, find_rest, find_there, get_here, get_there, no_entries, same_maps, sorted_rest, tie_cases}
+use Rattle.lk_types.proofs.LabelMaps.{Differ, Tied, entries_back, find_here, find_rest, find_there, get_here, get_there, no_entries, same_maps, sorted_rest, tie_cases, both_hold}
 use Rattle.lk_ground_types.specs.Counting.{row_size}
 use Rattle.lk_ground_types.specs.Sizes.{field_nodes, ground_nodes}
 
 abbrev pub field : Label → Ground → GroundField
 field l t = record { label = l; ty = t }
-
-both : (a b : Bool) → T a → T b → T (a && b)
-both true b p q = q
-both false b p q = p
 
 -- ---- owned keys
 
@@ -43,7 +39,7 @@ module _ {Z : Type 0} where
   sorted_owned : (es : List (String Z × Ground)) → AreAscending es → T (fin.is_sorted label_order (owned es))
   unfolding IsStrictlySortedBy
   sorted_owned [] s = tt
-  sorted_owned (e ∷ es) s = both _ _ (below e.0 es s.0) (sorted_owned es s.1)
+  sorted_owned (e ∷ es) s = both_hold _ _ (below e.0 es s.0) (sorted_owned es s.1)
 
   put_owned : (k : String Z) (v : Ground) (es : List (String Z × Ground)) → fin.put label_order (string_bytes k) v (owned es) ≡ owned (insert_entry string_cmp es k v)
   put_owned k v [] = refl
@@ -91,7 +87,7 @@ below_keyed k (e ∷ es) a = subst (λ o. T (is_lt o && below_all label_order k.
 sorted_keyed : (es : Entries) → AreInOrder es → T (fin.is_sorted label_order (keyed es))
 unfolding IsStrictlySortedBy
 sorted_keyed [] s = tt
-sorted_keyed (e ∷ es) s = both _ _ (below_keyed e.0 es s.0) (sorted_keyed es s.1)
+sorted_keyed (e ∷ es) s = both_hold _ _ (below_keyed e.0 es s.0) (sorted_keyed es s.1)
 
 abbrev pub row_of_entries : Entries → Row
 row_of_entries es = fin.from_entries (keyed es)

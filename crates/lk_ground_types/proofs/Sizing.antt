@@ -9,6 +9,7 @@ use Rattle.std.specs.Ordering.{is_eq}
 use Rattle.std.specs.Prelude.{sum}
 use Rattle.std.specs.declared.cmp.Ordering.{Ordering}
 use Rattle.std.specs.declared.cmp.Ordering.TheVariants.{Less, Equal, Greater}
+use Rattle.lk_types.proofs.SameEffect.{effects_tie}
 use Rattle.lk_types.proofs.Unfold.{nodes_bool, nodes_field, nodes_fields, nodes_function, nodes_int, nodes_list, nodes_tags, nodes_text, nodes_variable}
 use Rattle.lk_types.proofs.Unfold.{under_bool, under_fields, under_function, under_int, under_list, under_tags, under_text, under_variable}
 use Rattle.lk_types.specs.Each.{Each}
@@ -29,12 +30,11 @@ use Rattle.lk_types.specs.declared.ty.TyField.{TyField}
 use Rattle.lk_types.specs.declared.ty.TyRow.{TyRow, roll-TyRow}
 use Rattle.lk_types.specs.declared.ty.Variable.TheVariants as variable
 use Rattle.lk_ground_types.proofs.Counts.{sum_cons}
-use Rattle.lk_ground_types.proofs.EffectLists.{effects_tie}
 use Rattle.lk_ground_types.proofs.Emptied.{with_one_effect}
 use Rattle.lk_ground_types.proofs.GroundNodes.{field_is, ground_bool, ground_fields, ground_function, ground_int, ground_list, ground_tags, ground_text}
 use Rattle.lk_ground_types.proofs.OwnedRows.{field, no_size}
-use Rattle.lk_ground_types.proofs.Parts.{all_some, function_some, mapped, row_rolled, same_some, with_one}
-use Rattle.lk_ground_types.proofs.TypeInduction.{Hereditary, every_type}
+use Rattle.lk_types.proofs.Parts.{all_some, function_some, mapped, row_rolled, same_some, with_one}
+use Rattle.lk_types.proofs.TypeInduction.{Hereditary, every_type}
 use Rattle.lk_ground_types.specs.Counting.{bound_size, capped, row_size}
 use Rattle.lk_ground_types.specs.Made.{IsIfThere}
 use Rattle.lk_ground_types.specs.Sizes.{field_nodes, ground_nodes, within}

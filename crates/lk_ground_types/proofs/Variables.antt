@@ -3,6 +3,7 @@ use Rattle.std.proofs.Common.{arith, ◌≡◌, ◌⊎◌, inl, inr, ℕ, ◌==�
 use Rattle.std.proofs.lemmas.Bool.Decides.{nat_tests}
 use Rattle.std.specs.List.{list_any}
 use Rattle.lk_types.proofs.Agreement.{AgreeAt, agrees}
+use Rattle.lk_types.proofs.SameVariable.{same_self, same_sym}
 use Rattle.lk_types.specs.Each.{Each}
 use Rattle.lk_types.specs.Grounding.{Grounding}
 use Rattle.lk_types.specs.Rows.{no_fields, no_effects}
@@ -12,27 +13,8 @@ use Rattle.lk_types.specs.declared.ty.Variable.TheVariants as variable
 use Rattle.lk_ground_types.specs.Law.{AgreeLaw, ExistsLaw}
 use Rattle.lk_ground_types.specs.Least.{unit, IsAmong, AreSameAt}
 
-pub same_number : (m n : ℕ) → (m == n) ≡ true → m ≡ n
-same_number m n is = grind (arith, nat_tests)
-
 pub number_self : (n : ℕ) → (n == n) ≡ true
 number_self n = grind (arith, nat_tests)
-
-pub variable_self : (x : Variable) → same_variable x x ≡ true
-variable_self (variable.Plain n) = number_self n
-variable_self (variable.Row n) = number_self n
-variable_self (variable.Effects n) = number_self n
-
-pub variables_tie : (x y : Variable) → same_variable x y ≡ true → y ≡ x
-variables_tie (variable.Plain m) (variable.Plain n) is = ap (λ n. variable.Plain n) (sym (same_number m n is))
-variables_tie (variable.Plain m) (variable.Row n) is = cc
-variables_tie (variable.Plain m) (variable.Effects n) is = cc
-variables_tie (variable.Row m) (variable.Plain n) is = cc
-variables_tie (variable.Row m) (variable.Row n) is = ap (λ n. variable.Row n) (sym (same_number m n is))
-variables_tie (variable.Row m) (variable.Effects n) is = cc
-variables_tie (variable.Effects m) (variable.Plain n) is = cc
-variables_tie (variable.Effects m) (variable.Row n) is = cc
-variables_tie (variable.Effects m) (variable.Effects n) is = ap (λ n. variable.Effects n) (sym (same_number m n is))
 
 pub true_false : true ≡ false → ⊥
 true_false e = cc
@@ -44,7 +26,7 @@ is_among xs x = list_any (same_variable x) xs
 
 pub among_test : (xs : List Variable) (x : Variable) → IsAmong xs x → is_among xs x ≡ true
 among_test [] x among = absurd among
-among_test (y ∷ ys) x (inl is) = ap (λ b. b || is_among ys x) (ap (same_variable x) is ∙ variable_self x)
+among_test (y ∷ ys) x (inl is) = ap (λ b. b || is_among ys x) (ap (same_variable x) is ∙ same_self x)
 among_test (y ∷ ys) x (inr among) = by_test (same_variable x y) (among_test ys x among)
   where
     by_test : (b : Bool) → is_among ys x ≡ true → (b || is_among ys x) ≡ true
@@ -56,7 +38,7 @@ test_among [] x is = cc
 test_among (y ∷ ys) x is = by_test (test_among ys x) (same_variable x y) refl is
   where
     by_test : (is_among ys x ≡ true → IsAmong ys x) → (b : Bool) → same_variable x y ≡ b → (b || is_among ys x) ≡ true → IsAmong (y ∷ ys) x
-    by_test more true same is = inl (variables_tie x y same)
+    by_test more true same is = inl (same_sym x y same)
     by_test more false same is = inr (more is)
 
 pub among_or : (xs : List Variable) (x : Variable) → IsAmong xs x ⊎ (IsAmong xs x → ⊥)

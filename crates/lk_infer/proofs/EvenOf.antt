@@ -4,6 +4,8 @@ use Rattle.std.proofs.Common.{◌≡◌, ℕ, Bool, true, false, ◌||◌, not, 
 use Rattle.std.specs.FinMap as fin
 use Rattle.std.specs.List.{list_any}
 use Rattle.std.specs.Prelude.{flat_map}
+use Rattle.lk_types.proofs.Members.{each_both}
+use Rattle.lk_types.proofs.Parts.{same_some, mapped, all_some, function_some, row_rolled, with_one}
 use Rattle.lk_types.proofs.Unfold.{under_fields, under_function, under_list, under_tags}
 use Rattle.lk_types.specs.Each.{Each}
 use Rattle.lk_types.specs.Grounding.{Grounding, all_of, before_effects, before_row, effect_tail, effects_under, row_tail, row_under, under}
@@ -18,16 +20,14 @@ use Rattle.lk_types.specs.declared.ty.Ty.{Ty}
 use Rattle.lk_types.specs.declared.ty.Ty.TheVariants as ty
 use Rattle.lk_types.specs.declared.ty.TyField.{TyField}
 use Rattle.lk_types.specs.declared.ty.TyRow.{TyRow, roll-TyRow}
+use Rattle.lk_typing.proofs.Even.Loose.{is_union}
 use Rattle.lk_typing.specs.EffectRows.{HasBefore, IsEven, loosely, rows_of, union}
-use Rattle.lk_unify.proofs.LabelMaps.{Differ, Tied, get_here, get_there, tie_cases}
-use Rattle.lk_unify.proofs.OpenRows.{row_rolled, with_one}
-use Rattle.lk_unify.proofs.TypeInduction.{Hereditary, every_type}
+use Rattle.lk_types.proofs.LabelMaps.{Differ, Tied, get_here, get_there, tie_cases}
+use Rattle.lk_types.proofs.TypeInduction.{Hereditary, every_type}
 use Rattle.lk_infer.proofs.GroundParts.{same_answer, same_element, same_fields, same_params, same_set, same_tags}
-use Rattle.lk_infer.proofs.LacksShown.{each_both}
 use Rattle.lk_infer.proofs.LooseUnfold.{field_loosely, loosely_fields, loosely_function, loosely_list, loosely_row, loosely_tags, row_loosely, rows_bool}
 use Rattle.lk_infer.proofs.LooseUnfold.{rows_fields, rows_function, rows_int, rows_list, rows_of_row, rows_row, rows_tags, rows_text, rows_variable}
-use Rattle.lk_infer.proofs.Parts.{all_some, function_some, mapped, same_some}
-use Rattle.lk_infer.proofs.Unions.{alone_too, is_union, none_behind}
+use Rattle.lk_infer.proofs.Unions.{alone_too, none_behind}
 
 -- ---- the same fields
 

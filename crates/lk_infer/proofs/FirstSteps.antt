@@ -2,6 +2,7 @@
 use Rattle.std.proofs.Common.{◌≡◌, ℕ, zero, suc, ◌+◌, ◌<◌, ◌≤◌, ◌⊎◌, inl, inr, Bool, true, false, List, [], ◌∷◌, ◌++◌, length, map, take, Option, Some, None, slice_get, refl, sym, ap, subst, ◌∙◌}
 use native.Mathlib.Omega.{arith}
 use Rattle.lk_ast.specs.declared.place.Span.{Span}
+use Rattle.lk_types.proofs.Members.{each_both}
 use Rattle.lk_types.specs.Each.{Each}
 use Rattle.lk_types.specs.Grounding.{Grounding}
 use Rattle.lk_types.specs.Solutions.{HasSolution, IsMet, Solves}
@@ -12,7 +13,7 @@ use Rattle.lk_unify.specs.Constraints.{equations_of, AreFine, AreLarge, AllFine,
 use Rattle.lk_unify.specs.declared.constraint.Constraint.{Constraint}
 use Rattle.lk_unify.specs.Constraints.{AreTooMany, end_of}
 use Rattle.lk_unify.specs.declared.constraint.Sizing.{Sizing}
-use Rattle.lk_infer.proofs.WalkSteps.{asked_met, each_append, maps_append, fine_left, large_left, never_matters}
+use Rattle.lk_infer.proofs.WalkSteps.{asked_met, maps_append, fine_left, large_left, never_matters}
 use Rattle.lk_infer.specs.Refusals as walk
 use Rattle.lk_infer.specs.Refusals.{constraint_of, constraints_of, IsIllTyped, IsTooLarge}
 use Rattle.lk_infer.specs.Walked.{asked, IsPlain}
@@ -101,7 +102,7 @@ unmet_left front plain cs k unmet =
           solution.0,
           subst (Solves solution.0)
               (sym (ap (λ n. equations_of (take n (map asked front ++ cs))) (next_number (length front) at.0) ∙ ap equations_of (take_asked front cs (at.0 + 1)) ∙ maps_append (map asked front) (take (at.0 + 1) cs)))
-              (each_append (IsMet solution.0) (equations_of (map asked front)) (equations_of (take (at.0 + 1) cs)) (asked_met solution.0 front plain) solution.1),
+              (each_both (IsMet solution.0) (equations_of (map asked front)) (equations_of (take (at.0 + 1) cs)) (asked_met solution.0 front plain) solution.1),
         );
       };
     }

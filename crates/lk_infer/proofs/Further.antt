@@ -1,42 +1,23 @@
 -- Schemes that are more general than others of the same functions stay so behind one declaration more: an instance of one scheme
 -- is part of an instance of all of them, so of a typing of the group, which is an instance of ours.
-use Rattle.std.proofs.Common.{◌≡◌, ℕ, zero, suc, Bool, true, false, List, [], ◌∷◌, ◌++◌, length, refl, subst, ap, ◌∙◌, Some, slice_get, if◌then◌else◌, bytes_eq}
+use Rattle.std.proofs.Common.{◌≡◌, ℕ, zero, suc, Bool, true, false, List, [], ◌∷◌, ◌++◌, length, refl, subst, Some, slice_get, if◌then◌else◌, bytes_eq}
 use native.Mathlib.Omega.{arith}
 use Rattle.lk_ast.specs.Functions.{functions_in}
 use Rattle.lk_ast.specs.declared.declaration.Decl.{Decl}
 use Rattle.lk_ast.specs.declared.declaration.FunDef.{FunDef}
 use Rattle.lk_ast.specs.declared.declaration.TableDecl.{TableDecl}
-use Rattle.lk_infer.proofs.More.{HasInstance, IsMore, just, group_more}
+use Rattle.lk_infer.proofs.More.{HasInstance, IsMore, group_more}
 use Rattle.lk_infer.specs.Inferred.{IsInferred}
+use Rattle.lk_types.proofs.Parts.{same_some}
 use Rattle.lk_types.specs.Grounding.{Grounding}
 use Rattle.lk_types.specs.Schemes.{IsInstance}
 use Rattle.lk_types.specs.declared.ground.Ground.{Ground}
 use Rattle.lk_types.specs.declared.scheme.Scheme.{Scheme}
 use Rattle.lk_types.specs.declared.ty.Ty.{Ty}
-use Rattle.lk_typing.specs.Groups.{AreFunctions, IsGroup, is_mutual, own_entries, scheme_entries}
-use Rattle.lk_typing.specs.Names.{Named, named, Entry}
+use Rattle.lk_typing.proofs.SchemeCounts.{as_many_schemes}
+use Rattle.lk_typing.specs.Groups.{IsGroup}
+use Rattle.lk_typing.specs.Names.{Named, named}
 use Rattle.lk_typing.specs.Programs.{AreAt, AreInstances, Hold, entries}
-
--- ---- as many schemes as functions
-
-at_length : (σ : Grounding) (schemes : List Scheme) (ts : List Ground) → AreAt σ schemes ts → length schemes ≡ length ts
-at_length σ [] [] are = refl
-at_length σ [] (t ∷ ts) are = absurd are
-at_length σ (scheme ∷ schemes) [] are = absurd are
-at_length σ (scheme ∷ schemes) (t ∷ ts) are = ap (λ n. suc n) (at_length σ schemes ts are.1)
-
-functions_length : (functions : Named (Entry Ground)) (tables : List TableDecl) (in_mutual : Bool) (fs : List FunDef) (ts nodes : List Ground)
-    → AreFunctions functions tables in_mutual fs ts nodes → length ts ≡ length fs
-functions_length functions tables in_mutual _ _ _ AreFunctions.none = refl
-functions_length functions tables in_mutual _ _ _ (AreFunctions.more nodes rest typed later) = ap (λ n. suc n) (functions_length functions tables in_mutual _ _ _ later)
-
--- schemes that hold are as many as the functions
-pub hold_length : (earlier : Named Scheme) (tables : List TableDecl) (decl : Decl) (schemes : List Scheme) → Hold earlier tables decl schemes → length schemes ≡ length (functions_in decl)
-hold_length earlier tables decl schemes hold =
-    let some : (ts : List Ground) × AreInstances schemes ts = hold.some in
-    let typed : (nodes : List Ground) × IsGroup earlier tables decl some.0 nodes = hold.each some.0 some.1 in
-    at_length some.1.0 schemes some.0 some.1.1
-    ∙ functions_length (own_entries (functions_in decl) some.0 ++ scheme_entries earlier) tables (is_mutual decl) (functions_in decl) some.0 typed.0 typed.1
 
 -- ---- one of several
 
@@ -50,7 +31,7 @@ one_at : (σ : Grounding) (schemes : List Scheme) (ts : List Ground) (i : ℕ) (
 one_at σ [] [] i t are is = cc
 one_at σ [] (u ∷ us) i t are is = absurd are
 one_at σ (scheme ∷ schemes) [] i t are is = absurd are
-one_at σ (scheme ∷ schemes) (u ∷ us) zero t are is = (scheme, refl, (σ, subst (λ g. IsInstance σ scheme g) (just is) are.0))
+one_at σ (scheme ∷ schemes) (u ∷ us) zero t are is = (scheme, refl, (σ, subst (λ g. IsInstance σ scheme g) (same_some is) are.0))
 one_at σ (scheme ∷ schemes) (u ∷ us) (suc i) t are is = one_at σ schemes us i t are.1 is
 
 entries_more : (fs : List FunDef) (ours others : List Scheme) (our_earlier earlier : Named Scheme) → length ours ≡ length fs → length others ≡ length fs → EachMore ours others
@@ -93,4 +74,4 @@ module _ (tables : List TableDecl) (decl : Decl) (our_earlier earlier : Named Sc
       one_at together.0 ours alone.0 i t together.1 alone.2
 
   pub further : length ours ≡ length (functions_in decl) → IsMore (entries (functions_in decl) ours ++ our_earlier) (entries (functions_in decl) others ++ earlier)
-  further as_many = entries_more (functions_in decl) ours others our_earlier earlier as_many (hold_length earlier tables decl others hold) each_more is_more
+  further as_many = entries_more (functions_in decl) ours others our_earlier earlier as_many (as_many_schemes earlier tables decl others hold) each_more is_more

@@ -1,7 +1,7 @@
 -- Schemes made of the types of functions: their instances are what the types become where row variables lack enough.
 use Rattle.std.proofs.Common.{◌≡◌, inl, inr, ℕ, zero, suc, Bool, true, false, not, List, [], ◌∷◌, map, flat_map, refl, sym, subst, ap, ap₂, ◌∙◌, Some, slice_get}
-use Rattle.lk_infer.proofs.GroupLists.{each_in, each_of_in, each_in_flat, one_in_flat}
-use Rattle.lk_infer.proofs.Made.{BecomeLoosely, head_is, tail_is}
+use Rattle.lk_types.proofs.Members.{each_in, each_of_in, each_in_flat, one_in_flat}
+use Rattle.lk_infer.proofs.Made.{BecomeLoosely}
 use Rattle.lk_infer.proofs.Restricted.{has_variable, restricted, all_there, one_there, restricted_agrees, restricted_lacking}
 use Rattle.lk_infer.proofs.EvenOf.{even_of}
 use Rattle.lk_infer.proofs.LacksShown.{lacks_shown}
@@ -21,6 +21,7 @@ use Rattle.lk_types.specs.declared.ty.Effect.{Effect}
 use Rattle.lk_types.specs.declared.ty.Ty.{Ty}
 use Rattle.lk_types.specs.declared.ty.Variable.{Variable}
 use Rattle.lk_types.specs.declared.ty.Variable.TheVariants as variable
+use Rattle.lk_typing.proofs.Inverses.{first_same, rest_same}
 use Rattle.lk_typing.specs.EffectRows.{IsEven, IsEvenScheme, loosely}
 use Rattle.lk_typing.specs.Law.{Become}
 use Rattle.lk_typing.specs.Programs.{AreAt}
@@ -63,7 +64,7 @@ module _ (types : List Ty) where
   all_at τ [] (s ∷ schemes) ts made are lacking = absurd made
   all_at τ (b ∷ bodies) [] ts made are lacking = absurd made
   all_at τ (b ∷ bodies) (s ∷ schemes) [] made are lacking = cc
-  all_at τ (b ∷ bodies) (s ∷ schemes) (t ∷ ts) made are lacking = (one_at τ b s t made.0 (head_is are) lacking, all_at τ bodies schemes ts made.1 (tail_is are) lacking)
+  all_at τ (b ∷ bodies) (s ∷ schemes) (t ∷ ts) made are lacking = (one_at τ b s t made.0 (first_same are) lacking, all_at τ bodies schemes ts made.1 (rest_same are) lacking)
 
   pub all_become : (τ : Grounding) (bodies : List Ty) (schemes : List Scheme) (ts : List Ground) → AreGeneralised types bodies schemes → AreAt τ schemes ts → Become τ bodies ts
   all_become τ [] [] [] made at = refl
@@ -131,8 +132,8 @@ pub one_of_loose : (σ : Grounding) (i : ℕ) (bodies : List Ty) (ts : List Grou
     → loosely σ body ≡ Some t → slice_get ts i ≡ Some t
 one_of_loose σ i [] ts body t are at is = cc
 one_of_loose σ i (b ∷ bodies) [] body t are at is = cc
-one_of_loose σ zero (b ∷ bodies) (g ∷ ts) body t are at is = let same : b ≡ body = cc in sym (head_is are) ∙ ap (loosely σ) same ∙ is
-one_of_loose σ (suc i) (b ∷ bodies) (g ∷ ts) body t are at is = one_of_loose σ i bodies ts body t (tail_is are) at is
+one_of_loose σ zero (b ∷ bodies) (g ∷ ts) body t are at is = let same : b ≡ body = cc in sym (first_same are) ∙ ap (loosely σ) same ∙ is
+one_of_loose σ (suc i) (b ∷ bodies) (g ∷ ts) body t are at is = one_of_loose σ i bodies ts body t (rest_same are) at is
 
 -- no effect stands before a tail twice, in types that have as many effects as there are
 pub all_even : (types : List Ty) (τ τ₂ : Grounding) → ((n : ℕ) (e : Effect) → τ.effects n e ≡ true) → (bodies : List Ty) (schemes : List Scheme) (ts : List Ground)
@@ -142,6 +143,6 @@ all_even types τ τ₂ full [] (s ∷ schemes) ts made are loose = absurd made
 all_even types τ τ₂ full (b ∷ bodies) [] ts made are loose = absurd made
 all_even types τ τ₂ full (b ∷ bodies) (s ∷ schemes) [] made are loose = cc
 all_even types τ τ₂ full (b ∷ bodies) (s ∷ schemes) (t ∷ ts) made are loose = (
-  ((λ n e. not (τ₂.effects n e)), subst (IsEven (λ n e. not (τ₂.effects n e))) (sym made.0.body_is) (even_of τ τ₂ b t full (head_is are) (head_is loose))),
-  all_even types τ τ₂ full bodies schemes ts made.1 (tail_is are) (tail_is loose),
+  ((λ n e. not (τ₂.effects n e)), subst (IsEven (λ n e. not (τ₂.effects n e))) (sym made.0.body_is) (even_of τ τ₂ b t full (first_same are) (first_same loose))),
+  all_even types τ τ₂ full bodies schemes ts made.1 (rest_same are) (rest_same loose),
 )

@@ -3,7 +3,7 @@ use Rattle.std.proofs.Common.{◌≡◌, true, List, [], ◌++◌, map, length, 
 use Rattle.lk_ast.specs.declared.declaration.Decl.{Decl}
 use Rattle.lk_ast.specs.declared.declaration.TableDecl.{TableDecl}
 use Rattle.lk_infer.proofs.GeneralisedTypes.{all_at, all_become, all_even, all_narrowed, body_at, narrowed_lacking, one_narrowed, one_narrowed_lacking, one_of_loose}
-use Rattle.lk_infer.proofs.GroupLists.{each_of_in}
+use Rattle.lk_types.proofs.Members.{each_of_in}
 use Rattle.lk_infer.proofs.GroupTypes.{AreFound, is_group, lacks, loose_bodies, loose_nodes, typed_at}
 use Rattle.lk_infer.proofs.Made.{BecomeLoosely, loosely_all}
 use Rattle.lk_infer.proofs.Restricted.{restricted, restricted_lacking}

@@ -4,7 +4,7 @@ use Rattle.std.proofs.Common.{◌≡◌, ℕ, List, [], ◌∷◌, ◌++◌, map
 use Rattle.lk_arena.specs.Openings.{Opening}
 use Rattle.lk_ast.specs.declared.declaration.Decl.{Decl}
 use Rattle.lk_ast.specs.declared.declaration.TableDecl.{TableDecl}
-use Rattle.lk_infer.proofs.GroupLists.{each_both, front_of, back_of, each_to_map, each_from_map, each_weaker}
+use Rattle.lk_types.proofs.Members.{each_both, each_to_map, each_from_map, each_weaker, each_front, each_back}
 use Rattle.lk_infer.proofs.Made.{BecomeLoosely, HasMeaning, HasLooseMeaning, alike, alike_met, alike_made, all_loose, length_alike, makes_front, makes_back, opens_left, OpensLeft}
 use Rattle.lk_infer.proofs.Made.{made_meanings, met_loosely, same_loosely, shown_lacking, loosely_meant}
 use Rattle.lk_infer.proofs.NodeVariables.{IsVariable, nodes_named, variable_even}
@@ -102,11 +102,11 @@ module _ {earlier : Named Scheme} {tables : List TableDecl} {decl : Decl} {bodie
       let general = found.sides.general σ all in
       let τ : Grounding = general.0 in
       let opens = opens_left ρ τ σ (fronts ++ (middles ++ backs)) general.1 in
-      let others = back_of (OpensLeft ρ τ σ) fronts (middles ++ backs) opens in (
+      let others = each_back (OpensLeft ρ τ σ) fronts (middles ++ backs) opens in (
         τ,
         record {
-          functions = alike_made ρ τ σ (group_types decl) bodies ts made_bodies (front_of (OpensLeft ρ τ σ) fronts (middles ++ backs) opens) met.1.functions;
-          inside_is = alike_made ρ τ σ (group_walked earlier tables decl).nodes nodes inside made_nodes (front_of (OpensLeft ρ τ σ) middles backs others) met.1.inside;
+          functions = alike_made ρ τ σ (group_types decl) bodies ts made_bodies (each_front (OpensLeft ρ τ σ) fronts (middles ++ backs) opens) met.1.functions;
+          inside_is = alike_made ρ τ σ (group_walked earlier tables decl).nodes nodes inside made_nodes (each_front (OpensLeft ρ τ σ) middles backs others) met.1.inside;
           lacking = shown_lacking τ types (made_meanings ρ τ σ (fronts ++ (middles ++ backs)) types found.sides.sides opens all);
         },
       )
@@ -126,17 +126,17 @@ module _ {earlier : Named Scheme} {tables : List TableDecl} {decl : Decl} {bodie
     loose = loosely_meant τ meant.0 types meant.1 lacking
 
     pub loose_bodies : (ts : List Ground) × BecomeLoosely τ bodies ts
-    loose_bodies = all_loose τ bodies (front_of (HasLooseMeaning τ) bodies (nodes ++ rest) loose)
+    loose_bodies = all_loose τ bodies (each_front (HasLooseMeaning τ) bodies (nodes ++ rest) loose)
 
     pub loose_nodes : (ts : List Ground) × BecomeLoosely τ nodes ts
-    loose_nodes = all_loose τ nodes (front_of (HasLooseMeaning τ) nodes rest (back_of (HasLooseMeaning τ) bodies (nodes ++ rest) loose))
+    loose_nodes = all_loose τ nodes (each_front (HasLooseMeaning τ) nodes rest (each_back (HasLooseMeaning τ) bodies (nodes ++ rest) loose))
 
     pub is_group : (ts inside : List Ground) → BecomeLoosely τ bodies ts → BecomeLoosely τ nodes inside → IsGroup earlier tables decl ts inside
     is_group ts inside functions inner =
         let even = found.effects.even earlier tables decl found.even in
         let before : (ℕ → EffectSet) = even.0 in
         let σ : Grounding = loose_after ρ τ in
-        let met : Each (IsMetLoosely σ) backs = met_loosely ρ τ backs rest made_rest (back_of (HasLooseMeaning τ) nodes rest (back_of (HasLooseMeaning τ) bodies (nodes ++ rest) loose)) in
+        let met : Each (IsMetLoosely σ) backs = met_loosely ρ τ backs rest made_rest (each_back (HasLooseMeaning τ) nodes rest (each_back (HasLooseMeaning τ) bodies (nodes ++ rest) loose)) in
         (found.walk earlier tables decl ts inside).1 (
           apart before σ,
           record {

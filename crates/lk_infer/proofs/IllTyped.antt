@@ -1,17 +1,18 @@
 -- A program of which some walk says what can't hold, after declarations with principal schemes, isn't well typed.
-use Rattle.std.proofs.Common.{ℕ, ◌+◌, Bool, List, [], ◌∷◌, ◌++◌, take, drop, sym, subst, take-append-drop}
+use Rattle.std.proofs.Common.{ℕ, ◌+◌, Bool, List, [], take, drop, sym, subst, take-append-drop}
 use Rattle.lk_ast.specs.declared.declaration.Decl.{Decl}
 use Rattle.lk_ast.specs.declared.declaration.Program.{Program}
 use Rattle.lk_ast.specs.declared.declaration.TableDecl.{TableDecl}
 use Rattle.lk_ast.specs.declared.place.Span.{Span}
-use Rattle.lk_infer.proofs.Further.{AreGeneral, inferred_general, further, hold_length}
+use Rattle.lk_infer.proofs.Further.{AreGeneral, inferred_general, further}
 use Rattle.lk_infer.proofs.More.{IsMore, same_is_more, group_more}
 use Rattle.lk_infer.specs.Programs.{Ends, EndsIllTyped}
 use Rattle.lk_infer.specs.Refusals.{IsIllTyped}
-use Rattle.lk_types.specs.Each.{Each}
+use Rattle.lk_types.proofs.Members.{each_front}
 use Rattle.lk_types.specs.Grounding.{Grounding}
 use Rattle.lk_types.specs.declared.ground.Ground.{Ground}
 use Rattle.lk_types.specs.declared.scheme.Scheme.{Scheme}
+use Rattle.lk_typing.proofs.SchemeCounts.{as_many_schemes}
 use Rattle.lk_typing.specs.Groups.{IsGroup, group_walked}
 use Rattle.lk_typing.specs.Law.{IsMetBy, WalkLaw}
 use Rattle.lk_typing.specs.Names.{Named}
@@ -19,10 +20,6 @@ use Rattle.lk_typing.specs.Programs.{AreInstances, Hold, HaveSchemes, IsWellType
 use Rattle.lk_ast.specs.Tables.{tables_of}
 use Rattle.lk_typing.specs.Steps.{CanBeMet, Holds, Meets}
 use Rattle.lk_typing.specs.declared.step.Step.{Step}
-
-each_front : {A : Type 0} (P : A → Type 0) (xs ys : List A) → Each P (xs ++ ys) → Each P xs
-each_front P [] ys all = tt
-each_front P (x ∷ xs) ys all = (all.0, each_front P xs ys all.1)
 
 -- what meets all of a walk meets its first part
 pub first_met : (σ : Grounding) (k : ℕ) (steps : List Step) → Meets σ steps → Meets σ (take k steps)
@@ -47,7 +44,7 @@ module _ (law : WalkLaw) (tables : List TableDecl) where
       ill.none (met.0, first_met met.0 (ill.number + 1) (group_walked our_earlier tables decl).steps met.1)
   never at large our_earlier earlier _ _ is_more (Ends.later {decl} {decls} schemes types inferred fine ends) (HaveSchemes.more others rest hold have) =
       let general : AreGeneral our_earlier tables decl schemes = inferred_general our_earlier tables decl schemes types inferred in
-      never at _ _ _ decls rest (further tables decl our_earlier earlier schemes others is_more general hold (hold_length our_earlier tables decl schemes inferred.hold)) ends have
+      never at _ _ _ decls rest (further tables decl our_earlier earlier schemes others is_more general hold (as_many_schemes our_earlier tables decl schemes inferred.hold)) ends have
 
 pub not_well_typed : WalkLaw → (program : Program) (at : Span) → EndsIllTyped program at → IsWellTyped program → ⊥
 not_well_typed law program at ends (schemes, typed) = never law (tables_of program) at _ [] [] program.decls schemes (same_is_more []) ends typed

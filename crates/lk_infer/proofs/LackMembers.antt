@@ -1,5 +1,6 @@
 -- Lacks in order are the same lacks, and the scheme that is made of them is the one that is wanted.
 use Rattle.std.proofs.Common.{◌≡◌, ◌⊎◌, ◌↔◌, inl, inr, refl, sym, subst, true≢false, ℕ, zero, suc, Bool, true, false, not, T, ◌&&◌, ◌||◌, ◌==◌, cond, List, [], ◌∷◌, ◌++◌, map, take, ◌∙◌, ap, arith}
+use Rattle.std.proofs.lemmas.Bool.{and_parts, eqb-true}
 use Rattle.std.specs.Prelude.{flat_map}
 use Rattle.std.specs.BTreeSet.{BTreeSet, IsFromIterResult, contains}
 use Rattle.std.specs.Cmp.{IsTotalOrder}
@@ -68,15 +69,12 @@ has_is lacks q = any_is (eq_by_cmp lack_cmp q) (λ x e. sym (one_lack q x (equal
 is_has : (lacks : List Lack) (q : Lack) → IsIn q lacks → has_lack lacks q ≡ true
 is_has lacks q = is_any (eq_by_cmp lack_cmp q) (λ x e. ap (λ z. is_eq (lack_cmp q z)) e ∙ ap is_eq (tied_itself lack_total q)) lacks
 
-same_number : (m n : ℕ) → (m == n) ≡ true → m ≡ n
-same_number m n e = grind (arith, nat_tests)
-
 number_same : (n : ℕ) → (n == n) ≡ true
 number_same n = grind (arith, nat_tests)
 
 row_is : (n : ℕ) (x : Variable) → same_variable (variable.Row n) x ≡ true → x ≡ variable.Row n
 row_is n (variable.Plain m) e = absurd (true≢false (sym e))
-row_is n (variable.Row m) e = sym (ap variable.Row (same_number n m e))
+row_is n (variable.Row m) e = sym (ap variable.Row (eqb-true n m e))
 row_is n (variable.Effects m) e = absurd (true≢false (sym e))
 
 pub has_row_is : (n : ℕ) (t : Ty) → has_row n t ≡ true → HasRow n t
@@ -155,10 +153,6 @@ is_kept q p (x ∷ xs) passes (inr behind) = elim (p x) as (λ b. IsIn q (cond b
 
 -- ---- schemes
 
-both_true : (a b : Bool) → (a && b) ≡ true → (a ≡ true) × (b ≡ true)
-both_true true b e = (refl, e)
-both_true false b e = absurd (true≢false (sym e))
-
 not_is : (b : Bool) → not b ≡ true → b ≡ true → ⊥
 not_is true e f = true≢false (sym e)
 not_is false e f = true≢false (sym f)
@@ -175,7 +169,7 @@ generalised types body =
       body_is = refl;
       lacks = λ q. (
         (λ is. let kept = kept_is q p (in_order all) is in
-            let tests = both_true _ _ kept.1 in
+            let tests = and_parts _ _ kept.1 in
             (ordered_is q all kept.0, has_row_is q.var body tests.0, λ own. not_is _ tests.1 (is_has (in_order (shown body)) q (is_ordered q (shown body) own)))),
         (λ is. is_kept q p (in_order all)
             (ap (λ b. b && not (has_lack (in_order (shown body)) q)) (is_has_row q.var body is.1) ∙ is_not _ (λ own. is.2 (ordered_is q (shown body) (has_is (in_order (shown body)) q own))))

@@ -1,4 +1,4 @@
--- What types show, on each form of type, and put into an ordered list.
+-- What types show, put into an ordered list.
 use Rattle.std.proofs.Common.{◌≡◌, refl, sym, ℕ, ◌+◌, ◌<◌, List, [], ◌∷◌, ◌++◌, map, drop, length, get_or, ◌∙◌, ap}
 use Rattle.std.proofs.lemmas.List.{at_drop_more}
 use Rattle.std.specs.Prelude.{◌||◌, String, flat_map}
@@ -8,15 +8,7 @@ use Rattle.std.specs.Ordering.{eq_by_cmp, match_ordering, nat_cmp, ordering_then
 use Rattle.std.specs.String.{string_cmp}
 use Rattle.std.specs.declared.cmp.Ordering.{Ordering}
 use Rattle.std.specs.declared.cmp.Ordering.TheVariants.{Less, Equal, Greater}
-use Rattle.lk_types.specs.Variables.{joined}
 use Rattle.lk_types.specs.declared.scheme.Lack.{Lack}
-use Rattle.lk_types.specs.declared.ty.Effects.{Effects}
-use Rattle.lk_types.specs.declared.ty.Ty.{Ty}
-use Rattle.lk_types.specs.declared.ty.Ty.TheFolds.{the_lemmas}
-use Rattle.lk_types.specs.declared.ty.Ty.TheVariants as ty
-use Rattle.lk_types.specs.declared.ty.TyField.{TyField}
-use Rattle.lk_types.specs.declared.ty.TyRow.{TyRow, out-TyRow}
-use Rattle.lk_infer.specs.Lacks.{ShownField, shown, shown_in_field, shown_in_row, tail_lacks}
 use Rattle.lk_infer.specs.LacksInOrder.{has_lack, lack_of, with_lack, with_lacks}
 
 pub with_both : (there xs ys : List Lack) → with_lacks (with_lacks there xs) ys ≡ with_lacks there (xs ++ ys)
@@ -32,64 +24,6 @@ step f there xs i x within is added was =
     ∙ ap (λ z. with_lacks there (f z ++ flat_map f (drop (i + 1) xs))) is
     ∙ sym (at_drop_more (λ z. with_lacks there (flat_map f z)) xs i x within)
     ∙ was
-
-joined_map : {X A : Type 0} (f : X → List A) (xs : List X) → joined (map f xs) ≡ flat_map f xs
-joined_map f [] = refl
-joined_map f (x ∷ xs) = ap (λ z. f x ++ z) (joined_map f xs)
-
-pub shown_int : shown ty.Int ≡ []
-unfolding shown
-shown_int = search the_lemmas
-
-pub shown_bool : shown ty.Bool ≡ []
-unfolding shown
-shown_bool = search the_lemmas
-
-pub shown_text : shown ty.Text ≡ []
-unfolding shown
-shown_text = search the_lemmas
-
-pub shown_variable : (n : ℕ) → shown (ty.Var n) ≡ []
-unfolding shown
-shown_variable n = search the_lemmas
-
-pub shown_list : (t : Ty) → shown (ty.List t) ≡ shown t
-unfolding shown
-shown_list t = search the_lemmas
-
-pub shown_fields : (r : TyRow) → shown (ty.Fields r) ≡ shown_in_row r
-unfolding shown shown_in_row
-shown_fields r = search the_lemmas
-
-pub shown_tags : (r : TyRow) → shown (ty.Tags r) ≡ shown_in_row r
-unfolding shown shown_in_row
-shown_tags r = search the_lemmas
-
-of_function : (params : List Ty) (es : Effects) (answer : Ty) → shown (ty.Fun params es answer) ≡ joined (map shown params) ++ shown answer
-unfolding shown
-of_function params es answer = search the_lemmas
-
-pub shown_function : (params : List Ty) (es : Effects) (answer : Ty) → shown (ty.Fun params es answer) ≡ flat_map shown params ++ shown answer
-shown_function params es answer = of_function params es answer ∙ ap (λ z. z ++ shown answer) (joined_map shown params)
-
-in_field : (f : TyField) → shown_in_field f ≡ record { label = f.label; inside = shown f.ty }
-unfolding shown shown_in_field
-in_field f = search the_lemmas
-
-of_row : (r : TyRow) → shown_in_row r ≡ flat_map (λ f. f.inside) (map shown_in_field (out-TyRow r).fields) ++ tail_lacks (map (λ f. f.label) (map shown_in_field (out-TyRow r).fields)) (out-TyRow r).tail
-unfolding shown_in_row shown_in_field
-of_row r = search the_lemmas
-
-insides : (fs : List TyField) → flat_map (λ (f : ShownField). f.inside) (map shown_in_field fs) ≡ flat_map (λ (f : TyField). shown f.ty) fs
-insides [] = refl
-insides (f ∷ fs) = λ i. (in_field f i).inside ++ insides fs i
-
-labels : (fs : List TyField) → map (λ (f : ShownField). f.label) (map shown_in_field fs) ≡ map (λ (f : TyField). f.label) fs
-labels [] = refl
-labels (f ∷ fs) = λ i. (in_field f i).label ∷ labels fs i
-
-pub shown_row : (r : TyRow) → shown_in_row r ≡ flat_map (λ (f : TyField). shown f.ty) (out-TyRow r).fields ++ tail_lacks (map (λ (f : TyField). f.label) (out-TyRow r).fields) (out-TyRow r).tail
-shown_row r = of_row r ∙ (λ i. insides (out-TyRow r).fields i ++ tail_lacks (labels (out-TyRow r).fields i) (out-TyRow r).tail)
 
 -- ---- the pairs that are kept
 

@@ -1,7 +1,10 @@
 -- A row that means something has no label twice: what stands for its tail lacks the labels before it.
-use Rattle.std.proofs.Common.{◌≡◌, Bool, true, false, ◌||◌, List, [], ◌∷◌, ◌++◌, map, refl, sym, subst, ◌∙◌, ap, Some, None, is_some}
+use Rattle.std.proofs.Common.{◌≡◌, Bool, false, List, [], ◌∷◌, ◌++◌, map, sym, subst, ◌∙◌, ap, Some, None, is_some}
+use Rattle.std.proofs.lemmas.Bool.{or_parts}
 use Rattle.std.specs.FinMap as fin
 use Rattle.std.specs.Prelude.{flat_map}
+use Rattle.lk_types.proofs.Members.{each_both}
+use Rattle.lk_types.proofs.Parts.{same_some, mapped, all_some, function_some, row_rolled, with_one}
 use Rattle.lk_types.proofs.Rows.{found, same_label}
 use Rattle.lk_types.proofs.Unfold.{under_fields, under_function, under_list, under_tags}
 use Rattle.lk_types.specs.Each.{Each}
@@ -18,26 +21,16 @@ use Rattle.lk_types.specs.declared.ty.Ty.{Ty}
 use Rattle.lk_types.specs.declared.ty.Ty.TheVariants as ty
 use Rattle.lk_types.specs.declared.ty.TyField.{TyField}
 use Rattle.lk_types.specs.declared.ty.TyRow.{TyRow, roll-TyRow}
-use Rattle.lk_unify.proofs.OpenRows.{row_rolled, with_one}
-use Rattle.lk_unify.proofs.TypeInduction.{Hereditary, every_row, every_type}
-use Rattle.lk_infer.proofs.Parts.{all_some, function_some, mapped, same_some}
-use Rattle.lk_infer.proofs.ShownUnfold.{shown_bool, shown_fields, shown_function, shown_int, shown_list, shown_row, shown_tags, shown_text, shown_variable}
+use Rattle.lk_types.proofs.TypeInduction.{Hereditary, every_row, every_type}
+use Rattle.lk_infer.proofs.ShownUnfold.{shown_bool, shown_fields, shown_function, shown_int, shown_list, shown_rolled, shown_tags, shown_text, shown_variable}
 use Rattle.lk_infer.specs.Lacks.{shown, shown_in_row, tail_lacks}
 
-pub each_both : {A : Type 0} (P : A → Type 0) (xs ys : List A) → Each P xs → Each P ys → Each P (xs ++ ys)
-each_both P [] ys front back = back
-each_both P (x ∷ xs) ys front back = (front.0, each_both P xs ys front.1 back)
-
 -- ---- rows
-
-or_false : (a b : Bool) → (a || b) ≡ false → (a ≡ false) × (b ≡ false)
-or_false true b e = cc
-or_false false b e = (refl, e)
 
 -- what a longer row lacks
 pub longer_lacks : (row : Row) (k : Label) (g : Ground) (m : Row) → fin.get row k ≡ None → m ≡ fin.insert row k g → (l : Label) → has_label m l ≡ false
     → (same_label l k ≡ false) × (has_label row l ≡ false)
-longer_lacks row k g m none is l lacks = or_false (same_label l k) (has_label row l) (sym (found row k g l) ∙ ap (λ m. has_label m l) (sym is) ∙ lacks)
+longer_lacks row k g m none is l lacks = or_parts (same_label l k) (has_label row l) (sym (found row k g l) ∙ ap (λ m. has_label m l) (sym is) ∙ lacks)
 
 below_lacks : (fs : List Known) (row m : Row) → before_row fs row ≡ Some m → (l : Label) → has_label m l ≡ false → has_label row l ≡ false
 below_lacks [] row m e l lacks = ap (λ m. has_label m l) (same_some e) ∙ lacks
@@ -83,7 +76,7 @@ module _ (τ : Grounding) where
   at_row : (fs : List TyField) (tail : RowTail) → Each (λ f. Lacking f.ty) fs → RowLacking (roll-TyRow (record { fields = fs; tail = tail }))
   at_row fs tail each m e =
       let is = sym (row_rolled τ fs tail) ∙ e in
-      subst (λ lacks. Each (IsLacking τ) lacks) (sym (shown_row fs tail))
+      subst (λ lacks. Each (IsLacking τ) lacks) (sym (shown_rolled fs tail))
       (each_both (IsLacking τ) (flat_map (λ f. shown f.ty) fs) (tail_lacks (map (λ f. f.label) fs) tail) (fields_lacking (row_tail τ tail) fs each m is)
       (tail_lacking tail fs (labels_lack (map (λ f. (f.label, under τ f.ty)) fs) (row_tail τ tail) m is)))
 

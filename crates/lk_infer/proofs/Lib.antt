@@ -6,7 +6,6 @@ pub mod GeneralisedTypes
 pub mod GroundParts
 pub mod GroupAnswers
 pub mod GroupInferred
-pub mod GroupLists
 pub mod GroupTypes
 pub mod LackMembers
 pub mod LackSets
@@ -20,7 +19,6 @@ pub mod LooselyRows
 pub mod LooselyThere
 pub mod Made
 pub mod NodeVariables
-pub mod Parts
 pub mod ProgramAnswers
 pub mod Restricted
 pub mod ShownUnfold

@@ -1,6 +1,7 @@
 -- What a type becomes it becomes loosely too.
 use Rattle.std.proofs.Common.{◌≡◌, List, [], ◌∷◌, map, sym, ◌∙◌, ap, Some}
 use Rattle.std.specs.Option.{option_map}
+use Rattle.lk_types.proofs.Parts.{mapped, all_some, function_some, row_rolled, with_one}
 use Rattle.lk_types.proofs.Unfold.{under_bool, under_fields, under_function, under_int, under_list, under_tags, under_text, under_variable}
 use Rattle.lk_types.specs.Each.{Each}
 use Rattle.lk_types.specs.Grounding.{Grounding, all_of, before_row, effect_tail, effects_under, function_of, row_tail, row_under, under}
@@ -13,13 +14,11 @@ use Rattle.lk_types.specs.declared.ty.Ty.{Ty}
 use Rattle.lk_types.specs.declared.ty.Ty.TheVariants as ty
 use Rattle.lk_types.specs.declared.ty.TyField.{TyField}
 use Rattle.lk_types.specs.declared.ty.TyRow.{TyRow, roll-TyRow}
+use Rattle.lk_typing.proofs.Even.Loose.{is_union}
 use Rattle.lk_typing.specs.EffectRows.{loosely}
-use Rattle.lk_unify.proofs.OpenRows.{row_rolled, with_one}
-use Rattle.lk_unify.proofs.TypeInduction.{Hereditary, every_row, every_type}
+use Rattle.lk_types.proofs.TypeInduction.{Hereditary, every_row, every_type}
 use Rattle.lk_infer.proofs.LooseUnfold.{field_loosely, loosely_bool, loosely_fields, loosely_function, loosely_int}
 use Rattle.lk_infer.proofs.LooseUnfold.{loosely_list, loosely_row, loosely_tags, loosely_text, loosely_variable, row_loosely}
-use Rattle.lk_infer.proofs.Parts.{all_some, function_some, mapped}
-use Rattle.lk_infer.proofs.Unions.{is_union}
 
 module _ (τ : Grounding) where
   abbrev Keeps : Ty → Type 0

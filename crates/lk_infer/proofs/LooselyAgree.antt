@@ -3,7 +3,8 @@ use Rattle.std.proofs.Common.{◌≡◌, ℕ, List, [], ◌∷◌, ◌++◌, map
 use Rattle.std.specs.List.{cons_option}
 use Rattle.std.specs.Option.{option_map}
 use Rattle.std.specs.Prelude.{flat_map}
-use Rattle.lk_types.proofs.Agreement.{AgreeAt, each_back, each_front}
+use Rattle.lk_types.proofs.Agreement.{AgreeAt}
+use Rattle.lk_types.proofs.Members.{each_front, each_back}
 use Rattle.lk_types.proofs.Unfold.{variables_fields, variables_function, variables_list, variables_tags, variables_variable}
 use Rattle.lk_types.specs.Each.{Each}
 use Rattle.lk_types.specs.Grounding.{Grounding, all_of, before_row, effect_tail, function_of, row_tail}
@@ -20,7 +21,7 @@ use Rattle.lk_types.specs.declared.ty.TyRow.{TyRow, roll-TyRow}
 use Rattle.lk_types.specs.declared.ty.Variable.{Variable}
 use Rattle.lk_types.specs.declared.ty.Variable.TheVariants as variable
 use Rattle.lk_typing.specs.EffectRows.{loosely, union}
-use Rattle.lk_unify.proofs.TypeInduction.{Hereditary, every_row, every_type}
+use Rattle.lk_types.proofs.TypeInduction.{Hereditary, every_row, every_type}
 use Rattle.lk_infer.proofs.LooseUnfold.{field_loosely, loosely_bool, loosely_fields, loosely_function, loosely_int}
 use Rattle.lk_infer.proofs.LooseUnfold.{loosely_list, loosely_row, loosely_tags, loosely_text, loosely_variable, row_loosely}
 use Rattle.lk_infer.proofs.ShownUnfold.{variables_rolled}

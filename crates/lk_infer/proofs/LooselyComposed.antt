@@ -2,6 +2,7 @@
 use Rattle.std.proofs.Common.{◌≡◌, ℕ, Bool, true, false, ◌||◌, List, [], ◌∷◌, map, refl, sym, ◌∙◌, ap, Some}
 use Rattle.std.specs.List.{list_any}
 use Rattle.std.specs.Option.{option_map, unwrap_or}
+use Rattle.lk_types.proofs.Parts.{same_some, mapped, all_some, function_some, with_one}
 use Rattle.lk_types.specs.Each.{Each}
 use Rattle.lk_types.specs.Grounding.{Grounding, all_of, before_effects, before_row, effect_tail, function_of, row_tail}
 use Rattle.lk_types.specs.Rows.{EffectSet, Row, effects_of, fields_of, no_fields, same_effect, with_field}
@@ -15,17 +16,16 @@ use Rattle.lk_types.specs.declared.ty.Ty.{Ty}
 use Rattle.lk_types.specs.declared.ty.Ty.TheVariants as ty
 use Rattle.lk_types.specs.declared.ty.TyField.{TyField}
 use Rattle.lk_types.specs.declared.ty.TyRow.{TyRow, roll-TyRow}
+use Rattle.lk_typing.proofs.Even.Loose.{is_union}
 use Rattle.lk_typing.specs.EffectRows.{loosely, union}
 use Rattle.lk_arena.specs.Openings.{OpenEffects, OpenRow, Opening, before_open, effects_opened, effects_tail_opened, effects_type, opened, row_opened, row_type, tail_opened}
 use Rattle.lk_typing.proofs.EffectRows.{in_list}
-use Rattle.lk_unify.proofs.OpenRows.{with_one}
+use Rattle.lk_unify.proofs.OpenComposed.{open_some, open_one}
 use Rattle.lk_unify.proofs.OpenUnfold.{opened_bool, opened_fields, opened_function, opened_int, opened_list, opened_rolled, opened_tags, opened_text, opened_variable}
-use Rattle.lk_unify.proofs.TypeInduction.{Hereditary, every_row, every_type}
+use Rattle.lk_types.proofs.TypeInduction.{Hereditary, every_row, every_type}
 use Rattle.lk_infer.proofs.LooseUnfold.{field_loosely, loosely_bool, loosely_fields, loosely_function, loosely_int}
 use Rattle.lk_infer.proofs.LooseUnfold.{loosely_list, loosely_row, loosely_tags, loosely_text, loosely_variable, row_loosely}
 use Rattle.lk_infer.proofs.LooselyRows.{insert_loosely, only_tail_loosely}
-use Rattle.lk_infer.proofs.Parts.{all_some, function_some, mapped, open_one, open_some, same_some}
-use Rattle.lk_infer.proofs.Unions.{is_union}
 
 -- what stands for the variables of an opening, loosely: where something means nothing it says nothing
 abbrev pub plain_after : Opening → Grounding → ℕ → Ground

@@ -12,7 +12,7 @@ use Rattle.lk_types.specs.declared.ty.RowTail.{RowTail}
 use Rattle.lk_types.specs.declared.ty.Ty.{Ty}
 use Rattle.lk_typing.specs.EffectRows.{loosely}
 use Rattle.lk_arena.specs.Openings.{OpenRow, field_type, only_tail, row_type}
-use Rattle.lk_unify.proofs.LabelMaps.{no_entries}
+use Rattle.lk_types.proofs.LabelMaps.{no_entries}
 use Rattle.lk_infer.proofs.LooseUnfold.{field_loosely, loosely_row, row_loosely}
 
 module _ (τ : Grounding) where

@@ -3,7 +3,8 @@ use Rattle.std.proofs.Common.{◌≡◌, false, ◌||◌, List, [], ◌∷◌, m
 use Rattle.std.specs.FinMap as fin
 use Rattle.std.specs.Option.{option_map}
 use Rattle.std.specs.Prelude.{flat_map, if◌then◌else◌}
-use Rattle.lk_types.proofs.Agreement.{each_back, each_front}
+use Rattle.lk_types.proofs.Members.{each_front, each_back}
+use Rattle.lk_types.proofs.Parts.{mapped, all_some, function_some, row_rolled, with_one}
 use Rattle.lk_types.proofs.Rows.{found, same_label}
 use Rattle.lk_types.proofs.Unfold.{under_fields, under_function, under_list, under_tags}
 use Rattle.lk_types.specs.Each.{Each}
@@ -19,24 +20,19 @@ use Rattle.lk_types.specs.declared.ty.Ty.{Ty}
 use Rattle.lk_types.specs.declared.ty.Ty.TheVariants as ty
 use Rattle.lk_types.specs.declared.ty.TyField.{TyField}
 use Rattle.lk_types.specs.declared.ty.TyRow.{TyRow, roll-TyRow}
+use Rattle.lk_typing.proofs.Nodes.{there_is}
 use Rattle.lk_typing.specs.EffectRows.{loosely, union}
-use Rattle.lk_unify.proofs.OpenRows.{row_rolled, with_one}
-use Rattle.lk_unify.proofs.TypeInduction.{Hereditary, every_row, every_type}
+use Rattle.lk_types.proofs.TypeInduction.{Hereditary, every_row, every_type}
 use Rattle.lk_infer.proofs.LacksShown.{longer_lacks}
 use Rattle.lk_infer.proofs.LooseUnfold.{field_loosely, loosely_bool, loosely_fields, loosely_function, loosely_int}
 use Rattle.lk_infer.proofs.LooseUnfold.{loosely_list, loosely_row, loosely_tags, loosely_text, loosely_variable, row_loosely}
-use Rattle.lk_infer.proofs.Parts.{all_some, function_some, mapped}
-use Rattle.lk_infer.proofs.ShownUnfold.{shown_fields, shown_function, shown_list, shown_row, shown_tags}
+use Rattle.lk_infer.proofs.ShownUnfold.{shown_fields, shown_function, shown_list, shown_rolled, shown_tags}
 use Rattle.lk_infer.specs.Lacks.{shown, shown_in_row, tail_lacks}
 
 -- ---- what is there
 
 is_there : {A : Type 0} (o : Option A) (a : A) → o ≡ Some a → IsSome o
 is_there o a is = ap is_some is
-
-there : {A : Type 0} (o : Option A) → IsSome o → (a : A) × (o ≡ Some a)
-there None some = cc
-there (Some a) some = (a, refl)
 
 mapped_there : {A B : Type 0} (f : A → B) (o : Option A) → IsSome o → IsSome (option_map f o)
 mapped_there f None some = some
@@ -82,16 +78,16 @@ module _ (τ τ' : Grounding) where
   fields_mean : (row row' : Row) (fs : List TyField) → Each (λ f. Means f.ty) fs → (m : Row) → before_row (map (λ f. (f.label, under τ' f.ty)) fs) row' ≡ Some m
       → Each (IsLacking τ) (flat_map (λ f. shown f.ty) fs) → Each (λ l. has_label row l ≡ false) (map (λ (f : TyField). f.label) fs)
       → IsMade (before_row (map (field_loosely τ) fs) row) m row
-  fields_mean row row' [] each m e lacks apart = (row, refl, λ l there here. here)
+  fields_mean row row' [] each m e lacks apart = (row, refl, λ l there_is here. here)
   fields_mean row row' (f ∷ fs) each m e lacks apart =
       let w = with_one f.label (under τ' f.ty) (before_row (map (λ f. (f.label, under τ' f.ty)) fs) row') m e in
       let rest = fields_mean row row' fs each.1 w.1 w.3 (each_back (IsLacking τ) (shown f.ty) (flat_map (λ f. shown f.ty) fs) lacks) apart.1 in
-      let first = there (loosely τ f.ty) (each.0 w.0 w.2 (each_front (IsLacking τ) (shown f.ty) (flat_map (λ f. shown f.ty) fs) lacks)) in
+      let first = there_is (loosely τ f.ty) (each.0 w.0 w.2 (each_front (IsLacking τ) (shown f.ty) (flat_map (λ f. shown f.ty) fs) lacks)) in
       let fresh : has_label rest.0 f.label ≡ false = rest.2 f.label (ap is_some w.4) apart.0 in (
         fin.insert rest.0 f.label first.0,
         fresh_field f.label (loosely τ f.ty) first.0 (before_row (map (field_loosely τ) fs) row) rest.0 first.1 rest.1 fresh,
-        λ l there here.
-            (let both = longer_lacks w.1 f.label w.0 m w.4 w.5 l there in
+        λ l there_is here.
+            (let both = longer_lacks w.1 f.label w.0 m w.4 w.5 l there_is in
             still_lacks l f.label first.0 rest.0 both.0 (rest.2 l both.1 here)),
       )
 
@@ -102,7 +98,7 @@ module _ (τ τ' : Grounding) where
 
   at_row : (fs : List TyField) (tail : RowTail) → Each (λ f. Means f.ty) fs → RowMeans (roll-TyRow (record { fields = fs; tail = tail }))
   at_row fs tail each m e lacks =
-      let both = subst (λ lacks. Each (IsLacking τ) lacks) (shown_row fs tail) lacks in
+      let both = subst (λ lacks. Each (IsLacking τ) lacks) (shown_rolled fs tail) lacks in
       let own = tail_lacks (map (λ f. f.label) fs) tail in
       let made = fields_mean (row_tail τ tail) (row_tail τ' tail) fs each m (sym (row_rolled τ' fs tail) ∙ e) (each_front (IsLacking τ) (flat_map (λ f. shown f.ty) fs) own both)
       (tail_apart tail (map (λ f. f.label) fs) (each_back (IsLacking τ) (flat_map (λ f. shown f.ty) fs) own both)) in

@@ -1,8 +1,8 @@
 -- What becomes of the types that an opening makes of the sides of equations: at a solution that is an instance of it, and where it
 -- is enough that row variables lack what the types show.
-use Rattle.std.proofs.Common.{◌≡◌, List, [], ◌∷◌, ◌++◌, map, length, flat_map, refl, sym, ap₂, ◌∙◌, Option, Some, None, IsSome}
+use Rattle.std.proofs.Common.{◌≡◌, List, [], ◌∷◌, ◌++◌, map, length, flat_map, refl, sym, ap₂, ◌∙◌, Some}
 use Rattle.lk_arena.specs.Openings.{Opening, OpensTo}
-use Rattle.lk_infer.proofs.GroupLists.{each_both, front_of, back_of}
+use Rattle.lk_types.proofs.Members.{each_both, each_front, each_back}
 use Rattle.lk_unify.proofs.OpenComposed.{type_composed}
 use Rattle.lk_infer.proofs.LacksShown.{lacks_shown}
 use Rattle.lk_infer.proofs.LooseOf.{loose_of}
@@ -17,6 +17,8 @@ use Rattle.lk_types.specs.Variables.{variables_of, equation_variables}
 use Rattle.lk_types.specs.declared.equation.Equation.{Equation}
 use Rattle.lk_types.specs.declared.ground.Ground.{Ground}
 use Rattle.lk_types.specs.declared.ty.Ty.{Ty}
+use Rattle.lk_typing.proofs.Inverses.{first_same, rest_same}
+use Rattle.lk_typing.proofs.Nodes.{there_is}
 use Rattle.lk_typing.specs.EffectRows.{IsMetLoosely, loosely}
 use Rattle.lk_typing.specs.Law.{Become}
 use Rattle.lk_typing.specs.Unknowns.{same}
@@ -38,12 +40,6 @@ alike types = map (λ t. same t t) types
 
 -- ---- lists of what types become
 
-pub head_is : {A : Type 0} {x y : A} {xs ys : List A} → x ∷ xs ≡ y ∷ ys → x ≡ y
-head_is e = cc
-
-pub tail_is : {A : Type 0} {x y : A} {xs ys : List A} → x ∷ xs ≡ y ∷ ys → xs ≡ ys
-tail_is e = cc
-
 -- the loose meanings of types that have them
 pub all_loose : (τ : Grounding) (types : List Ty) → Each (HasLooseMeaning τ) types → (ts : List Ground) × BecomeLoosely τ types ts
 all_loose τ [] all = ([], refl)
@@ -52,13 +48,13 @@ all_loose τ (t ∷ types) all = let more = all_loose τ types all.1 in (all.0.0
 pub loosely_all : (τ : Grounding) (types : List Ty) (ts : List Ground) → Become τ types ts → BecomeLoosely τ types ts
 loosely_all τ [] ts are = are
 loosely_all τ (t ∷ types) [] are = cc
-loosely_all τ (t ∷ types) (g ∷ ts) are = ap₂ (λ a as'. a ∷ as') (loose_of τ t g (head_is are)) (loosely_all τ types ts (tail_is are))
+loosely_all τ (t ∷ types) (g ∷ ts) are = ap₂ (λ a as'. a ∷ as') (loose_of τ t g (first_same are)) (loosely_all τ types ts (rest_same are))
 
 -- a type equated with itself is met where it becomes something
 pub alike_met : (σ : Grounding) (types : List Ty) (ts : List Ground) → Become σ types ts → Solves σ (alike types)
 alike_met σ [] ts are = tt
 alike_met σ (t ∷ types) [] are = cc
-alike_met σ (t ∷ types) (g ∷ ts) are = ((g, head_is are, head_is are), alike_met σ types ts (tail_is are))
+alike_met σ (t ∷ types) (g ∷ ts) are = ((g, first_same are, first_same are), alike_met σ types ts (rest_same are))
 
 pub left_alike : {A : Type 0} (f : Ty → A) (types : List Ty) → map (λ e. f e.left) (alike types) ≡ map f types
 left_alike f [] = refl
@@ -92,8 +88,8 @@ module _ (ρ : Opening) where
     pub opens_left : (es : List Equation) → Each (OpensTo τ ρ σ) (equation_variables es) → Each OpensLeft es
     opens_left [] all = tt
     opens_left (e ∷ es) all = (
-      front_of (OpensTo τ ρ σ) (variables_of e.left) (variables_of e.right ++ equation_variables es) all,
-      opens_left es (back_of (OpensTo τ ρ σ) (variables_of e.right) (equation_variables es) (back_of (OpensTo τ ρ σ) (variables_of e.left) (variables_of e.right ++ equation_variables es) all)),
+      each_front (OpensTo τ ρ σ) (variables_of e.left) (variables_of e.right ++ equation_variables es) all,
+      opens_left es (each_back (OpensTo τ ρ σ) (variables_of e.right) (equation_variables es) (each_back (OpensTo τ ρ σ) (variables_of e.left) (variables_of e.right ++ equation_variables es) all)),
     )
 
     pub made_same : (es : List Equation) (ts : List Ty) → Makes ρ es ts → Each OpensLeft es → Solves σ es → map (under τ) ts ≡ map (λ e. under σ e.left) es
@@ -129,7 +125,7 @@ module _ (ρ : Opening) where
     same_loosely [] (t ∷ ts) gs made are = absurd made
     same_loosely (e ∷ es) [] gs made are = absurd made
     same_loosely (e ∷ es) (t ∷ ts) [] made are = cc
-    same_loosely (e ∷ es) (t ∷ ts) (g ∷ gs) made are = ap₂ (λ a as'. a ∷ as') (loosely_composed ρ τ e t g made.0 (head_is are)) (same_loosely es ts gs made.2 (tail_is are))
+    same_loosely (e ∷ es) (t ∷ ts) (g ∷ gs) made are = ap₂ (λ a as'. a ∷ as') (loosely_composed ρ τ e t g made.0 (first_same are)) (same_loosely es ts gs made.2 (rest_same are))
 
 -- ---- what types show
 
@@ -137,14 +133,10 @@ pub shown_lacking : (τ : Grounding) (types : List Ty) → Each (HasMeaning τ) 
 shown_lacking τ [] there = tt
 shown_lacking τ (t ∷ types) there = each_both (IsLacking τ) (shown t) (flat_map shown types) (lacks_shown τ t there.0.0 there.0.1) (shown_lacking τ types there.1)
 
-there_is : {A : Type 0} (o : Option A) → IsSome o → (a : A) × (o ≡ Some a)
-there_is None there = cc
-there_is (Some a) there = (a, refl)
-
 -- types that have meanings somewhere have loose ones wherever row variables lack what they show
 pub loosely_meant : (τ τ' : Grounding) (types : List Ty) → Each (HasMeaning τ') types → Each (IsLacking τ) (flat_map shown types) → Each (HasLooseMeaning τ) types
 loosely_meant τ τ' [] there lacking = tt
 loosely_meant τ τ' (t ∷ types) there lacking = (
-  there_is (loosely τ t) (loosely_there τ τ' t there.0.0 there.0.1 (front_of (IsLacking τ) (shown t) (flat_map shown types) lacking)),
-  loosely_meant τ τ' types there.1 (back_of (IsLacking τ) (shown t) (flat_map shown types) lacking),
+  there_is (loosely τ t) (loosely_there τ τ' t there.0.0 there.0.1 (each_front (IsLacking τ) (shown t) (flat_map shown types) lacking)),
+  loosely_meant τ τ' types there.1 (each_back (IsLacking τ) (shown t) (flat_map shown types) lacking),
 )

@@ -9,6 +9,7 @@ use Rattle.lk_ast.specs.declared.declaration.TableDecl.{TableDecl}
 use Rattle.lk_ast.specs.declared.expression.Case.{Case}
 use Rattle.lk_ast.specs.declared.expression.ChangeExpr.{ChangeExpr}
 use Rattle.lk_ast.specs.declared.expression.Expr.{Expr}
+use Rattle.lk_types.proofs.Parts.{same_some}
 use Rattle.lk_types.specs.Grounding.{Grounding}
 use Rattle.lk_types.specs.Rows.{Label, EffectSet}
 use Rattle.lk_types.specs.Schemes.{IsInstance}
@@ -130,9 +131,6 @@ many_named g (e ∷ es) = by_test (bytes_eq e.0 g) (many_named g es)
     by_test true later = refl
     by_test false later = later
 
-pub just : {A : Type 0} {a b : A} → Some a ≡ Some b → a ≡ b
-just is = cc
-
 many_instance : (scheme : Scheme) (t : Ground) → IsUse (Many scheme) t → (τ : Grounding) × IsInstance τ scheme t
 many_instance scheme t (IsUse.instance {τ} its) = (τ, its)
 
@@ -142,7 +140,7 @@ to_instance schemes g t may = by_found (named g schemes) (sym (many_named g sche
   where
     by_found : (o : Option Scheme) → option_map many o ≡ Some may.0 → (scheme : Scheme) × (o ≡ Some scheme) × ((τ : Grounding) × IsInstance τ scheme t)
     by_found None is = cc
-    by_found (Some scheme) is = (scheme, refl, many_instance scheme t (subst (λ e. IsUse e t) (sym (just is)) may.2))
+    by_found (Some scheme) is = (scheme, refl, many_instance scheme t (subst (λ e. IsUse e t) (sym (same_some is)) may.2))
 
 of_instance : (schemes : Named Scheme) (g : Label) (t : Ground) → HasInstance schemes g t → MayBe (scheme_entries schemes) g t
 of_instance schemes g t (scheme, is, (τ, its)) = (Many scheme, many_named g schemes ∙ ap (option_map many) is, IsUse.instance its)

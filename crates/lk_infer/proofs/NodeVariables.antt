@@ -16,7 +16,7 @@ use Rattle.lk_typing.proofs.Levels.{walk_plain, walk_lambda_form, walk_var, walk
 use Rattle.lk_typing.proofs.Levels.{walk_change_is, set_walks}
 use Rattle.lk_typing.proofs.Trees.{Tree, Trees, CaseTrees, ChangeTree, plain, lambda, var, switch, for_list, for_table, query, update, delete, none, more, no_cases, case_of, no_last}
 use Rattle.lk_typing.proofs.Trees.{last_of, changed, every_tree}
-use Rattle.lk_infer.proofs.GroupLists.{each_both}
+use Rattle.lk_types.proofs.Members.{each_both}
 use Rattle.lk_types.specs.Each.{Each}
 use Rattle.lk_types.specs.Rows.{Label, EffectSet}
 use Rattle.lk_types.specs.declared.equation.Equation.{Equation}

@@ -5,12 +5,13 @@ use Rattle.lk_ast.specs.Functions.{functions_in}
 use Rattle.lk_ast.specs.declared.declaration.Decl.{Decl}
 use Rattle.lk_ast.specs.declared.declaration.Program.{Program}
 use Rattle.lk_ast.specs.declared.declaration.TableDecl.{TableDecl}
-use Rattle.lk_infer.proofs.Further.{AreGeneral, inferred_general, instances_more, further, hold_length}
+use Rattle.lk_infer.proofs.Further.{AreGeneral, inferred_general, instances_more, further}
 use Rattle.lk_infer.proofs.More.{IsMore, same_is_more}
 use Rattle.lk_infer.specs.Inferred.{AreInferred, HasTypes}
 use Rattle.lk_types.specs.declared.ground.Ground.{Ground}
 use Rattle.lk_types.specs.declared.scheme.Scheme.{Scheme}
 use Rattle.lk_types.specs.declared.ty.Ty.{Ty}
+use Rattle.lk_typing.proofs.SchemeCounts.{as_many_schemes}
 use Rattle.lk_typing.specs.Names.{Named}
 use Rattle.lk_typing.specs.Programs.{AreInstances, HaveSchemes, AreInstancesOf, ArePrincipal}
 use Rattle.lk_ast.specs.Tables.{tables_of}
@@ -77,9 +78,9 @@ module _ (tables : List TableDecl) where
   most_general large our_earlier earlier _ _ others _ ts is_more AreInferred.none have are = none_left others ts are
   most_general large our_earlier earlier _ _ _ _ ts is_more (AreInferred.more {decl} {decls} schemes rest types more_types inferred fine later)
       (HaveSchemes.more other_schemes other_rest hold have) are =
-      let split : Split decl decls other_schemes other_rest ts = split_all decl decls other_schemes other_rest _ ts (hold_length earlier tables decl other_schemes hold) refl are in
+      let split : Split decl decls other_schemes other_rest ts = split_all decl decls other_schemes other_rest _ ts (as_many_schemes earlier tables decl other_schemes hold) refl are in
       let general : AreGeneral our_earlier tables decl schemes = inferred_general our_earlier tables decl schemes types inferred in
-      let as_many : length schemes ≡ length (functions_in decl) = hold_length our_earlier tables decl schemes inferred.hold in
+      let as_many : length schemes ≡ length (functions_in decl) = as_many_schemes our_earlier tables decl schemes inferred.hold in
       subst (λ us. AreInstancesOf (decl ∷ decls) (schemes ++ rest) us) (sym split.is)
       (AreInstancesOf.more schemes rest split.here split.others as_many
       (instances_more tables decl our_earlier earlier schemes other_schemes is_more general hold split.here split.now)

@@ -9,7 +9,7 @@ use Rattle.lk_ast.specs.declared.place.Span.{Span}
 use Rattle.lk_infer.proofs.Accepting.{Accepted}
 use Rattle.lk_infer.proofs.Continued.{accepted_none, accepted_more, accepted_types, accepted_principal, ends_ill_typed, ends_not_well_typed, ends_too_large, taken_more, taken_at}
 use Rattle.lk_infer.proofs.EvenEntries.{even_entries}
-use Rattle.lk_infer.proofs.GroupLists.{each_both}
+use Rattle.lk_types.proofs.Members.{each_both}
 use Rattle.lk_infer.specs.Inferred.{IsInferred, HasTypes}
 use Rattle.lk_infer.specs.LacksInOrder.{IsSchemeInOrder}
 use Rattle.lk_infer.specs.Programs.{EndsIllTyped, EndsTooLarge}

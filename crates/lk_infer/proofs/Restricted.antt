@@ -1,10 +1,11 @@
 -- A grounding that is another one at some variables, and the least there is at all others.
 use Rattle.std.proofs.Common.{◌≡◌, Bool, true, false, ◌||◌, inl, inr, List, [], ◌∷◌, refl, sym, ap, ◌∙◌, is_some, if◌then◌else◌}
-use Rattle.std.proofs.lemmas.Bool.{eqb-true, eq-eqb}
+use Rattle.std.proofs.lemmas.Bool.{or_right}
 use Rattle.std.specs.FinMap as fin
 use Rattle.std.specs.List.{list_any}
-use Rattle.lk_infer.proofs.GroupLists.{each_weaker}
+use Rattle.lk_types.proofs.Members.{each_weaker}
 use Rattle.lk_types.proofs.Agreement.{AgreeAt}
+use Rattle.lk_types.proofs.SameVariable.{same_self, same_sym}
 use Rattle.lk_types.specs.Each.{Each, OneOf}
 use Rattle.lk_types.specs.Grounding.{Grounding}
 use Rattle.lk_types.specs.Rows.{Label, label_order, has_label, no_fields, no_effects}
@@ -27,32 +28,12 @@ restricted xs τ = record {
 
 -- ---- variables in a list
 
-same_self : (x : Variable) → same_variable x x ≡ true
-same_self (variable.Plain m) = eq-eqb m m refl
-same_self (variable.Row m) = eq-eqb m m refl
-same_self (variable.Effects m) = eq-eqb m m refl
-
-same_is : (x y : Variable) → same_variable x y ≡ true → y ≡ x
-same_is (variable.Plain m) (variable.Plain n) same = ap variable.Plain (sym (eqb-true m n same))
-same_is (variable.Row m) (variable.Row n) same = ap variable.Row (sym (eqb-true m n same))
-same_is (variable.Effects m) (variable.Effects n) same = ap variable.Effects (sym (eqb-true m n same))
-same_is (variable.Plain m) (variable.Row n) same = cc
-same_is (variable.Plain m) (variable.Effects n) same = cc
-same_is (variable.Row m) (variable.Plain n) same = cc
-same_is (variable.Row m) (variable.Effects n) same = cc
-same_is (variable.Effects m) (variable.Plain n) same = cc
-same_is (variable.Effects m) (variable.Row n) same = cc
-
-later_too : (b c : Bool) → c ≡ true → (b || c) ≡ true
-later_too true c is = refl
-later_too false c is = is
-
 -- each variable of a list is there
 pub all_there : (xs : List Variable) → Each (λ y. has_variable xs y ≡ true) xs
 all_there [] = tt
 all_there (x ∷ xs) = (
   ap (λ b. b || has_variable xs x) (same_self x),
-  each_weaker (λ y. has_variable xs y ≡ true) (λ y. has_variable (x ∷ xs) y ≡ true) (λ y. later_too (same_variable y x) (has_variable xs y)) xs (all_there xs),
+  each_weaker (λ y. has_variable xs y ≡ true) (λ y. has_variable (x ∷ xs) y ≡ true) (λ y. or_right (same_variable y x) (has_variable xs y)) xs (all_there xs),
 )
 
 pub one_there : (xs : List Variable) (x : Variable) → has_variable xs x ≡ true → OneOf (λ y. y ≡ x) xs
@@ -60,7 +41,7 @@ one_there [] x there = cc
 one_there (y ∷ xs) x there = by_test (same_variable x y) refl (one_there xs x)
   where
     by_test : (b : Bool) → same_variable x y ≡ b → (has_variable xs x ≡ true → OneOf (λ z. z ≡ x) xs) → OneOf (λ z. z ≡ x) (y ∷ xs)
-    by_test true is later = inl (same_is x y is)
+    by_test true is later = inl (same_sym x y is)
     by_test false is later = inr (later (sym (ap (λ b. b || has_variable xs x) is) ∙ there))
 
 -- ---- what stands for them

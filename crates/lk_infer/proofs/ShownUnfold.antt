@@ -4,16 +4,15 @@ use Rattle.std.specs.Prelude.{flat_map}
 use Rattle.lk_types.proofs.Lists.{joined_map}
 use Rattle.lk_types.proofs.Unfold.{variables_field}
 use Rattle.lk_types.specs.Variables.{before_tail, joined, variables_of, variables_of_field, variables_of_row}
-use Rattle.lk_types.specs.declared.scheme.Lack.{Lack}
 use Rattle.lk_types.specs.declared.ty.Effects.{Effects}
 use Rattle.lk_types.specs.declared.ty.RowTail.{RowTail}
 use Rattle.lk_types.specs.declared.ty.Ty.{Ty}
 use Rattle.lk_types.specs.declared.ty.Ty.TheFolds.{the_lemmas}
 use Rattle.lk_types.specs.declared.ty.Ty.TheVariants as ty
 use Rattle.lk_types.specs.declared.ty.TyField.{TyField}
-use Rattle.lk_types.specs.declared.ty.TyRow.{TyRow, roll-TyRow}
+use Rattle.lk_types.specs.declared.ty.TyRow.{TyRow, out-TyRow, roll-TyRow}
 use Rattle.lk_types.specs.declared.ty.Variable.TheVariants as variable
-use Rattle.lk_infer.specs.Lacks.{ShownField, shown, shown_in_field, shown_in_row, tail_lacks}
+use Rattle.lk_infer.specs.Lacks.{shown, shown_in_field, shown_in_row, tail_lacks}
 
 pub shown_int : shown ty.Int ≡ []
 unfolding shown
@@ -54,12 +53,9 @@ field_is : (f : TyField) → shown_in_field f ≡ record { label = f.label; insi
 unfolding shown shown_in_field
 field_is f = search the_lemmas
 
-abbrev lacks_in : List ShownField → RowTail → List Lack
-lacks_in fs tail = flat_map (λ f. f.inside) fs ++ tail_lacks (map (λ f. f.label) fs) tail
-
-by_fields : (fs : List TyField) (tail : RowTail) → shown_in_row (roll-TyRow (record { fields = fs; tail = tail })) ≡ lacks_in (map shown_in_field fs) tail
+by_fields : (r : TyRow) → shown_in_row r ≡ flat_map (λ f. f.inside) (map shown_in_field (out-TyRow r).fields) ++ tail_lacks (map (λ f. f.label) (map shown_in_field (out-TyRow r).fields)) (out-TyRow r).tail
 unfolding shown_in_row shown_in_field
-by_fields fs tail = search the_lemmas
+by_fields r = search the_lemmas
 
 insides : (fs : List TyField) → flat_map (λ f. f.inside) (map shown_in_field fs) ≡ flat_map (λ f. shown f.ty) fs
 insides [] = refl
@@ -69,9 +65,12 @@ labels : (fs : List TyField) → map (λ f. f.label) (map shown_in_field fs) ≡
 labels [] = refl
 labels (f ∷ fs) = λ i. (field_is f i).label ∷ labels fs i
 
-pub shown_row : (fs : List TyField) (tail : RowTail)
+pub shown_row : (r : TyRow) → shown_in_row r ≡ flat_map (λ (f : TyField). shown f.ty) (out-TyRow r).fields ++ tail_lacks (map (λ (f : TyField). f.label) (out-TyRow r).fields) (out-TyRow r).tail
+shown_row r = by_fields r ∙ (λ i. insides (out-TyRow r).fields i ++ tail_lacks (labels (out-TyRow r).fields i) (out-TyRow r).tail)
+
+pub shown_rolled : (fs : List TyField) (tail : RowTail)
     → shown_in_row (roll-TyRow (record { fields = fs; tail = tail })) ≡ flat_map (λ f. shown f.ty) fs ++ tail_lacks (map (λ f. f.label) fs) tail
-shown_row fs tail = by_fields fs tail ∙ (λ i. insides fs i ++ tail_lacks (labels fs i) tail)
+shown_rolled fs tail = shown_row (roll-TyRow (record { fields = fs; tail = tail }))
 
 -- ---- the variables of a row
 

@@ -1,4 +1,5 @@
 -- What is made of a walk whose constraints are solved.
+use Rattle.lk_typing.proofs.Lists.{length_append}
 use Rattle.std.proofs.Common.{◌≡◌, ℕ, zero, suc, ◌+◌, ◌<◌, ◌≤◌, min, List, [], ◌∷◌, ◌++◌, length, map, take, drop, refl, sym, ap, subst, ◌∙◌}
 use native.Mathlib.Omega.{arith}
 use Rattle.lk_types.specs.Each.{Each}
@@ -6,8 +7,8 @@ use Rattle.lk_types.specs.declared.equation.Equation.{Equation}
 use Rattle.lk_types.specs.declared.scheme.Scheme.{Scheme}
 use Rattle.lk_types.specs.declared.ty.Ty.{Ty}
 use Rattle.lk_arena.specs.Openings.{Opening}
+use Rattle.lk_unify.proofs.FineSides.{as_many}
 use Rattle.lk_unify.specs.Constraints.{equations_of, AreSides, Makes}
-use Rattle.lk_unify.specs.declared.constraint.Constraint.{Constraint}
 use Rattle.lk_infer.specs.Generalised.{AreGeneralised}
 use Rattle.lk_infer.specs.Refusals.{constraints_of}
 use Rattle.lk_infer.specs.Walked.{asked, walk_constraints, IsSolved}
@@ -20,14 +21,6 @@ makes_length ρ [] (t ∷ ts) makes = absurd makes
 makes_length ρ (e ∷ es) [] makes = absurd makes
 makes_length ρ (e ∷ es) (t ∷ ts) makes = ap suc (makes_length ρ es ts makes.2)
 
-equations_length : (cs : List Constraint) → length (equations_of cs) ≡ length cs
-equations_length [] = refl
-equations_length (c ∷ cs) = ap suc (equations_length cs)
-
-both_length : {A : Type 0} (xs ys : List A) → length (xs ++ ys) ≡ length xs + length ys
-both_length [] ys = let same : length ys ≡ 0 + length ys = omega arith in same
-both_length (x ∷ xs) ys = let rest : length (xs ++ ys) ≡ length xs + length ys = both_length xs ys in omega arith
-
 asked_length : (ts : List Ty) → length (map asked ts) ≡ length ts
 asked_length [] = refl
 asked_length (t ∷ ts) = ap suc (asked_length ts)
@@ -36,12 +29,12 @@ walk_length : (walk : GroupWalk) → length (walk_constraints walk) ≡ length w
 walk_length walk =
     let one : length (map asked walk.functions) ≡ length walk.functions = asked_length walk.functions in
     let two : length (map asked walk.nodes) ≡ length walk.nodes = asked_length walk.nodes in
-    let more : length (map asked walk.nodes ++ constraints_of walk.steps) ≡ length (map asked walk.nodes) + length (constraints_of walk.steps) = both_length (map asked walk.nodes) (constraints_of walk.steps) in
-    let all : length (walk_constraints walk) ≡ length (map asked walk.functions) + length (map asked walk.nodes ++ constraints_of walk.steps) = both_length (map asked walk.functions) (map asked walk.nodes ++ constraints_of walk.steps) in
+    let more : length (map asked walk.nodes ++ constraints_of walk.steps) ≡ length (map asked walk.nodes) + length (constraints_of walk.steps) = length_append (map asked walk.nodes) (constraints_of walk.steps) in
+    let all : length (walk_constraints walk) ≡ length (map asked walk.functions) + length (map asked walk.nodes ++ constraints_of walk.steps) = length_append (map asked walk.functions) (map asked walk.nodes ++ constraints_of walk.steps) in
     omega arith
 
 types_length : (walk : GroupWalk) (types : List Ty) → AreSides (equations_of (walk_constraints walk)) types → length types ≡ length walk.functions + (length walk.nodes + length (constraints_of walk.steps))
-types_length walk types sides = makes_length sides.opening (equations_of (walk_constraints walk)) types sides.sides ∙ equations_length (walk_constraints walk) ∙ walk_length walk
+types_length walk types sides = makes_length sides.opening (equations_of (walk_constraints walk)) types sides.sides ∙ as_many (walk_constraints walk) ∙ walk_length walk
 
 pub enough : (walk : GroupWalk) (types : List Ty) → AreSides (equations_of (walk_constraints walk)) types → length walk.functions ≤ length types
 enough walk types sides = let n : length types ≡ length walk.functions + (length walk.nodes + length (constraints_of walk.steps)) = types_length walk types sides in omega arith

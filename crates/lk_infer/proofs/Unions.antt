@@ -1,39 +1,21 @@
 -- Effects with none of them twice are their union, and disjoint from what stands behind them.
 use Rattle.std.proofs.Common.{◌≡◌, Bool, true, false, ◌||◌, ⊎_elim, List, [], ◌∷◌, refl, sym, ap, ◌∙◌, Some}
 use Rattle.std.specs.List.{list_any}
+use Rattle.lk_types.proofs.SameEffect.{effects_turned}
 use Rattle.lk_types.specs.Grounding.{before_effects}
 use Rattle.lk_types.specs.Rows.{EffectSet, no_effects, same_effect, with_effect}
 use Rattle.lk_types.specs.declared.ty.Effect.{Effect}
+use Rattle.lk_typing.proofs.Even.Loose.{is_union}
 use Rattle.lk_typing.specs.EffectRows.{union}
-use Rattle.lk_unify.proofs.OpenEffectSets.{effect_cases, same_itself, same_effects, with_more, with_new, with_one}
-use Rattle.lk_infer.proofs.Parts.{same_some}
-
--- which of two effects comes first says nothing
-either_way : (a b : Effect) → same_effect a b ≡ same_effect b a
-either_way a b = by_tests (same_effect a b) (same_effect b a) (λ is. turned a b is) (λ is. turned b a is)
-  where
-    turned : (x y : Effect) → same_effect x y ≡ true → same_effect y x ≡ true
-    turned x y is = ap (same_effect y) (same_effects x y is) ∙ same_itself y
-
-    by_tests : (p q : Bool) → (p ≡ true → q ≡ true) → (q ≡ true → p ≡ true) → p ≡ q
-    by_tests true q f g = sym (f refl)
-    by_tests false true f g = g refl
-    by_tests false false f g = refl
+use Rattle.lk_unify.proofs.OpenEffectSets.{effect_cases, with_more, with_new, with_one}
 
 -- one effect more before others
 one_before : (l : Effect) (ls : List Effect) (s : EffectSet) (x : Effect) → with_more l (union ls s) x ≡ union (l ∷ ls) s x
-one_before l ls s x = by_test (same_effect l x) (list_any (same_effect x) ls) (s x) ∙ ap (λ b. (b || list_any (same_effect x) ls) || s x) (either_way l x)
+one_before l ls s x = by_test (same_effect l x) (list_any (same_effect x) ls) (s x) ∙ ap (λ b. (b || list_any (same_effect x) ls) || s x) (effects_turned l x)
   where
     by_test : (a b c : Bool) → (a || (b || c)) ≡ ((a || b) || c)
     by_test true b c = refl
     by_test false b c = refl
-
--- effects with none of them twice are their union
-pub is_union : (ls : List Effect) (s p : EffectSet) → before_effects ls s ≡ Some p → p ≡ union ls s
-is_union [] s p is = sym (same_some is)
-is_union (l ∷ ls) s p is =
-    let b = with_one l (before_effects ls s) p is in
-    b.3 ∙ ap (with_more l) (is_union ls s b.0 b.1) ∙ (λ i x. one_before l ls s x i)
 
 -- none of them is behind them
 pub none_behind : (ls : List Effect) (s p : EffectSet) → before_effects ls s ≡ Some p → (x : Effect) → list_any (same_effect x) ls ≡ true → s x ≡ false

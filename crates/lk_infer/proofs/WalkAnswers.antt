@@ -2,6 +2,7 @@
 use Rattle.std.proofs.Common.{◌≡◌, ℕ, zero, suc, ◌+◌, ◌<◌, Bool, false, List, [], ◌∷◌, ◌++◌, length, map, Some, slice_get, get_or, refl, sym, ap, subst, ◌∙◌}
 use native.Mathlib.Omega.{arith}
 use Rattle.lk_ast.specs.declared.place.Span.{Span}
+use Rattle.lk_types.proofs.Members.{each_both}
 use Rattle.lk_types.specs.Each.{Each}
 use Rattle.lk_types.specs.declared.ty.Ty.{Ty}
 use Rattle.lk_typing.specs.declared.step.Step.{Step}
@@ -9,7 +10,6 @@ use Rattle.lk_unify.specs.Constraints as unify
 use Rattle.lk_unify.specs.Constraints.{IsFirstUnmet, IsFirstLarge}
 use Rattle.lk_unify.specs.declared.constraint.Constraint.{Constraint}
 use Rattle.lk_infer.proofs.FirstSteps.{IsBehind, IsPlace, all_fine_left, unmet_left, first_large_left, steps_fine, ill_typed_at, too_large_at}
-use Rattle.lk_infer.proofs.WalkSteps.{each_append}
 use Rattle.lk_infer.specs.Refusals.{constraints_of, AllFine, IsIllTyped, IsTooLarge}
 use Rattle.lk_infer.specs.Walked.{asked, walk_constraints, places_of, IsPlain, IsNumber}
 use Rattle.lk_walk.specs.declared.group.GroupWalk.{GroupWalk}
@@ -44,7 +44,7 @@ module _ (walk : GroupWalk) (functions : Each IsPlain walk.functions) (nodes : E
   front = walk.functions ++ walk.nodes
 
   plain : Each IsPlain front
-  plain = each_append IsPlain walk.functions walk.nodes functions nodes
+  plain = each_both IsPlain walk.functions walk.nodes functions nodes
 
   whole : cs ≡ map asked front ++ constraints_of walk.steps
   whole = is ∙ both_asked walk.functions walk.nodes (constraints_of walk.steps)

@@ -2,6 +2,7 @@
 -- nothing is said.
 use Rattle.std.proofs.Common.{◌≡◌, ℕ, zero, suc, ◌+◌, ◌<◌, ◌≤◌, ◌⊎◌, inl, inr, Bool, true, false, List, [], ◌∷◌, ◌++◌, length, map, take, Option, Some, None, IsSome, slice_get, refl, sym, ap, subst, ◌∙◌}
 use native.Mathlib.Omega.{arith}
+use Rattle.lk_types.proofs.Members.{each_both, each_back}
 use Rattle.lk_types.specs.Each.{Each}
 use Rattle.lk_types.specs.Grounding.{Grounding, under}
 use Rattle.lk_types.specs.Sizes.{most_nodes, nodes}
@@ -32,18 +33,10 @@ asked_met σ (t ∷ ts) plain = (by_some (under σ t) refl (plain.0 σ), asked_m
     by_some None is some = cc
     by_some (Some g) is some = (g, is, is)
 
-pub each_append : {A : Type 0} (P : A → Type 0) (xs ys : List A) → Each P xs → Each P ys → Each P (xs ++ ys)
-each_append P [] ys left right = right
-each_append P (x ∷ xs) ys left right = (left.0, each_append P xs ys left.1 right)
-
-each_after : {A : Type 0} (P : A → Type 0) (xs ys : List A) → Each P (xs ++ ys) → Each P ys
-each_after P [] ys each = each
-each_after P (x ∷ xs) ys each = each_after P xs ys each.1
-
 variables_after : (P : Variable → Type 0) (es fs : List Equation) → Each P (equation_variables (es ++ fs)) → Each P (equation_variables fs)
 variables_after P [] fs each = each
 variables_after P (e ∷ es) fs each =
-    variables_after P es fs (each_after P (variables_of e.right) (equation_variables (es ++ fs)) (each_after P (variables_of e.left) (variables_of e.right ++ equation_variables (es ++ fs)) each))
+    variables_after P es fs (each_back P (variables_of e.right) (equation_variables (es ++ fs)) (each_back P (variables_of e.left) (variables_of e.right ++ equation_variables (es ++ fs)) each))
 
 -- types of some sides before others
 pub record Split (ρ : Opening) (es fs : List Equation) (types : List Ty) : Type 0 where
@@ -74,11 +67,11 @@ sides_left front plain cs types sides =
     let some : Solves sides.some.0 (equations_of (map asked front) ++ equations_of cs) = subst (Solves sides.some.0) both sides.some.1 in (
       parts.back,
       record {
-        some = (sides.some.0, each_after (IsMet sides.some.0) (equations_of (map asked front)) (equations_of cs) some);
+        some = (sides.some.0, each_back (IsMet sides.some.0) (equations_of (map asked front)) (equations_of cs) some);
         opening = sides.opening;
         sides = parts.makes;
         general = λ σ solves.
-            let all : Solves σ (equations_of (map asked front) ++ equations_of cs) = each_append (IsMet σ) (equations_of (map asked front)) (equations_of cs) (asked_met σ front plain) solves in
+            let all : Solves σ (equations_of (map asked front) ++ equations_of cs) = each_both (IsMet σ) (equations_of (map asked front)) (equations_of cs) (asked_met σ front plain) solves in
             let found = sides.general σ (subst (Solves σ) (sym both) all) in (
               found.0,
               variables_after (λ x. OpensTo found.0 sides.opening σ x) (equations_of (map asked front)) (equations_of cs)

@@ -102,7 +102,7 @@ pub fn all_shown(alloc: Global, types: &[Ty]) -> Result<Shown, NoMemory>
 
 /// Adds what a type shows.
 #[cycle(shown)]
-#[tactic(auto, using(crate::proofs::LackSets::with_both, crate::proofs::LackSets::shown_int, crate::proofs::LackSets::shown_bool, crate::proofs::LackSets::shown_text, crate::proofs::LackSets::shown_list, crate::proofs::LackSets::shown_fields, crate::proofs::LackSets::shown_tags, crate::proofs::LackSets::shown_function, crate::proofs::LackSets::shown_variable))]
+#[tactic(auto, using(crate::proofs::LackSets::with_both, crate::proofs::ShownUnfold::shown_int, crate::proofs::ShownUnfold::shown_bool, crate::proofs::ShownUnfold::shown_text, crate::proofs::ShownUnfold::shown_list, crate::proofs::ShownUnfold::shown_fields, crate::proofs::ShownUnfold::shown_tags, crate::proofs::ShownUnfold::shown_function, crate::proofs::ShownUnfold::shown_variable))]
 pub fn insert_shown(alloc: Global, found: &mut Shown, ty: &Ty) -> Result<(), NoMemory>
     ensures { OnOk result (found.new ≡ with_lacks found.old (shown ty.now)) }
 {
@@ -129,7 +129,7 @@ fn insert_all(alloc: Global, found: &mut Shown, types: &[Ty]) -> Result<(), NoMe
 }
 
 #[cycle(shown)]
-#[tactic(auto, using(crate::proofs::LackSets::with_both, crate::proofs::LackSets::shown_row))]
+#[tactic(auto, using(crate::proofs::LackSets::with_both, crate::proofs::ShownUnfold::shown_row))]
 fn insert_row(alloc: Global, found: &mut Shown, row: &TyRow) -> Result<(), NoMemory>
     ensures { OnOk result (found.new ≡ with_lacks found.old (shown_in_row row.now)) }
 {

@@ -12,7 +12,7 @@ use Rattle.lk_query.specs.Order.{AreOrdered, Below}
 use Rattle.lk_query.specs.declared.part.Part.{Part}
 use Rattle.lk_types.specs.declared.ground.Ground.{Ground}
 
-append_assoc : {A : Type 0} (xs ys zs : List A) → (xs ++ ys) ++ zs ≡ xs ++ (ys ++ zs)
+pub append_assoc : {A : Type 0} (xs ys zs : List A) → (xs ++ ys) ++ zs ≡ xs ++ (ys ++ zs)
 append_assoc [] ys zs = refl
 append_assoc (x ∷ xs) ys zs = ap (λ rest. x ∷ rest) (append_assoc xs ys zs)
 

@@ -3,7 +3,7 @@ use Rattle.std.proofs.Common.{◌≡◌, refl, sym, ap, ap₂, ◌∙◌, subst,
 use Rattle.lk_ast.specs.Children.{exprs_of}
 use Rattle.lk_ast.specs.Functions.{functions_of}
 use Rattle.lk_ast.specs.Rows.{row_value}
-use Rattle.lk_ast.specs.Tables.{all_fit, row_fits, table_defs, tables_of}
+use Rattle.lk_ast.specs.Tables.{row_fits, table_defs, tables_of}
 use Rattle.lk_ast.specs.declared.declaration.Program.{Program}
 use Rattle.lk_ast.specs.declared.expression.ChangeExpr.{ChangeExpr, out-ChangeExpr}
 use Rattle.lk_ast.specs.declared.expression.Expr.{Expr}
@@ -56,28 +56,25 @@ use Rattle.lk_sound.proofs.Calls.{kept_fit}
 use Rattle.lk_sound.proofs.Names.{AreDistinct, IsAmong}
 use Rattle.lk_sound.proofs.QueryParts.{AreQueryNodes, IsQueryNode}
 use Rattle.lk_sound.proofs.TableRows.{table_found}
+use Rattle.lk_sound.proofs.UpdatedRows.{no_rows}
 use Rattle.lk_sound.specs.Instances.{Instances}
 use Rattle.lk_sound.specs.Nodes.{change_nodes, each_nodes, nodes_of}
 use Rattle.lk_sound.specs.Points.{AreLocals}
 use Rattle.lk_sound.specs.Tables.{AreTables, table_at}
 use Rattle.lk_sound.specs.Values.{Fits}
+use Rattle.lk_types.proofs.Members.{each_front}
+use Rattle.lk_types.proofs.Parts.{same_some}
 use Rattle.lk_types.specs.Each.{Each}
 use Rattle.lk_types.specs.Rows as rows
 use Rattle.lk_types.specs.Rows.{Label}
 use Rattle.lk_types.specs.declared.ground.Ground.{Ground}
 use Rattle.lk_types.specs.declared.ground.Ground.TheVariants as known
-use Rattle.lk_typing.proofs.Lists.{each_front}
-use Rattle.lk_typing.proofs.Values.{just}
 use Rattle.lk_typing.specs.Names.{Entry, HasRows, Named, named, types_of}
 use Rattle.lk_typing.specs.Types as types
 use Rattle.lk_typing.specs.Types.{record_of}
 use Rattle.lk_typing.specs.Typing.{HasField, IsChange, labels_of, changed as is_change, more}
 
 -- ---- no table has rows
-
-no_rows : (defs : List TableDef) → Each (λ (def : TableDef). all_fit def [] ≡ true) defs
-no_rows [] = tt
-no_rows (def ∷ defs) = (refl, no_rows defs)
 
 pub walks_of : (of : Expr → Walk) (sets : List PartExpr) → map of (exprs_of sets) ≡ map (λ (set : PartExpr). of set.expr) sets
 walks_of of [] = refl
@@ -191,7 +188,7 @@ module _ (p : Program) (bound : IsBound p) (g : GroundProgram) (has : HasInstanc
     row_has_type : Fits p i (row_value r) (record_of made_so.row)
     row_has_type =
         let found = table_found p i (out-ChangeExpr change).table.text made_so.row made_so.rows_are in
-        let def_is : found.0 ≡ def = just (sym found.1 ∙ at) in
+        let def_is : found.0 ≡ def = same_some (sym found.1 ∙ at) in
         found.2 r (subst (λ d. row_fits d r ≡ true) (sym def_is) r_fits)
 
     given_so : AreCaptured (map captured_as (types_of kept)) args

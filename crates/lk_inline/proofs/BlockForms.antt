@@ -1,7 +1,7 @@
 -- What a typed block of an instance is made of, by the form of its expression, and how it is typed under the names alone that it
 -- captures.
-use Rattle.std.proofs.Common.{◌≡◌, refl, sym, ap, ◌∙◌, subst, ℕ, true, false, List, [], ◌∷◌, drop, Some, None}
-use Rattle.lk_ast.specs.Layers.{layer}
+use Rattle.std.proofs.Common.{◌≡◌, refl, sym, ap, ◌∙◌, subst, ℕ, true, false, List, ◌∷◌, drop, Option, Some, None, ◌⊎◌, inl, inr}
+use Rattle.lk_ast.specs.Layers.{Layer, layer}
 use Rattle.lk_ast.specs.Tables.{tables_of}
 use Rattle.lk_ast.specs.declared.declaration.Program.{Program}
 use Rattle.lk_ast.specs.declared.expression.ChangeExpr.{ChangeExpr}
@@ -13,12 +13,12 @@ use Rattle.lk_ground_types.specs.Shapes.{is_flat, is_query_type}
 use Rattle.lk_index.specs.Free.{captured_change, captured_query, free, free_change}
 use Rattle.lk_inline.proofs.BlockNames.{AreKept, names_kept}
 use Rattle.lk_inline.proofs.CallArms.{TakesFirst, called, other, takes_first}
-use Rattle.lk_inline.proofs.UsesOrder.{ordered_holds}
 use Rattle.lk_scope.specs.Names.{no_names}
 use Rattle.lk_sites.specs.Pending.{Pending, pending}
 use Rattle.lk_sites.specs.Takes.{Takes}
 use Rattle.lk_sound.proofs.Free.{change_known, known_in as names_known}
 use Rattle.lk_sound.proofs.Names.{IsAmong}
+use Rattle.lk_sound.proofs.OrderedWords.{ordered_holds}
 use Rattle.lk_sound.proofs.Retyped.{outermost, retyped, retyped_change, retyped_change_nodes, retyped_nodes}
 use Rattle.lk_sound.specs.Instances.{Instances, IsFine, IsFlatPart}
 use Rattle.lk_sound.specs.Nodes.{TypedNode, Use, change_nodes, known_in, nodes_of, parts_of}
@@ -45,6 +45,24 @@ behind_own : (helpers : List Use) (node : TypedNode) (nodes : List TypedNode) (t
     → Takes helpers nodes (pending (drop 1 types) calls) after
 behind_own helpers node nodes types calls after none (other others used own behind) = subst (λ ts. Takes helpers nodes (pending ts calls) after) (sym (ap (drop 1) own)) behind
 behind_own helpers node nodes types calls after none (called others later u h used at own calls_are behind) = let wrong : None ≡ Some u = sym none ∙ used in absurd cc
+
+-- ---- a node that is an update or a deletion
+
+abbrev changes_by : Layer → Option ChangeExpr
+changes_by (Node-F.Update change) = Some change
+changes_by (Node-F.Delete change) = Some change
+changes_by _ = None
+
+abbrev ChangesBy : Layer → ChangeExpr → Type 0
+ChangesBy l change = (l ≡ Node-F.Update change) ⊎ (l ≡ Node-F.Delete change)
+
+by_change : (l : Layer) (change : ChangeExpr) → ChangesBy l change → changes_by l ≡ Some change
+by_change l change (inl at) = ap changes_by at
+by_change l change (inr at) = ap changes_by at
+
+no_head : (l : Layer) (change : ChangeExpr) → ChangesBy l change → head label_of expr_of l ≡ None
+no_head l change (inl at) = ap (head label_of expr_of) at
+no_head l change (inr at) = ap (head label_of expr_of) at
 
 module _ (p : Program) (i : Instances) (functions : Named (Entry Ground)) where
   -- ---- readings of tables
@@ -165,55 +183,36 @@ module _ (p : Program) (i : Instances) (functions : Named (Entry Ground)) where
     pub captured : Each (λ t. is_flat t ≡ true) (known_in locals (free_change change no_names))
     pub takes : Takes i.helpers (change_nodes typed) (pending (drop 1 types) calls) after
 
-  pub update_block : {locals : Named Ground} {effects : EffectSet} {e : Expr} {t : Ground} {inside : List Ground} (d : HasType functions (tables_of p) locals effects e t inside) (change : ChangeExpr) → layer e ≡ Node-F.Update change
+  -- an update or a deletion
+  change_block : {locals : Named Ground} {effects : EffectSet} {e : Expr} {t : Ground} {inside : List Ground} (d : HasType functions (tables_of p) locals effects e t inside) (change : ChangeExpr) → ChangesBy (layer e) change
       → Each (IsFine i) (nodes_of false d) → (types : List Ground) (calls : List ℕ) (after : Pending) → Takes i.helpers (nodes_of false d) (pending types calls) after → IsChangeBlock locals change types calls after
   unfolding nodes_of
-  update_block (plain h ts is have by) change at fine types calls after takes = let wrong : Some h ≡ None = sym is ∙ ap (head label_of expr_of) at in absurd cc
-  update_block (lambda l params own a is named moves inner local) change at fine types calls after takes = let wrong : Node-F.Lambda l ≡ Node-F.Update change = sym is ∙ at in absurd cc
-  update_block (var y d rest a first last is one next) change at fine types calls after takes = let wrong : Node-F.Var y d rest ≡ Node-F.Update change = sym is ∙ at in absurd cc
-  update_block (switch d cases row tags ts first bodies is one have same made local) change at fine types calls after takes = let wrong : Node-F.Switch d cases None ≡ Node-F.Update change = sym is ∙ at in absurd cc
-  update_block (switch_open d cases last rest row tags ts first bodies inside is one have same next made local) change at fine types calls after takes = let wrong : Node-F.Switch d cases (Some last) ≡ Node-F.Update change = sym is ∙ at in absurd cc
-  update_block (for_list y d inner a b first inside is one next) change at fine types calls after takes = let wrong : Node-F.ForList y d inner ≡ Node-F.Update change = sym is ∙ at in absurd cc
-  update_block (for_table y d inner a b first inside is one next) change at fine types calls after takes = let wrong : Node-F.ForTable y d inner ≡ Node-F.Update change = sym is ∙ at in absurd cc
-  update_block (query keys body a inside is one sorted scans own) change at fine types calls after takes = let wrong : Node-F.Query keys body ≡ Node-F.Update change = sym is ∙ at in absurd cc
-  update_block (delete elsewhere is changes writes) change at fine types calls after takes = let wrong : Node-F.Delete elsewhere ≡ Node-F.Update change = sym is ∙ at in absurd cc
-  update_block {locals = locals} {inside = inside} (update elsewhere is changes writes) change at fine types calls after takes =
-      let layers : Node-F.Update elsewhere ≡ Node-F.Update change = sym is ∙ at in
+  change_block {e = e} (plain h ts is have by) change at fine types calls after takes = let wrong : Some h ≡ None = sym is ∙ no_head (layer e) change at in absurd cc
+  change_block (lambda l params own a is named moves inner local) change at fine types calls after takes = let wrong : None ≡ Some change = sym (ap changes_by is) ∙ by_change _ change at in absurd cc
+  change_block (var y d rest a first last is one next) change at fine types calls after takes = let wrong : None ≡ Some change = sym (ap changes_by is) ∙ by_change _ change at in absurd cc
+  change_block (switch d cases row tags ts first bodies is one have same made local) change at fine types calls after takes = let wrong : None ≡ Some change = sym (ap changes_by is) ∙ by_change _ change at in absurd cc
+  change_block (switch_open d cases last rest row tags ts first bodies inside is one have same next made local) change at fine types calls after takes = let wrong : None ≡ Some change = sym (ap changes_by is) ∙ by_change _ change at in absurd cc
+  change_block (for_list y d inner a b first inside is one next) change at fine types calls after takes = let wrong : None ≡ Some change = sym (ap changes_by is) ∙ by_change _ change at in absurd cc
+  change_block (for_table y d inner a b first inside is one next) change at fine types calls after takes = let wrong : None ≡ Some change = sym (ap changes_by is) ∙ by_change _ change at in absurd cc
+  change_block (query keys body a inside is one sorted scans own) change at fine types calls after takes = let wrong : None ≡ Some change = sym (ap changes_by is) ∙ by_change _ change at in absurd cc
+  change_block {locals = locals} {inside = inside} (update elsewhere is changes writes) change at fine types calls after takes =
+      let layers : Some elsewhere ≡ Some change = sym (ap changes_by is) ∙ by_change _ change at in
       let same : elsewhere ≡ change = cc in
       let block = fine.0.flat _ refl in
-      subst (λ c. IsChangeBlock locals c types calls after) same
-      (record {
-        inside = inside;
-        typed = changes;
-        flat = block.parts;
-        captured = block.captured;
-        takes = behind_own i.helpers _ (change_nodes changes) types calls after refl (takes_first i.helpers _ (change_nodes changes) (pending types calls) after takes);
-      })
+      subst (λ c. IsChangeBlock locals c types calls after) same (record { inside = inside; typed = changes; flat = block.parts; captured = block.captured; takes = behind_own i.helpers _ (change_nodes changes) types calls after refl (takes_first i.helpers _ (change_nodes changes) (pending types calls) after takes) })
+  change_block {locals = locals} {inside = inside} (delete elsewhere is changes writes) change at fine types calls after takes =
+      let layers : Some elsewhere ≡ Some change = sym (ap changes_by is) ∙ by_change _ change at in
+      let same : elsewhere ≡ change = cc in
+      let block = fine.0.flat _ refl in
+      subst (λ c. IsChangeBlock locals c types calls after) same (record { inside = inside; typed = changes; flat = block.parts; captured = block.captured; takes = behind_own i.helpers _ (change_nodes changes) types calls after refl (takes_first i.helpers _ (change_nodes changes) (pending types calls) after takes) })
+
+  pub update_block : {locals : Named Ground} {effects : EffectSet} {e : Expr} {t : Ground} {inside : List Ground} (d : HasType functions (tables_of p) locals effects e t inside) (change : ChangeExpr) → layer e ≡ Node-F.Update change
+      → Each (IsFine i) (nodes_of false d) → (types : List Ground) (calls : List ℕ) (after : Pending) → Takes i.helpers (nodes_of false d) (pending types calls) after → IsChangeBlock locals change types calls after
+  update_block d change at = change_block d change (inl at)
 
   pub delete_block : {locals : Named Ground} {effects : EffectSet} {e : Expr} {t : Ground} {inside : List Ground} (d : HasType functions (tables_of p) locals effects e t inside) (change : ChangeExpr) → layer e ≡ Node-F.Delete change
       → Each (IsFine i) (nodes_of false d) → (types : List Ground) (calls : List ℕ) (after : Pending) → Takes i.helpers (nodes_of false d) (pending types calls) after → IsChangeBlock locals change types calls after
-  unfolding nodes_of
-  delete_block (plain h ts is have by) change at fine types calls after takes = let wrong : Some h ≡ None = sym is ∙ ap (head label_of expr_of) at in absurd cc
-  delete_block (lambda l params own a is named moves inner local) change at fine types calls after takes = let wrong : Node-F.Lambda l ≡ Node-F.Delete change = sym is ∙ at in absurd cc
-  delete_block (var y d rest a first last is one next) change at fine types calls after takes = let wrong : Node-F.Var y d rest ≡ Node-F.Delete change = sym is ∙ at in absurd cc
-  delete_block (switch d cases row tags ts first bodies is one have same made local) change at fine types calls after takes = let wrong : Node-F.Switch d cases None ≡ Node-F.Delete change = sym is ∙ at in absurd cc
-  delete_block (switch_open d cases last rest row tags ts first bodies inside is one have same next made local) change at fine types calls after takes = let wrong : Node-F.Switch d cases (Some last) ≡ Node-F.Delete change = sym is ∙ at in absurd cc
-  delete_block (for_list y d inner a b first inside is one next) change at fine types calls after takes = let wrong : Node-F.ForList y d inner ≡ Node-F.Delete change = sym is ∙ at in absurd cc
-  delete_block (for_table y d inner a b first inside is one next) change at fine types calls after takes = let wrong : Node-F.ForTable y d inner ≡ Node-F.Delete change = sym is ∙ at in absurd cc
-  delete_block (query keys body a inside is one sorted scans own) change at fine types calls after takes = let wrong : Node-F.Query keys body ≡ Node-F.Delete change = sym is ∙ at in absurd cc
-  delete_block (update elsewhere is changes writes) change at fine types calls after takes = let wrong : Node-F.Update elsewhere ≡ Node-F.Delete change = sym is ∙ at in absurd cc
-  delete_block {locals = locals} {inside = inside} (delete elsewhere is changes writes) change at fine types calls after takes =
-      let layers : Node-F.Delete elsewhere ≡ Node-F.Delete change = sym is ∙ at in
-      let same : elsewhere ≡ change = cc in
-      let block = fine.0.flat _ refl in
-      subst (λ c. IsChangeBlock locals c types calls after) same
-      (record {
-        inside = inside;
-        typed = changes;
-        flat = block.parts;
-        captured = block.captured;
-        takes = behind_own i.helpers _ (change_nodes changes) types calls after refl (takes_first i.helpers _ (change_nodes changes) (pending types calls) after takes);
-      })
+  delete_block d change at = change_block d change (inr at)
 
   -- the same under the names alone that it captures
   pub record IsChangeAlone (locals : Named Ground) (change : ChangeExpr) (types : List Ground) (calls : List ℕ) (after : Pending) : Type 0 where

@@ -4,7 +4,7 @@ use Rattle.std.specs.Cmp.Lexicographic.{bytes_decides}
 use Rattle.lk_bodies.specs.Captured.{captured_as, captured_at, captured_by}
 use Rattle.lk_ground_types.specs.Shapes.{is_flat}
 use Rattle.lk_index.specs.Free.{in_byte_order}
-use Rattle.lk_inline.proofs.UsesOrder.{ordered_of}
+use Rattle.lk_sound.proofs.OrderedWords.{ordered_of}
 use Rattle.lk_scope.specs.Names.{no_names}
 use Rattle.lk_sound.proofs.Free.{AreKnown}
 use Rattle.lk_sound.proofs.Names.{IsAmong}

@@ -17,25 +17,26 @@ use Rattle.lk_bodies.specs.Walk.{labelled}
 use Rattle.lk_ground_types.specs.Shapes.{base_level, is_base, rows_level}
 use Rattle.lk_inline.proofs.RecordRules.{StandEach}
 use Rattle.lk_inline.proofs.RowLabels.{cells_fit}
-use Rattle.lk_inline.proofs.Standing.{base_shown, bool_given, bool_is}
+use Rattle.lk_inline.proofs.Standing.{bool_given, bool_is}
 use Rattle.lk_inline.specs.Stands.{IsRecord, Stands}
 use Rattle.lk_operators.specs.Values.{base_in, bool_in}
 use Rattle.lk_query.specs.Changed.{set_to}
 use Rattle.lk_query.specs.Given.{Given, Values, cell_with, gives, of_row}
 use Rattle.lk_query.specs.declared.part.Part.{Part}
 use Rattle.lk_sound.proofs.FieldRows.{get_among, get_first}
-use Rattle.lk_sound.proofs.Members.{each_in}
+use Rattle.lk_types.proofs.Members.{each_in}
 use Rattle.lk_sound.proofs.TableRows.{cell_fields}
+use Rattle.lk_sound.proofs.UpdatedRows.{base_itself}
 use Rattle.lk_sound.specs.Instances.{Instances}
 use Rattle.lk_sound.specs.Values.{Fits, FieldsFit, field, no_field}
 use Rattle.lk_sql.specs.Operations.{truth}
+use Rattle.lk_types.proofs.Parts.{mapped}
 use Rattle.lk_types.specs.Each.{Each}
 use Rattle.lk_types.specs.Rows as rows
 use Rattle.lk_types.specs.Rows.{Label, fields_of}
 use Rattle.lk_types.specs.declared.ground.Ground.{Ground}
 use Rattle.lk_types.specs.declared.ground.Ground.TheVariants as known
 use Rattle.lk_types.specs.declared.ground.GroundField.{GroundField}
-use Rattle.lk_typing.proofs.Inverses.{mapped_was}
 use Rattle.lk_typing.specs.Names.{Named}
 use Rattle.lk_typing.specs.Types as types
 use Rattle.lk_typing.specs.Types.{record_of}
@@ -57,7 +58,7 @@ row_stands_for row r is = record {
 
 -- no other value is a base
 other_value : (v w : Value) (b : Base) → v ≡ value.Base b → v ≡ w → base_in w ≡ None → ⊥
-other_value v w b same is none = let wrong : None ≡ Some b = sym none ∙ ap base_in (sym is ∙ same) ∙ base_shown b in cc
+other_value v w b same is none = let wrong : None ≡ Some b = sym none ∙ ap base_in (sym is ∙ same) ∙ base_itself b in cc
 
 module _ (p : Program) (i : Instances) where
   base_typed : (v : Value) (b : Base) (t : Ground) → v ≡ value.Base b → Fits p i v t → is_base t ≡ true
@@ -115,11 +116,11 @@ module _ (p : Program) (i : Instances) where
     set_same (set ∷ sets) (t ∷ ts) [] fields left are has stand l old = absurd stand
     set_same (set ∷ sets) (t ∷ ts) (k ∷ numbers) fields left are has stand l old =
         let found : (x : Named Ground × List Ground) × (types.labelled (labels_of sets) ts ≡ Some x) × ((fields, left) ≡ ((set.label.text, t) ∷ x.0, x.1)) =
-        mapped_was (λ (x : Named Ground × List Ground). ((set.label.text, t) ∷ x.0, x.1)) (types.labelled (labels_of sets) ts) (fields, left) are in
+        mapped (λ (x : Named Ground × List Ground). ((set.label.text, t) ∷ x.0, x.1)) (types.labelled (labels_of sets) ts) (fields, left) are in
         let each : Each (λ (set : Label × Ground). HasField (record_of row) set.0 set.1) ((set.label.text, t) ∷ found.0.0) =
         subst (λ (x : Named Ground × List Ground). Each (λ (set : Label × Ground). HasField (record_of row) set.0 set.1) x.0) found.2 has in
         let of_base : is_base t ≡ true = field_base row r fits set.label.text t each.0 in
-        let shown : base_in (give set.expr) ≡ Some (alone k).base = ap base_in (stand.0.base of_base) ∙ base_shown (alone k).base in
+        let shown : base_in (give set.expr) ≡ Some (alone k).base = ap base_in (stand.0.base of_base) ∙ base_itself (alone k).base in
         by_test (bytes_eq set.label.text l) (sym (ap (λ o. unwrap_or o old) shown)) (set_same sets ts numbers found.0.0 found.0.1 found.1 each.1 stand.1 l old)
       where
         by_test : (b : Bool) → (alone k).base ≡ unwrap_or (base_in (give set.expr)) old → set_to parts values (labelled (labels_of sets) numbers) l old ≡ text_value l old sets

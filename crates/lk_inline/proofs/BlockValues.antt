@@ -23,6 +23,7 @@ use Rattle.lk_ast.specs.declared.value.Value.{Value, out-Value}
 use Rattle.lk_bodies.specs.Captured.{captured_as, numbered}
 use Rattle.lk_bodies.specs.Shapes.{column, columns_level, columns_of, kind_level, kind_of, labels}
 use Rattle.lk_ground_types.specs.Shapes.{is_base, is_flat, is_flat_row}
+use Rattle.lk_inline.proofs.Adding.{append_assoc}
 use Rattle.lk_inline.proofs.PutFields.{or_none}
 use Rattle.lk_inline.proofs.Standing.{base_stands, row_stands}
 use Rattle.lk_inline.specs.Stands.{AreDistinct, Stands, row_labels}
@@ -56,10 +57,6 @@ IsProper (captured.Row columns) = AreDistinct (labels columns)
 
 -- ---- lists of parameters
 
-append_assoc : {A : Type 0} (xs ys zs : List A) → (xs ++ ys) ++ zs ≡ xs ++ (ys ++ zs)
-append_assoc [] ys zs = refl
-append_assoc (x ∷ xs) ys zs = ap (λ rest. x ∷ rest) (append_assoc xs ys zs)
-
 parameter_at : (before : List Base) (b : Base) (rest : List Base) (k : ℕ) → k ≡ length before + 1 → parameter (before ++ (b ∷ rest)) k ≡ b
 parameter_at before b rest k is = ap (λ n. get_or (before ++ (b ∷ rest)) n zero_base) (let less : k - 1 ≡ length before = omega (arith, is) in less) ∙ there before
   where
@@ -72,7 +69,7 @@ parameter_at before b rest k is = ap (λ n. get_or (before ++ (b ∷ rest)) n ze
 abbrev cell_values : List Cell → List Base
 cell_values cells = map (λ (cell : Cell). cell.value) cells
 
-fit_labels : (columns : List Column) (cells : List Cell) → cells_fit columns cells ≡ true → map (λ (cell : Cell). cell.label) cells ≡ labels columns
+pub fit_labels : (columns : List Column) (cells : List Cell) → cells_fit columns cells ≡ true → map (λ (cell : Cell). cell.label) cells ≡ labels columns
 fit_labels [] [] fit = refl
 fit_labels [] (cell ∷ cells) fit = absurd cc
 fit_labels (c ∷ columns) [] fit = absurd cc

@@ -18,6 +18,7 @@ use Rattle.lk_index.specs.Free.{captured_change}
 use Rattle.lk_inline.proofs.BlockChanges.{walks_of}
 use Rattle.lk_inline.proofs.BlockForms.{IsChangeAlone}
 use Rattle.lk_inline.proofs.BlockStarts.{bound_length, bound_ordered}
+use Rattle.lk_inline.proofs.KindForms.{base_kind}
 use Rattle.lk_inline.proofs.KindHelpers.{helpers_kinded}
 use Rattle.lk_inline.proofs.KindInduction.{exprs_kinded}
 use Rattle.lk_inline.proofs.KindNodes.{taken_in_order}
@@ -34,7 +35,7 @@ use Rattle.lk_mono.specs.Instanced.{HasInstances}
 use Rattle.lk_names.specs.Programs.{IsBound}
 use Rattle.lk_query.proofs.Parts.{bind-other}
 use Rattle.lk_query.specs.Changed.{ReadNoTable}
-use Rattle.lk_query.specs.Kinds.{AreBasesIn, IsBaseIn, IsNoList, Kind, OfBase, OfRecord, kinds_from}
+use Rattle.lk_query.specs.Kinds.{AreBasesIn, IsBaseIn, IsNoList, Kind, OfRecord, kinds_from}
 use Rattle.lk_query.specs.Order.{bind}
 use Rattle.lk_query.specs.declared.part.Labelled.{Labelled}
 use Rattle.lk_query.specs.declared.part.Part.{Part}
@@ -50,31 +51,17 @@ use Rattle.lk_sound.specs.Instances.{Instances}
 use Rattle.lk_sound.specs.Nodes.{change_nodes, nodes_of}
 use Rattle.lk_sound.specs.Tables.{table_at}
 use Rattle.lk_sql.specs.Good.{are_distinct}
+use Rattle.lk_types.proofs.Parts.{mapped}
 use Rattle.lk_types.specs.Each.{Each}
 use Rattle.lk_types.specs.Rows.{Label, Row, fields_of}
-use Rattle.lk_types.specs.declared.ground.Ground.{Ground, out-Ground}
-use Rattle.lk_types.specs.declared.ground.Ground.TheOpen.{Ground-F}
+use Rattle.lk_types.specs.declared.ground.Ground.{Ground}
 use Rattle.lk_types.specs.declared.ground.Ground.TheVariants as known
-use Rattle.lk_types.specs.declared.ground.GroundField.{GroundField}
-use Rattle.lk_typing.proofs.Inverses.{mapped_was}
 use Rattle.lk_typing.specs.Names.{Entry, HasRows, Named, named, names_of, types_of}
 use Rattle.lk_typing.specs.Types as types
 use Rattle.lk_typing.specs.Types.{record_of}
 use Rattle.lk_typing.specs.Typing.{HasField, IsChange, labels_of, changed as is_change, more}
 
 -- ---- kinds of types
-
-base_kind : (t : Ground) → is_base t ≡ true → kind_of_type t ≡ OfBase
-base_kind t is = by_form (out-Ground t) is
-  where
-    by_form : (l : Ground-F Ground GroundField) → base_level l ≡ true → kind_level l ≡ OfBase
-    by_form Ground-F.Int base = refl
-    by_form Ground-F.Bool base = refl
-    by_form Ground-F.Text base = refl
-    by_form (Ground-F.List a) base = let wrong : false ≡ true = base in absurd cc
-    by_form (Ground-F.Fields gs) base = let wrong : false ≡ true = base in absurd cc
-    by_form (Ground-F.Tags gs) base = let wrong : false ≡ true = base in absurd cc
-    by_form (Ground-F.Fun ts es a) base = let wrong : false ≡ true = base in absurd cc
 
 record_kind : (row : Row) → kind_of_type (record_of row) ≡ OfRecord (labels (columns_of (record_of row)))
 record_kind row = ap kind_level (known.outs-Fields (fields_of row)) ∙ ap (λ l. OfRecord (labels (columns_level l))) (sym (known.outs-Fields (fields_of row)))
@@ -89,7 +76,7 @@ set_labels (l ∷ ls) [] ns fields left before are within none = let wrong : Non
 set_labels (l ∷ ls) (t ∷ ts) [] fields left before are within none = absurd within
 set_labels (l ∷ ls) (t ∷ ts) (k ∷ ns) fields left before are within none =
     let found : (x : Named Ground × List Ground) × (types.labelled ls ts ≡ Some x) × ((fields, left) ≡ ((l, t) ∷ x.0, x.1)) =
-    mapped_was (λ (x : Named Ground × List Ground). ((l, t) ∷ x.0, x.1)) (types.labelled ls ts) (fields, left) are in
+    mapped (λ (x : Named Ground × List Ground). ((l, t) ∷ x.0, x.1)) (types.labelled ls ts) (fields, left) are in
     ap (λ rest. l ∷ rest) (set_labels ls ts ns found.0.0 found.0.1 before found.1 within.1 (sym (ap (λ (x : Named Ground × List Ground). x.1) found.2) ∙ none))
 
 no_bound : (xs : List Label) → ReadNoTable (bound_parts xs)
@@ -254,7 +241,7 @@ module _ (p : Program) (bound : IsBound p) (g : GroundProgram) (has : HasInstanc
     bases_in (l ∷ labels) (t ∷ ts) [] fields left are bases within seen = absurd within
     bases_in (l ∷ labels) (t ∷ ts) (k ∷ ns) fields left are bases within seen =
         let found : (x : Named Ground × List Ground) × (types.labelled labels ts ≡ Some x) × ((fields, left) ≡ ((l, t) ∷ x.0, x.1)) =
-        mapped_was (λ (x : Named Ground × List Ground). ((l, t) ∷ x.0, x.1)) (types.labelled labels ts) (fields, left) are in
+        mapped (λ (x : Named Ground × List Ground). ((l, t) ∷ x.0, x.1)) (types.labelled labels ts) (fields, left) are in
         let all_bases : Each (λ (set : Label × Ground). is_base set.1 ≡ true) ((l, t) ∷ found.0.0) = subst (λ (x : Named Ground × List Ground). Each (λ (set : Label × Ground). is_base set.1 ≡ true) x.0) found.2 bases in
         (base_in t k all_bases.0 within.0 seen.0, bases_in labels ts ns found.0.0 found.0.1 found.1 all_bases.1 within.1 seen.1)
 

@@ -27,8 +27,9 @@ use Rattle.lk_query.specs.declared.part.Part.{Part}
 use Rattle.lk_sites.specs.Pending.{pending}
 use Rattle.lk_sites.specs.Takes.{Takes}
 use Rattle.lk_sound.proofs.Apart.{params_apart}
-use Rattle.lk_sound.proofs.Bags.{before_caller, bound_all, called_fits, length_names, length_texts, no_locals}
+use Rattle.lk_sound.proofs.Bags.{before_caller, called_fits}
 use Rattle.lk_sound.proofs.Bindings.{bound_each, moved}
+use Rattle.lk_sound.proofs.Calls.{length_names, length_texts, bound_all, no_locals}
 use Rattle.lk_sound.proofs.Fitting.{as_many}
 use Rattle.lk_sound.proofs.Names.{AreDistinct, IsAmong}
 use Rattle.lk_sound.proofs.QueryParts.{AreQueryNodes, IsEarly}

@@ -21,7 +21,7 @@ use Rattle.lk_bag.specs.Bag.{value_of}
 use Rattle.lk_bodies.specs.Shapes.{columns_of, labels}
 use Rattle.lk_ground_types.specs.Shapes.{is_base, is_flat_row}
 use Rattle.lk_inline.proofs.OperatorValues.{same_bases}
-use Rattle.lk_inline.proofs.RowLabels.{bytes_itself, cell_labels, cell_skipped, cells_fit, row_fits_labels}
+use Rattle.lk_inline.proofs.RowLabels.{cell_labels, cell_skipped, cells_fit, row_fits_labels}
 use Rattle.lk_inline.proofs.Standing.{base_stands, bool_is}
 use Rattle.lk_inline.specs.Stands.{AreDistinct, Stands, row_labels}
 use Rattle.lk_operators.specs.Operators.{operated}
@@ -30,7 +30,7 @@ use Rattle.lk_operators.specs.Values.{base_in, fields_in, list_in, tag_in}
 use Rattle.lk_query.specs.Given.{Given, equal_from, equal_rows, of_base}
 use Rattle.lk_sound.proofs.FlatTypes.{IsFlatRow, first_holds, flat_row_is, second_holds}
 use Rattle.lk_sound.proofs.Shapes.{fields_shown}
-use Rattle.lk_sound.proofs.TableRows.{cell_fields}
+use Rattle.lk_sound.proofs.TableRows.{cell_fields, bytes_itself}
 use Rattle.lk_sound.specs.Instances.{Instances}
 use Rattle.lk_sound.specs.Values.{Fits, FieldsFit, field}
 use Rattle.lk_sql.specs.Meaning.{cell_in}

@@ -11,7 +11,7 @@ use Rattle.lk_scope.specs.Names.{Names, bind, bind_all, bind_some, is_local}
 use Rattle.lk_sites.specs.Pending.{Pending}
 use Rattle.lk_sites.specs.Takes.{Takes, called, none as taken, other}
 use Rattle.lk_sound.proofs.FreeLevels.{case_level, change_level, free_all, free_cases, free_delete, free_for_list, free_for_table, free_lambda_form, free_plain, free_query, free_switch, free_switch_open, free_update, free_var, own_uses}
-use Rattle.lk_sound.proofs.Members.{one_in_back, one_in_front, one_of_both}
+use Rattle.lk_types.proofs.Members.{one_in_back, one_in_front, one_of_both}
 use Rattle.lk_sound.proofs.Names.{IsAmong}
 use Rattle.lk_sound.proofs.Standing.{Binds, binds_all, binds_held, binds_one, named_behind}
 use Rattle.lk_sound.specs.Nodes.{TypedNode, Use, case_nodes, change_nodes, each_nodes, nodes_of}

@@ -1,5 +1,5 @@
 -- What a walk makes of an expression of a query, by its typing: parts that stand for what it gives.
-use Rattle.std.proofs.Common.{◌≡◌, ℕ, ◌<◌, Bool, true, false, List, [], ◌∷◌, ◌++◌, drop, length, map, Option, Some, None, slice_get, refl, sym, ◌∙◌, ap, ap₂, subst}
+use Rattle.std.proofs.Common.{◌≡◌, ℕ, Bool, true, false, List, [], ◌∷◌, ◌++◌, drop, length, map, Some, None, refl, sym, ◌∙◌, ap, subst}
 use Rattle.lk_ast.specs.Layers.{Layer, layer}
 use Rattle.lk_ast.specs.Tables.{Tables, tables_of}
 use Rattle.lk_ast.specs.declared.declaration.Program.{Program}
@@ -10,11 +10,11 @@ use Rattle.lk_ast.specs.declared.place.Word.{Word}
 use Rattle.lk_ast.specs.declared.value.Value.{Value}
 use Rattle.lk_bag.proofs.Given.{all_given, given_for_list, given_for_table}
 use Rattle.lk_bag.specs.Bag.{for_each, given, items}
-use Rattle.lk_bodies.specs.Walk.{Calls, Made, Several, State, add, all, behind_type, walk}
-use Rattle.lk_ground_types.specs.Shapes.{are_rows, is_query_type}
-use Rattle.lk_inline.proofs.Adding.{at_end, grows_one, ordered_add, still_within}
+use Rattle.lk_bodies.specs.Walk.{Calls, Made, State, add, all, behind_type, walk}
+use Rattle.lk_ground_types.specs.Shapes.{is_query_type}
+use Rattle.lk_inline.proofs.Adding.{at_end, grows_one, ordered_add}
 use Rattle.lk_inline.proofs.CallArms.{CallsMade, TakesFirst, call_arm, called, other, takes_behind, takes_first}
-use Rattle.lk_inline.proofs.Following.{IsBy, operator_made}
+use Rattle.lk_inline.proofs.Following.{operator_made}
 use Rattle.lk_inline.proofs.Inducing.{number_bound, query_made, var_made, walk_form}
 use Rattle.lk_inline.proofs.Looping.{loop_made}
 use Rattle.lk_inline.proofs.Making.{AreMade, HaveNumbers, IsMade, all_more, left, more_made, none_made, numbers_grow, same_value}
@@ -22,14 +22,13 @@ use Rattle.lk_inline.proofs.Operating.{from_behind}
 use Rattle.lk_inline.proofs.QueryTypes.{list_rows, rows_flat}
 use Rattle.lk_locals.specs.Names.{Names}
 use Rattle.lk_query.specs.Order.{AreOrdered}
-use Rattle.lk_query.specs.declared.part.Part.{Part}
 use Rattle.lk_query.specs.declared.part.Part.TheVariants as part
 use Rattle.lk_sites.proofs.Takes.{takes_split}
 use Rattle.lk_sites.specs.Pending.{Pending, pending}
 use Rattle.lk_sites.specs.Takes.{Takes}
 use Rattle.lk_sound.proofs.Bags.{parts_fit, value_fits}
 use Rattle.lk_sound.proofs.FlatTypes.{function_not_flat, unit_not_flat}
-use Rattle.lk_sound.proofs.Members.{each_in}
+use Rattle.lk_types.proofs.Members.{each_in, each_front, each_back}
 use Rattle.lk_sound.proofs.QueryParts.{AreQueryNodes, IsEarly, IsQueryNode, node_type, part_types}
 use Rattle.lk_sound.proofs.QueryValues.{CallsFit, never_both}
 use Rattle.lk_sound.specs.Instances.{AreClosed, HasBody, Instances, IsHelperNode}
@@ -42,7 +41,6 @@ use Rattle.lk_types.specs.Rows.{Label, EffectSet}
 use Rattle.lk_types.specs.declared.ground.Ground.{Ground}
 use Rattle.lk_types.specs.declared.ground.Ground.TheVariants as known
 use Rattle.lk_types.specs.declared.ty.Effect.TheVariants as effect
-use Rattle.lk_typing.proofs.Lists.{each_back, each_front}
 use Rattle.lk_typing.specs.Heads as operator
 use Rattle.lk_typing.specs.Heads.{Head, head, parts}
 use Rattle.lk_typing.specs.Names.{Entry, Named, types_of}

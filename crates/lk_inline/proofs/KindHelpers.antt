@@ -1,8 +1,7 @@
 -- The kinds of what calls of helpers make: the parts of their bodies, under names that are bound to parts of the arguments' kinds.
-use Rattle.std.proofs.Common.{◌≡◌, ℕ, zero, suc, ◌<◌, true, false, List, [], ◌∷◌, ◌++◌, append-nil, Some, slice_get, refl, sym, ◌∙◌, ap, subst, arith}
-use Rattle.lk_ast.specs.Tables.{Tables, all_fit, table_defs}
+use Rattle.std.proofs.Common.{◌≡◌, ℕ, zero, suc, ◌<◌, false, List, [], ◌∷◌, ◌++◌, append-nil, Some, refl, sym, ◌∙◌, ap, subst, arith}
+use Rattle.lk_ast.specs.Tables.{Tables, table_defs}
 use Rattle.lk_ast.specs.declared.declaration.Program.{Program}
-use Rattle.lk_ast.specs.declared.table.TableDef.{TableDef}
 use Rattle.lk_bodies.proofs.Levels.{called_more}
 use Rattle.lk_bodies.specs.Walk.{Made, bound, called, entered}
 use Rattle.lk_ground.specs.Language.{function_of}
@@ -26,9 +25,11 @@ use Rattle.lk_sound.proofs.Apart.{params_apart}
 use Rattle.lk_sound.proofs.Bags.{before_caller}
 use Rattle.lk_sound.proofs.Bindings.{moved}
 use Rattle.lk_sound.proofs.Names.{AreDistinct}
+use Rattle.lk_sound.proofs.UpdatedRows.{no_rows}
 use Rattle.lk_sound.specs.Instances.{AreClosed, Instances, number_of}
 use Rattle.lk_sound.specs.Nodes.{Use, nodes_of}
 use Rattle.lk_sound.specs.Tables.{AreTables}
+use Rattle.lk_types.proofs.Members.{each_at}
 use Rattle.lk_types.specs.Each.{Each}
 use Rattle.lk_types.specs.Rows.{EffectSet}
 use Rattle.lk_types.specs.declared.ground.Ground.{Ground}
@@ -36,11 +37,6 @@ use Rattle.lk_types.specs.declared.ty.Effect.TheVariants as effect
 use Rattle.lk_typing.proofs.Samples.Types.{same_answer, same_effects, same_params}
 use Rattle.lk_typing.specs.Names.{Named, names_of, types_of}
 use Rattle.lk_typing.specs.Types.{function_of as function_type}
-
-each_at : {A : Type 0} (P : A → Type 0) (xs : List A) (n : ℕ) (x : A) → slice_get xs n ≡ Some x → Each P xs → P x
-each_at P [] n x is each = absurd cc
-each_at P (y ∷ xs) zero x is each = let same : y ≡ x = cc in subst P same each.0
-each_at P (y ∷ xs) (suc n) x is each = each_at P xs n x is each.1
 
 -- the names of parameters
 params_known : (scope : Scope) (known : Descriptions) (params : Named Ground) (ns : List ℕ) (locals : Named Ground) (numbers : Named ℕ) (parts : List Part) → AreDistinct (names_of params) → AreWithin (types_of params) ns parts
@@ -90,10 +86,6 @@ module _ (p : Program) (i : Instances) (bound_names : IsBound p) (closed : AreCl
       (entered_kinded n (calls_kinded helpers_at n) u below h at ts effects a type_is own traps scope known numbers parts ordered described within seen)
 
 -- ---- ground programs
-
-no_rows : (defs : List TableDef) → Each (λ (def : TableDef). all_fit def [] ≡ true) defs
-no_rows [] = tt
-no_rows (def ∷ defs) = (refl, no_rows defs)
 
 -- what calls in a ground program make, where the columns of lists stand in order in its helpers
 pub helpers_kinded : (p : Program) (bound : IsBound p) (g : GroundProgram) (has : HasInstances p g) → Each (λ (f : GroundFun). Each IsInOrder f.types) g.helpers → (n : ℕ) → CallsKinded p has.shaped.instances (called g.helpers n) n

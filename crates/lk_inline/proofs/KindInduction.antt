@@ -26,7 +26,7 @@ use Rattle.lk_sites.proofs.Takes.{takes_split}
 use Rattle.lk_sites.specs.Pending.{Pending, pending}
 use Rattle.lk_sites.specs.Takes.{Takes}
 use Rattle.lk_sound.proofs.FlatTypes.{function_not_flat, unit_not_flat}
-use Rattle.lk_sound.proofs.Members.{each_in}
+use Rattle.lk_types.proofs.Members.{each_in, each_front, each_back}
 use Rattle.lk_sound.proofs.QueryParts.{AreQueryNodes, IsEarly, IsQueryNode, node_type, part_types}
 use Rattle.lk_sound.proofs.QueryValues.{never_both}
 use Rattle.lk_sound.specs.Instances.{AreClosed, HasBody, Instances, IsHelperNode}
@@ -36,7 +36,6 @@ use Rattle.lk_types.specs.Rows.{EffectSet, Label}
 use Rattle.lk_types.specs.declared.ground.Ground.{Ground}
 use Rattle.lk_types.specs.declared.ground.Ground.TheVariants as known_type
 use Rattle.lk_types.specs.declared.ty.Effect.TheVariants as effect
-use Rattle.lk_typing.proofs.Lists.{each_back, each_front}
 use Rattle.lk_typing.specs.Heads.{parts}
 use Rattle.lk_typing.specs.Names.{Entry, Named, types_of}
 use Rattle.lk_typing.specs.Typing.{HasType, HaveTypes, delete, expr_of, for_list, for_table, label_of, lambda, more, none, plain, query, switch, switch_open, update, var}

@@ -14,8 +14,9 @@ use Rattle.lk_inline.proofs.Inducing.{walk_form}
 use Rattle.lk_inline.proofs.KindArms.{Makes, Parts}
 use Rattle.lk_inline.proofs.KindForms.{base_kind, list_kind, record_columns, row_kind, type_columns}
 use Rattle.lk_inline.proofs.KindOperands.{own_part}
-use Rattle.lk_inline.proofs.KindSteps.{adds_both, adds_one, all_seen_later, finished_kinded, from_behind_type, kind_added, kind_behind, next_has, next_seen, with_part, within_later}
+use Rattle.lk_inline.proofs.KindSteps.{adds_both, adds_one, all_seen_later, finished_kinded, from_behind_type, kind_added, kind_behind, next_has, next_seen, with_part}
 use Rattle.lk_inline.proofs.KindsMade.{Adds, AreKinded, AreSeen, Descriptions, IsKinded, IsSeen, Scope, kinds_of, scopes_of}
+use Rattle.lk_inline.proofs.Making.{within_grows}
 use Rattle.lk_inline.proofs.QueryTypes.{list_rows, record_row, rows_flat}
 use Rattle.lk_inline.proofs.RecordArms.{all_below, all_labelled, all_last, below_front, last_map, rest_each, walks_of_fields}
 use Rattle.lk_inline.proofs.RecordRules.{bases_in, flat_bases, labelled_types}
@@ -108,7 +109,7 @@ module _ (functions : Named (Entry Ground)) (tables : List TableDecl) (locals : 
       let x : Part = part.Extend (labels (columns_of t)) (labelled ls m.numbers) rest in
       let then : Descriptions = with_part are.later rest (OfRecord []) scope in
       let empty : Adds scans are.later m.state.parts then last.parts = adds_one scans are.later m.state.parts (part.Record []) (OfRecord []) scope are.adds.ordered are.adds.typed tt (refl, tt) tt (λ off. refl) in
-      let below : AllBelow (length last.parts) m.numbers = all_below ts m.numbers last.parts (within_later ts m.numbers m.state.parts last.parts empty.grows are.within) in
+      let below : AllBelow (length last.parts) m.numbers = all_below ts m.numbers last.parts (within_grows ts m.numbers m.state.parts last.parts empty.grows are.within) in
       let bases : Each (λ t. is_base t ≡ true) ts =
       subst (Each (λ t. is_base t ≡ true)) (sym (labelled_types (map label_of items) ts found [] known_fields ∙ append-nil (types_of found))) (base_types found (bases_in found _ row made (flat_bases row row_is))) in
       let seen : AreSeen then scope ts m.numbers = all_seen_later are.later then scope ts m.numbers m.state.parts empty.same are.within are.are in

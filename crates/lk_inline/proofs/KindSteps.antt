@@ -3,7 +3,7 @@ use Rattle.std.proofs.Common.{◌≡◌, ℕ, ◌<◌, ◌==◌, Bool, true, fal
 use Rattle.std.proofs.lemmas.List.Folds.{list_any-append}
 use Rattle.std.proofs.lemmas.Option.{slice_get_within}
 use Rattle.lk_bodies.specs.Walk.{Made, Several, State, add, behind_type}
-use Rattle.lk_inline.proofs.Adding.{Grows, at_end, behind_list, grows_both, grows_none, grows_one, ordered_add, still_within}
+use Rattle.lk_inline.proofs.Adding.{at_end, behind_list, grows_both, grows_none, grows_one, ordered_add, still_within}
 use Rattle.lk_inline.proofs.KindsMade.{Adds, AreDescribed, AreKinded, AreKnown, AreSeen, Described, Descriptions, HasKind, IsKinded, IsSeen, Scope, described, is_same, kinds_of, scopes_of}
 use Rattle.lk_inline.proofs.Making.{AreWithin, left}
 use Rattle.lk_inline.specs.KindsOfTypes.{kind_of_type}
@@ -36,12 +36,6 @@ all_seen_later known later scope [] (k ∷ numbers) parts same within seen = see
 all_seen_later known later scope (t ∷ ts) [] parts same within seen = seen
 all_seen_later known later scope (t ∷ ts) (k ∷ numbers) parts same within seen =
     (seen_later known later scope (kind_of_type t) k (same k within.0) seen.0, all_seen_later known later scope ts numbers parts same within.1 seen.1)
-
-pub within_later : (ts : List Ground) (numbers : List ℕ) (parts later : List Part) → Grows parts later → AreWithin ts numbers parts → AreWithin ts numbers later
-within_later [] [] parts later grows within = tt
-within_later [] (k ∷ numbers) parts later grows within = within
-within_later (t ∷ ts) [] parts later grows within = within
-within_later (t ∷ ts) (k ∷ numbers) parts later grows within = (still_within grows k within.0, within_later ts numbers parts later grows within.1)
 
 -- ---- names
 

@@ -7,6 +7,7 @@ use Rattle.lk_inline.proofs.PutFields.{entry_labels}
 use Rattle.lk_inline.specs.Stands.{AreDistinct}
 use Rattle.lk_sql.proofs.Labels.{distinct-in_order}
 use Rattle.lk_sql.specs.Good.{are_distinct, are_in_order, is_there}
+use Rattle.lk_types.proofs.LabelMaps.{first_holds, second_holds}
 use Rattle.lk_types.specs.Each.{OneOf}
 use Rattle.lk_types.specs.Rows.{Label, label_order}
 
@@ -63,14 +64,6 @@ both_true : (a b : Bool) → T (a && b) → (a ≡ true) × T b
 both_true true b p = (refl, p)
 both_true false b p = absurd p
 
-front : (a b : Bool) → T (a && b) → T a
-front true b p = tt
-front false b p = absurd p
-
-back : (a b : Bool) → T (a && b) → T b
-back true b p = p
-back false b p = absurd p
-
 first_in_order : {X : Type 0} (l : Label) (es : List (Label × X)) → T (below_all label_order l es) → are_in_order (entry_labels es) ≡ true → are_in_order (l ∷ entry_labels es) ≡ true
 first_in_order l [] below rest = refl
 first_in_order l (e ∷ es) below rest = ap₂ (λ a b. a && b) (both_true _ _ below).0 rest
@@ -78,4 +71,4 @@ first_in_order l (e ∷ es) below rest = ap₂ (λ a b. a && b) (both_true _ _ b
 -- they stand in order
 pub sorted_in_order : {X : Type 0} (es : List (Label × X)) → T (fin.is_sorted label_order es) → are_in_order (entry_labels es) ≡ true
 sorted_in_order [] sorted = refl
-sorted_in_order (e ∷ es) sorted = first_in_order e.0 es (front _ _ sorted) (sorted_in_order es (back _ _ sorted))
+sorted_in_order (e ∷ es) sorted = first_in_order e.0 es (first_holds _ _ sorted) (sorted_in_order es (second_holds _ _ sorted))

@@ -30,8 +30,8 @@ use Rattle.lk_sound.proofs.Bags.{all_early}
 use Rattle.lk_sound.proofs.Names.{IsAmong}
 use Rattle.lk_sound.specs.Instances.{Instances}
 use Rattle.lk_sound.specs.Nodes.{change_nodes, nodes_of}
+use Rattle.lk_types.proofs.Parts.{same_some}
 use Rattle.lk_types.specs.Rows.{Label}
-use Rattle.lk_typing.proofs.Values.{just}
 use Rattle.lk_typing.specs.Names.{named}
 
 module _ (p : Program) (bound : IsBound p) (g : GroundProgram) (has : HasInstances p g) (site : Site) (block : IsBlock p has.shaped.instances site.block site.types site.calls) where
@@ -65,7 +65,7 @@ module _ (p : Program) (bound : IsBound p) (g : GroundProgram) (has : HasInstanc
 
   -- what is found at such a form is what keeps its meaning
   found_kept : (l : Layer) (made found : Inlined) → Some made ≡ Some found → IsProperBlock found → (IsProperBlock made → Keeps p site.block l made) → Keeps p site.block l found
-  found_kept l made found is proper kept = let same : made ≡ found = just is in subst (Keeps p site.block l) same (kept (subst IsProperBlock (sym same) proper))
+  found_kept l made found is proper kept = let same : made ≡ found = same_some is in subst (Keeps p site.block l) same (kept (subst IsProperBlock (sym same) proper))
 
   by_form : (l : Layer) → layer site.block ≡ l → (found : Inlined) → inlined_by p g.helpers site l ≡ Some found → IsProperBlock found → Keeps p site.block l found
   by_form (Node-F.Query keys body) is found at proper = found_kept (Node-F.Query keys body) (query_at p g.helpers site keys body) found at proper (query_kept keys body is)

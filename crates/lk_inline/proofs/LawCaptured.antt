@@ -32,8 +32,8 @@ use Rattle.lk_sites.specs.Sites.{Site}
 use Rattle.lk_sound.proofs.Bags.{all_early}
 use Rattle.lk_sound.specs.Instances.{Instances}
 use Rattle.lk_sound.specs.Nodes.{change_nodes, nodes_of}
+use Rattle.lk_types.proofs.Parts.{same_some}
 use Rattle.lk_types.specs.Rows.{Label}
-use Rattle.lk_typing.proofs.Values.{just}
 use Rattle.lk_typing.specs.Names.{types_of}
 
 module _ (p : Program) (g : GroundProgram) (has : HasInstances p g) (site : Site) (block : IsBlock p has.shaped.instances site.block site.types site.calls) (names : Names)
@@ -84,12 +84,12 @@ module _ (p : Program) (g : GroundProgram) (has : HasInstances p g) (site : Site
       names_are (writes site.block.span) act_is (λ args. refl)
 
   pub by_form : (l : Layer) → layer site.block ≡ l → (found : Inlined) → inlined_by p g.helpers site l ≡ Some found → Found found
-  by_form (Node-F.Query keys body) is found at = subst Found (just at) (query_captures keys body is)
-  by_form (Node-F.Table name) is found at = subst Found (just at) (reading_captures name is)
+  by_form (Node-F.Query keys body) is found at = subst Found (same_some at) (query_captures keys body is)
+  by_form (Node-F.Table name) is found at = subst Found (same_some at) (reading_captures name is)
   by_form (Node-F.Update change) is found at =
-      subst Found (just at) (change_captures change (update_block p i block.functions block.typed change is block.fine site.types site.calls block.after block.takes) (ap captured_by is) (ap acts is))
+      subst Found (same_some at) (change_captures change (update_block p i block.functions block.typed change is block.fine site.types site.calls block.after block.takes) (ap captured_by is) (ap acts is))
   by_form (Node-F.Delete change) is found at =
-      subst Found (just at) (change_captures change (delete_block p i block.functions block.typed change is block.fine site.types site.calls block.after block.takes) (ap captured_by is) (ap acts is))
+      subst Found (same_some at) (change_captures change (delete_block p i block.functions block.typed change is block.fine site.types site.calls block.after block.takes) (ap captured_by is) (ap acts is))
   by_form other is found at = let wrong : None ≡ Some found = at in absurd cc
 
 pub blocks-capture : CapturedLaw

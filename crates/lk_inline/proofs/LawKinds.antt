@@ -29,13 +29,13 @@ use Rattle.lk_query.specs.declared.query.Inlined.{Inlined}
 use Rattle.lk_sites.specs.Blocks.{IsBlock}
 use Rattle.lk_sites.specs.Sites.{Site}
 use Rattle.lk_sound.proofs.Bags.{all_early}
-use Rattle.lk_sound.proofs.Members.{each_weaker}
+use Rattle.lk_types.proofs.Members.{each_weaker}
 use Rattle.lk_sound.specs.Instances.{Instances}
 use Rattle.lk_sound.specs.Nodes.{change_nodes, nodes_of}
 use Rattle.lk_sql.specs.Good.{are_distinct}
+use Rattle.lk_types.proofs.Parts.{same_some}
 use Rattle.lk_types.specs.Each.{Each, OneOf}
 use Rattle.lk_types.specs.declared.ground.Ground.{Ground}
-use Rattle.lk_typing.proofs.Values.{just}
 
 -- types whose records have labels in order
 lists_in_order : (types : List Ground) → Each IsProperType types → Each IsInOrder types
@@ -74,12 +74,12 @@ module _ (p : Program) (bound : IsBound p) (g : GroundProgram) (has : HasInstanc
       distinct
 
   by_form : (l : Layer) → layer site.block ≡ l → (found : Inlined) → inlined_by p g.helpers site l ≡ Some found → HasKinds p found
-  by_form (Node-F.Query keys body) is found at = subst (HasKinds p) (just at) (query_kinded keys body is)
-  by_form (Node-F.Table name) is found at = subst (HasKinds p) (just at) (reading_kinded name is)
+  by_form (Node-F.Query keys body) is found at = subst (HasKinds p) (same_some at) (query_kinded keys body is)
+  by_form (Node-F.Table name) is found at = subst (HasKinds p) (same_some at) (reading_kinded name is)
   by_form (Node-F.Update change) is found at =
-      subst (HasKinds p) (just at) (change_kinded change (update_block p i block.functions block.typed change is block.fine site.types site.calls block.after block.takes) (update_apart p bound site.block of_text change is))
+      subst (HasKinds p) (same_some at) (change_kinded change (update_block p i block.functions block.typed change is block.fine site.types site.calls block.after block.takes) (update_apart p bound site.block of_text change is))
   by_form (Node-F.Delete change) is found at =
-      subst (HasKinds p) (just at) (change_kinded change (delete_block p i block.functions block.typed change is block.fine site.types site.calls block.after block.takes) (delete_apart p bound site.block of_text change is))
+      subst (HasKinds p) (same_some at) (change_kinded change (delete_block p i block.functions block.typed change is block.fine site.types site.calls block.after block.takes) (delete_apart p bound site.block of_text change is))
   by_form other is found at = let wrong : None ≡ Some found = at in absurd cc
 
 pub kinds-had : KindsLaw

@@ -20,7 +20,7 @@ use Rattle.lk_ground.specs.declared.program.GroundProgram.{GroundProgram}
 use Rattle.lk_index.specs.Free.{in_byte_order}
 use Rattle.lk_inline.proofs.CapturedValues.{HaveTheirs}
 use Rattle.lk_inline.proofs.LawCaptured.{by_form}
-use Rattle.lk_inline.proofs.UsesOrder.{ordered_of}
+use Rattle.lk_sound.proofs.OrderedWords.{ordered_of}
 use Rattle.lk_inline.specs.Inlined.{inlined_at}
 use Rattle.lk_inline.specs.Law.{Captures, CapturesIn, CapturesThere, IsOfSite, SessionCapturedLaw, captured_of}
 use Rattle.lk_locals.specs.Names.{Names, lookup, lookup_all}
@@ -35,7 +35,7 @@ use Rattle.lk_sites.specs.Law.{IsFirstOf, IsSiteOf}
 use Rattle.lk_sites.specs.Sites.{Site, sites_of}
 use Rattle.lk_sound.proofs.Evaluating.{session_law}
 use Rattle.lk_sound.proofs.Free.{change_known, known_in as names_known}
-use Rattle.lk_sound.proofs.Members.{found_in}
+use Rattle.lk_types.proofs.Members.{found_in}
 use Rattle.lk_sound.proofs.Names.{IsAmong}
 use Rattle.lk_sound.proofs.TextBlocks.{IsBlockOf, block_found}
 use Rattle.lk_sound.specs.Captures as sound
@@ -45,10 +45,10 @@ use Rattle.lk_sound.specs.Law.{AreAnswered, AreBoundAndApart}
 use Rattle.lk_sound.specs.Nodes.{Block, TypedNode, known_in, nodes_of, type_before}
 use Rattle.lk_sound.specs.Outcomes.{Allows, IsOutcome}
 use Rattle.lk_sound.specs.Values.{Fits}
+use Rattle.lk_types.proofs.Parts.{same_some}
 use Rattle.lk_types.specs.Each.{Each, OneOf}
 use Rattle.lk_types.specs.Rows.{EffectSet, Label}
 use Rattle.lk_types.specs.declared.ground.Ground.{Ground}
-use Rattle.lk_typing.proofs.Values.{just}
 use Rattle.lk_typing.specs.Names.{Entry as Known, Named, named}
 use Rattle.lk_typing.specs.Typing.{HasType, plain, lambda, var, switch, switch_open, for_list, for_table, query, update, delete}
 
@@ -68,7 +68,7 @@ module _ (p : Program) (i : Instances) (locals : Named Ground) (names : Names) w
 
   its_value : (x : Label) (xs : List Label) (ts : List Ground) (o : Option Ground) → named x locals ≡ o → IsSome o → HaveValuesOf p i names (x ∷ xs) (type_before o ts) → HasIts x × HaveValuesOf p i names xs ts
   its_value x xs ts None is some have = absurd cc
-  its_value x xs ts (Some u) is some have = (λ t of. subst (λ a. (v : Value) × (lookup names x ≡ Some v) × Fits p i v a) (just (sym is ∙ of)) have.0, have.1)
+  its_value x xs ts (Some u) is some have = (λ t of. subst (λ a. (v : Value) × (lookup names x ≡ Some v) × Fits p i v a) (same_some (sym is ∙ of)) have.0, have.1)
 
   value_at : (words : List Label) → ((x : Label) → IsAmong x words → IsSome (named x locals)) → HaveValuesOf p i names words (known_in locals words) → (x : Label) → IsAmong x words → HasIts x
   value_at [] known have x among = absurd among
@@ -101,7 +101,7 @@ by_block {locals = locals} {e = e} part_block own node its first l is own_is spa
     (record {
       span = ap (λ (n : TypedNode). n.part.span) (sym first.same) ∙ span;
       known = known;
-      are = ap (λ (b : Block). b.captured) (just (sym first.block ∙ own_is)) ∙ captured;
+      are = ap (λ (b : Block). b.captured) (same_some (sym first.block ∙ own_is)) ∙ captured;
     })
 
 none_told : {locals : Named Ground} {e : Expr} (own node : TypedNode) (its : Block) (l : Layer) → IsFirst own node its → own.block ≡ None → IsTold locals e node its.captured l
@@ -145,13 +145,13 @@ module _ (p : Program) (apart : AreBoundAndApart p) (g : GroundProgram) (has : H
       let theirs : HaveValuesOf p i names (free_in l) (known_in block.locals (free_in l)) = subst (HaveValuesOf p i names (free_in l)) told_it.are have in
       let fit : HaveTheirs p i block.locals names (captured_in site.block) = λ x among. value_at p i block.locals names (free_in l) told_it.known theirs x (ordered_of (free_in l) x (subst (IsAmong x) (captured_free l is) among)) in
       let captures : Captures p site.block names found = by_form p g has site block names fit l refl found at in
-      subst (AreCaptured (captured_of found)) (just (sym captures.values ∙ values)) captures.are
+      subst (AreCaptured (captured_of found)) (same_some (sym captures.values ∙ values)) captures.are
 
   -- two blocks of the program that begin at one place are one
   same_block : (place : ℕ) (block other : Expr) → block_at p place ≡ Some block → IsBlockOf p other → other.span ≡ block.span → block ≡ other
   same_block place block other there of same =
       let one : block_at p block.span.start ≡ Some block = block_found p block apart.blocks (found_in (begins place) (blocks_of p) block there).0 in
-      just (sym one ∙ ap (λ (span : Span). block_at p span.start) (sym same) ∙ block_found p other apart.blocks of)
+      same_some (sym one ∙ ap (λ (span : Span). block_at p span.start) (sym same) ∙ block_found p other apart.blocks of)
 
   captured_so : (place : ℕ) (block : Expr) (args : List Value) → block_at p place ≡ Some block → is_block (layer block) ≡ true → HasCaptured p i block args → IsOfSite p g block args
   captured_so place block args there is it =
@@ -190,6 +190,6 @@ module _ (p : Program) (apart : AreBoundAndApart p) (g : GroundProgram) (has : H
 pub sessions-capture : SessionCapturedLaw
 sessions-capture p apart g has main is arg fuel answers =
     let shaped = has.shaped in
-    let same : shaped.main ≡ main = just (sym shaped.is ∙ is) in
+    let same : shaped.main ≡ main = same_some (sym shaped.is ∙ is) in
     subst (λ f. AreAnswered p (session p f arg (start fuel answers)) → Each (λ (entry : Entry). CapturesIn p g entry.event) (run_of (session p f arg (start fuel answers))).log) same
     (λ answered. out_so p apart g has shaped.effects (λ v. Fits p shaped.instances v shaped.answer) fuel answers (session p shaped.main arg (start fuel answers)) (session_law p apart shaped arg (start fuel answers) refl answered))

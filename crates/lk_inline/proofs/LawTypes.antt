@@ -18,7 +18,7 @@ use Rattle.lk_inline.proofs.BlockNames.{AreKept, captured_are, each_entry}
 use Rattle.lk_inline.proofs.BlockValues.{IsProper}
 use Rattle.lk_inline.proofs.FreeNodes.{AreOfNodes, change_there, each_taken, free_there, of_node}
 use Rattle.lk_inline.proofs.LabelOrder.{order_distinct}
-use Rattle.lk_inline.proofs.UsesOrder.{ordered_of}
+use Rattle.lk_sound.proofs.OrderedWords.{ordered_of}
 use Rattle.lk_inline.proofs.UsesTyped.{change_typed, uses_typed}
 use Rattle.lk_inline.specs.Inlined.{change_at, inlined_at, inlined_by, query_at}
 use Rattle.lk_inline.specs.Law.{IsProperType}
@@ -34,10 +34,10 @@ use Rattle.lk_sound.proofs.Bags.{all_early}
 use Rattle.lk_sound.proofs.Names.{IsAmong}
 use Rattle.lk_sound.specs.Instances.{Instances}
 use Rattle.lk_sound.specs.Nodes.{TypedNode, change_nodes, nodes_of}
+use Rattle.lk_types.proofs.Parts.{same_some}
 use Rattle.lk_types.specs.Each.{Each}
 use Rattle.lk_types.specs.Rows.{Label}
 use Rattle.lk_types.specs.declared.ground.Ground.{Ground}
-use Rattle.lk_typing.proofs.Values.{just}
 use Rattle.lk_typing.specs.Names.{Named, named, types_of}
 
 -- bases, and records that have no label twice
@@ -100,10 +100,10 @@ module _ (p : Program) (g : GroundProgram) (has : HasInstances p g) (site : Site
       (each_taken IsProperType i.helpers (change_nodes alone.typed) (pending (drop 1 site.types) site.calls) block.after alone.takes (behind_first IsProperType site.types proper)))
 
   proper_form : (l : Layer) → layer site.block ≡ l → (found : Inlined) → inlined_by p g.helpers site l ≡ Some found → IsProperBlock found
-  proper_form (Node-F.Query keys body) is found at = subst IsProperBlock (just at) (query_proper keys body is)
-  proper_form (Node-F.Table name) is found at = subst IsProperBlock (just at) tt
-  proper_form (Node-F.Update change) is found at = subst IsProperBlock (just at) (change_proper change (update_block p i block.functions block.typed change is block.fine site.types site.calls block.after block.takes))
-  proper_form (Node-F.Delete change) is found at = subst IsProperBlock (just at) (change_proper change (delete_block p i block.functions block.typed change is block.fine site.types site.calls block.after block.takes))
+  proper_form (Node-F.Query keys body) is found at = subst IsProperBlock (same_some at) (query_proper keys body is)
+  proper_form (Node-F.Table name) is found at = subst IsProperBlock (same_some at) tt
+  proper_form (Node-F.Update change) is found at = subst IsProperBlock (same_some at) (change_proper change (update_block p i block.functions block.typed change is block.fine site.types site.calls block.after block.takes))
+  proper_form (Node-F.Delete change) is found at = subst IsProperBlock (same_some at) (change_proper change (delete_block p i block.functions block.typed change is block.fine site.types site.calls block.after block.takes))
   proper_form other is found at = let wrong : None ≡ Some found = at in absurd cc
 
   pub block_proper : (found : Inlined) → inlined_at p g.helpers site ≡ Some found → IsProperBlock found

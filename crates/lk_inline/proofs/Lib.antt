@@ -53,6 +53,7 @@ pub mod Ordered
 pub mod OwnLabels
 pub mod PutFields
 pub mod QueryKinds
+pub mod QueryOperators
 pub mod QueryTypes
 pub mod RecordArms
 pub mod RecordRules
@@ -65,5 +66,4 @@ pub mod TypesOfInstances
 pub mod TypesOfRows
 pub mod TypesOfUses
 pub mod UsesFound
-pub mod UsesOrder
 pub mod UsesTyped

@@ -153,7 +153,7 @@ module _ (p : Program) (i : Instances) (tables : Tables) (calls : List ℕ → L
 
   -- ---- one part more behind several
 
-  within_grows : (ts : List Ground) (numbers : List ℕ) (parts later : List Part) → Grows parts later → AreWithin ts numbers parts → AreWithin ts numbers later
+  pub within_grows : (ts : List Ground) (numbers : List ℕ) (parts later : List Part) → Grows parts later → AreWithin ts numbers parts → AreWithin ts numbers later
   within_grows [] [] parts later grows within = tt
   within_grows [] (k ∷ numbers) parts later grows within = within
   within_grows (t ∷ ts) [] parts later grows within = within

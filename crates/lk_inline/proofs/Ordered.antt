@@ -13,15 +13,16 @@ use Rattle.lk_ground.specs.Language.{function_of}
 use Rattle.lk_ground.specs.declared.program.GroundFun.{GroundFun}
 use Rattle.lk_ground_types.specs.Shapes.{is_base, is_list}
 use Rattle.lk_inline.proofs.Adding.{at_end, ordered_add}
+use Rattle.lk_inline.proofs.BlockStarts.{bound_ordered}
 use Rattle.lk_query.specs.Order.{AllBelow, AreOrdered, Below, LabelledBelow}
 use Rattle.lk_query.specs.declared.part.Part.{Part}
 use Rattle.lk_query.specs.declared.part.Part.TheVariants as part
 use Rattle.lk_sound.proofs.Inside.{by_insides, insides}
 use Rattle.lk_sql.specs.declared.tree.SqlOp.TheVariants as op
+use Rattle.lk_types.proofs.Members.{each_front, each_back}
 use Rattle.lk_types.specs.Each.{Each}
 use Rattle.lk_types.specs.Rows.{Label}
 use Rattle.lk_types.specs.declared.ground.Ground.{Ground}
-use Rattle.lk_typing.proofs.Lists.{each_back, each_front}
 use Rattle.lk_typing.specs.Names.{Named, named}
 use Rattle.lk_typing.specs.Typing.{expr_of}
 
@@ -327,9 +328,6 @@ bound_only : (names : List Label) (n : ℕ) (x : Part) → slice_get (bound_part
 bound_only [] n x is = let wrong : None ≡ Some x = is in absurd cc
 bound_only (name ∷ names) zero x is = let same : Some part.Bound ≡ Some x = is in cc
 bound_only (name ∷ names) (suc n) x is = bound_only names n x is
-
-pub bound_ordered : (names : List Label) → AreOrdered (bound_parts names)
-bound_ordered names n x is = subst (Below n) (bound_only names n x is) tt
 
 pub numbered_below : (names : List Label) (first n : ℕ) → first + length (bound_parts names) ≤ n → NamesBelow n (numbered first names)
 numbered_below [] first n le = tt

@@ -1,11 +1,10 @@
 -- In a program whose names are bound the keys of each query have distinct labels, and so has what each update sets.
-use Rattle.std.proofs.Common.{◌≡◌, refl, sym, ap, ap₂, subst, ◌∙◌, Bool, true, false, ◌&&◌, ◌||◌, not, List, [], ◌∷◌, map, Some, None, if◌then◌else◌, inl, inr}
+use Rattle.std.proofs.Common.{◌≡◌, refl, sym, ap, ap₂, subst, ◌∙◌, Bool, true, false, ◌&&◌, ◌||◌, not, List, [], ◌∷◌, map, None, inl, inr}
 use Rattle.std.proofs.lemmas.Bool.{both_ways}
 use Rattle.std.proofs.lemmas.Cmp.{nat_list_cmp_total}
-use Rattle.std.specs.Cmp.{tied_itself}
 use Rattle.std.specs.Cmp.Lexicographic.{slice_cmp}
 use Rattle.std.specs.FinSet as set
-use Rattle.std.specs.Ordering.{nat_cmp, eq_by_cmp, is_eq}
+use Rattle.std.specs.Ordering.{nat_cmp, eq_by_cmp}
 use Rattle.lk_ast.specs.Layers.{layer}
 use Rattle.lk_ast.specs.declared.declaration.Program.{Program}
 use Rattle.lk_ast.specs.declared.expression.ChangeExpr.{ChangeExpr, fold_out-ChangeExpr, out-ChangeExpr}
@@ -16,18 +15,18 @@ use Rattle.lk_ast.specs.declared.expression.SortKey.{SortKey}
 use Rattle.lk_ast.specs.declared.place.Span.{Span}
 use Rattle.lk_ast.specs.declared.place.Word.{Word}
 use Rattle.lk_bag.specs.Blocks.{blocks_of}
-use Rattle.lk_inline.proofs.FaultlessBodies.{HasNoFault, blocks_fine, level_fine}
+use Rattle.lk_inline.proofs.FaultlessBodies.{blocks_fine, level_fine}
 use Rattle.lk_inline.proofs.LabelOrder.{not_there}
 use Rattle.lk_names.specs.Expressions.{case_in, change_fault, change_in, expr_in, fault, global_fault, lambda_in, last_in, node_in, part_in, part_item}
 use Rattle.lk_names.specs.Faults.{Fault, first_of}
 use Rattle.lk_names.specs.Programs.{IsBound}
 use Rattle.lk_names.specs.Repeats.{Item, items_fault, key_item, keys_fault, twice_fault}
-use Rattle.lk_names.specs.declared.error.NameError.TheVariants.{Twice}
 use Rattle.lk_names.specs.declared.globals.Globals.{Globals}
 use Rattle.lk_scope.specs.Names.{Names, bind, is_local, no_names}
 use Rattle.lk_scope.specs.Scoped.{In, all_in}
-use Rattle.lk_sound.proofs.Faultless.{mapped, neither}
-use Rattle.lk_sound.proofs.Members.{each_in}
+use Rattle.lk_sound.proofs.Faultless.{HasNoFault, mapped, neither}
+use Rattle.lk_sound.proofs.NewNames.{once, put_in}
+use Rattle.lk_types.proofs.Members.{each_in}
 use Rattle.lk_sql.specs.Good.{are_distinct, is_there}
 use Rattle.lk_types.specs.Each.{OneOf}
 use Rattle.lk_types.specs.Rows.{Label}
@@ -37,9 +36,6 @@ use Rattle.lk_types.specs.Rows.{Label}
 abbrev AreNew : Names → List Label → Type 0
 AreNew met [] = Unit {0}
 AreNew met (x ∷ xs) = (is_local met x ≡ false) × AreNew (set.insert met x) xs
-
-itself_met : (met : Names) (x : Label) → is_local (set.insert met x) x ≡ true
-itself_met met x = set.contains-insert nat_list_cmp_total met x x ∙ ap (λ o. is_eq o || is_local met x) (tied_itself nat_list_cmp_total x)
 
 not_met : (met : Names) (x y : Label) → is_local (set.insert met x) y ≡ false → is_local met y ≡ false
 not_met met x y is = second (eq_by_cmp (slice_cmp nat_cmp) y x) (is_local met y) (sym (set.contains-insert nat_list_cmp_total met x y) ∙ is)
@@ -53,7 +49,7 @@ new_apart : (met : Names) (xs : List Label) → AreNew met xs → (are_distinct 
 new_apart met [] new = (refl, λ y one. absurd one)
 new_apart met (x ∷ xs) new =
     let rest = new_apart (set.insert met x) xs new.1 in
-    let apart : is_there xs x ≡ false = not_there x xs (λ one. both_ways (is_local (set.insert met x) x) (rest.1 x one) (itself_met met x)) in
+    let apart : is_there xs x ≡ false = not_there x xs (λ one. both_ways (is_local (set.insert met x) x) (rest.1 x one) (put_in met x)) in
     (ap₂ (λ a b. not a && b) apart rest.0, either rest.1)
   where
     either : ((y : Label) → OneOf (λ other. other ≡ y) xs → is_local (set.insert met x) y ≡ false) → (y : Label) → OneOf (λ other. other ≡ y) (x ∷ xs) → is_local met y ≡ false
@@ -61,13 +57,6 @@ new_apart met (x ∷ xs) new =
     either later y (inr one) = not_met met x y (later y one)
 
 -- ---- lists without a fault
-
-once : (met : Names) (x : Word) → twice_fault met x ≡ None → is_local met x.text ≡ false
-once met x none = by_test (is_local met x.text) none
-  where
-    by_test : (b : Bool) → (if b then Some (Twice x.at) else None) ≡ None → b ≡ false
-    by_test true wrong = absurd cc
-    by_test false none = refl
 
 abbrev names_in : List Item → List Label
 names_in items = map (λ item. item.name.text) items

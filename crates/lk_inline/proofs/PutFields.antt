@@ -1,5 +1,5 @@
 -- Fields put into a finite map one by one: what the map has under a label, where no label is there twice.
-use Rattle.std.proofs.Common.{◌≡◌, refl, sym, ap, ap₂, subst, ◌∙◌, ℕ, ◌+◌, ◌≤◌, Bool, true, false, cond, ◌&&◌, T, List, [], ◌∷◌, ◌++◌, map, find, length, Option, Some, None, is_some, inl, inr, if◌then◌else◌, bytes_eq, is_lt, arith}
+use Rattle.std.proofs.Common.{◌≡◌, refl, sym, ap, ap₂, subst, ◌∙◌, ℕ, ◌+◌, ◌≤◌, Bool, true, false, cond, T, List, [], ◌∷◌, ◌++◌, map, find, length, Option, Some, None, is_some, inl, inr, if◌then◌else◌, bytes_eq, is_lt, arith}
 use Rattle.std.proofs.lemmas.List.Sums.{fold-append}
 use Rattle.std.proofs.lemmas.List.{length-append}
 use Rattle.std.proofs.lemmas.Slice.Eq.{bytes_eq-Decides}
@@ -9,8 +9,7 @@ use Rattle.std.specs.FinMap.Entries.{below_all}
 use Rattle.std.specs.FinMap as fin
 use Rattle.std.specs.Option.{option_map, option_or}
 use Rattle.std.specs.Ordering.{eq_by_cmp, is_eq}
-use Rattle.std.specs.declared.cmp.Ordering.TheVariants.{Less, Equal, Greater}
-use Rattle.std.specs.declared.cmp.Ordering.{Ordering}
+use Rattle.std.specs.declared.cmp.Ordering.TheVariants.{Less, Equal}
 use Rattle.lk_ast.specs.declared.table.Cell.{Cell}
 use Rattle.lk_ast.specs.declared.value.Field.{Field}
 use Rattle.lk_ast.specs.declared.value.Value.TheVariants as value
@@ -20,9 +19,10 @@ use Rattle.lk_operators.specs.Records as made
 use Rattle.lk_operators.specs.Records.{Entries, value_under}
 use Rattle.lk_operators.specs.Values as values
 use Rattle.lk_query.specs.Given.{cell_or}
-use Rattle.lk_sound.proofs.FieldRows.{same_test}
+use Rattle.lk_sound.proofs.FieldRows.{same_test, less as lower}
 use Rattle.lk_sound.proofs.TableRows.{cell_fields}
 use Rattle.lk_sql.specs.Meaning.{cell_in}
+use Rattle.lk_types.proofs.LabelMaps.{first_holds, second_holds}
 use Rattle.lk_types.specs.Each.{Each, OneOf}
 use Rattle.lk_types.specs.Rows.{Label, label_order}
 
@@ -95,32 +95,19 @@ got_new m (f ∷ fs) l are =
 
 -- ---- the labels of a finite map
 
-front : (a b : Bool) → T (a && b) → T a
-front true b p = tt
-front false b p = p
-
-back : (a b : Bool) → T (a && b) → T b
-back true b p = p
-back false b p = absurd p
-
-lower : (o : Ordering) → T (is_lt o) → o ≡ Less
-lower Less p = refl
-lower Equal p = absurd p
-lower Greater p = absurd p
-
 abbrev pub entry_labels : {X : Type 0} → List (Label × X) → List Label
 entry_labels es = map (λ e. e.0) es
 
 -- a label below all others is none of them
 apart : {X : Type 0} (l : Label) (es : List (Label × X)) → T (below_all label_order l es) → OneOf (λ other. other ≡ l) (entry_labels es) → ⊥
 apart l [] below one = one
-apart l (e ∷ es) below (inl is) = let wrong : Less ≡ Equal = sym (lower _ (front _ _ below)) ∙ ap (label_order l) is ∙ tied_itself nat_list_cmp_total l in cc
-apart l (e ∷ es) below (inr one) = apart l es (back _ _ below) one
+apart l (e ∷ es) below (inl is) = let wrong : Less ≡ Equal = sym (lower _ (first_holds _ _ below)) ∙ ap (label_order l) is ∙ tied_itself nat_list_cmp_total l in cc
+apart l (e ∷ es) below (inr one) = apart l es (second_holds _ _ below) one
 
 -- labels in order are distinct
 pub sorted_distinct : {X : Type 0} (es : List (Label × X)) → T (fin.is_sorted label_order es) → AreDistinct (entry_labels es)
 sorted_distinct [] sorted = tt
-sorted_distinct (e ∷ es) sorted = (apart e.0 es (front _ _ sorted), sorted_distinct es (back _ _ sorted))
+sorted_distinct (e ∷ es) sorted = (apart e.0 es (first_holds _ _ sorted), sorted_distinct es (second_holds _ _ sorted))
 
 -- ---- the entries of a map by its labels
 
@@ -137,12 +124,12 @@ not_below l k below = same_test k l ∙ by_test (bytes_eq l k) refl
 behind_first : (l : Label) (v : Value) (all es : List (Label × Value)) → T (below_all label_order l es) → Each (λ e. fin.find label_order e.0 all ≡ Some e.1) es → Each (λ e. fin.find label_order e.0 ((l, v) ∷ all) ≡ Some e.1) es
 behind_first l v all [] below each = tt
 behind_first l v all (e ∷ es) below each =
-    (ap (λ b. cond b (Some v) (fin.find label_order e.0 all)) (not_below l e.0 (front _ _ below)) ∙ each.0, behind_first l v all es (back _ _ below) each.1)
+    (ap (λ b. cond b (Some v) (fin.find label_order e.0 all)) (not_below l e.0 (first_holds _ _ below)) ∙ each.0, behind_first l v all es (second_holds _ _ below) each.1)
 
 pub each_found : (es : List (Label × Value)) → T (fin.is_sorted label_order es) → Each (λ e. fin.find label_order e.0 es ≡ Some e.1) es
 each_found [] sorted = tt
 each_found (e ∷ es) sorted =
-    (ap (λ o. cond (is_eq o) (Some e.1) (fin.find label_order e.0 es)) (tied_itself nat_list_cmp_total e.0), behind_first e.0 e.1 es es (front _ _ sorted) (each_found es (back _ _ sorted)))
+    (ap (λ o. cond (is_eq o) (Some e.1) (fin.find label_order e.0 es)) (tied_itself nat_list_cmp_total e.0), behind_first e.0 e.1 es es (first_holds _ _ sorted) (each_found es (second_holds _ _ sorted)))
 
 -- entries under whose labels there are these bases are the fields of such cells
 pub fields_by : (m : Entries) (base_at : Label → Cell) (es : List (Label × Value)) → Each (λ e. fin.find label_order e.0 (fin.entries m) ≡ Some e.1) es

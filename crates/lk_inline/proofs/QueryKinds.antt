@@ -1,5 +1,5 @@
 -- The parts of a query have kinds, and so has the part of a reading.
-use Rattle.std.proofs.Common.{◌≡◌, refl, sym, ap, ap₂, ◌∙◌, subst, arith, ℕ, zero, suc, ◌+◌, ◌<◌, true, false, ◌&&◌, List, [], ◌∷◌, drop, length, map, Option, Some, None, slice_get, true≢false, inl, inr}
+use Rattle.std.proofs.Common.{◌≡◌, refl, sym, ap, ap₂, ◌∙◌, subst, arith, ℕ, zero, suc, ◌+◌, ◌<◌, true, false, ◌&&◌, List, [], ◌∷◌, drop, length, map, Option, Some, None, slice_get, true≢false}
 use Rattle.std.specs.List.{list_all}
 use Rattle.lk_ast.specs.Functions.{functions_of}
 use Rattle.lk_ast.specs.Tables.{HaveColumns, tables_of}
@@ -17,6 +17,7 @@ use Rattle.lk_ground_types.specs.Shapes.{is_there as has_some}
 use Rattle.lk_index.specs.Free.{captured_query}
 use Rattle.lk_inline.proofs.BlockForms.{IsQueryAlone, IsTableBlock}
 use Rattle.lk_inline.proofs.BlockStarts.{bound_length, bound_ordered}
+use Rattle.lk_inline.proofs.KindForms.{list_kind}
 use Rattle.lk_inline.proofs.KindHelpers.{helpers_kinded}
 use Rattle.lk_inline.proofs.KindInduction.{expr_kinded}
 use Rattle.lk_inline.proofs.KindNodes.{taken_in_order}
@@ -24,10 +25,11 @@ use Rattle.lk_inline.proofs.KindStarts.{AreBound, begun, begun_described, begun_
 use Rattle.lk_inline.proofs.KindsMade.{AreKnown, HasKind, IsKinded, kinds_of, scopes_of}
 use Rattle.lk_inline.proofs.LabelOrder.{one_there}
 use Rattle.lk_inline.proofs.LawTypes.{behind_first}
+use Rattle.lk_inline.proofs.RecordValues.{label_among}
 use Rattle.lk_inline.proofs.RowLabels.{element_labels_are, field_labels, labels_are}
 use Rattle.lk_inline.proofs.TableColumns.{row_there}
 use Rattle.lk_inline.specs.Inlined.{calls_of, first_columns, key_of, state_at}
-use Rattle.lk_inline.specs.KindsOfTypes.{IsInOrder, kind_level, kind_of_type}
+use Rattle.lk_inline.specs.KindsOfTypes.{IsInOrder}
 use Rattle.lk_inline.specs.Law as kinded
 use Rattle.lk_inline.specs.Law.{HasKinds}
 use Rattle.lk_mono.specs.Instanced.{HasInstances}
@@ -47,7 +49,7 @@ use Rattle.lk_sound.specs.Instances.{Instances}
 use Rattle.lk_sound.specs.Nodes.{nodes_of}
 use Rattle.lk_sql.specs.Good.{are_distinct, are_in_order, is_there}
 use Rattle.lk_sql.specs.declared.tree.Key.{Key}
-use Rattle.lk_types.specs.Each.{Each, OneOf}
+use Rattle.lk_types.specs.Each.{Each}
 use Rattle.lk_types.specs.Rows.{Label, Row, fields_of}
 use Rattle.lk_types.specs.declared.ground.Ground.{Ground}
 use Rattle.lk_types.specs.declared.ground.Ground.TheVariants as known
@@ -62,26 +64,17 @@ keys_are : (keys : List SortKey) → map (λ (key : Key). key.label) (map key_of
 keys_are [] = refl
 keys_are (key ∷ keys) = ap (λ ls. key.label.text ∷ ls) (keys_are keys)
 
-label_in : (l : Label) (t : Ground) (gs : List GroundField) → OneOf (λ other. other ≡ record { label = l; ty = t }) gs → OneOf (λ other. other ≡ l) (field_labels gs)
-label_in l t [] one = absurd one
-label_in l t (g ∷ gs) (inl is) = inl (ap (λ (g : GroundField). g.label) is)
-label_in l t (g ∷ gs) (inr one) = inr (label_in l t gs one)
-
 key_there : (row : Ground) (key : SortKey) → IsKeyOf row key → is_there (labels (columns_of row)) key.label.text ≡ true
 key_there row key (a, (other, whole, is, made)) =
     ap (λ t. is_there (labels (columns_of t)) key.label.text) is
     ∙ ap (λ ls. is_there ls key.label.text) (labels_are (fields_of whole))
-    ∙ one_there key.label.text (field_labels (fields_of whole)) (label_in key.label.text a (fields_of whole) (get_among whole key.label.text a (get_first key.label.text a other whole made)))
+    ∙ one_there key.label.text (field_labels (fields_of whole)) (label_among key.label.text a (fields_of whole) (get_among whole key.label.text a (get_first key.label.text a other whole made)))
 
 keys_there : (row : Ground) (keys : List SortKey) → Each (IsKeyOf row) keys → list_all (λ (key : Key). is_there (labels (columns_of row)) key.label) (map key_of keys) ≡ true
 keys_there row [] all = refl
 keys_there row (key ∷ keys) all = ap₂ (λ a b. a && b) (key_there row key all.0) (keys_there row keys all.1)
 
 -- ---- queries
-
--- the kind of a list
-pub list_kind : (a : Ground) → kind_of_type (known.List a) ≡ OfList (labels (columns_of a))
-list_kind a = ap kind_level (known.outs-List a)
 
 module _ (p : Program) (bound : IsBound p) (g : GroundProgram) (has : HasInstances p g) (ordered : Each (λ (f : GroundFun). Each IsInOrder f.types) g.helpers) (functions : Named (Entry Ground)) (locals : Named Ground) (site : Site)
     (proper : Each IsInOrder site.types) (keys : List SortKey) (body : Expr) (after : Pending) (alone : IsQueryAlone p has.shaped.instances functions locals keys body site.types site.calls after) where

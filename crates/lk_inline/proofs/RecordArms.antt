@@ -36,6 +36,7 @@ use Rattle.lk_sound.proofs.QueryParts.{operands_are}
 use Rattle.lk_sound.specs.Instances.{Instances}
 use Rattle.lk_sound.specs.Points.{AreLocals}
 use Rattle.lk_sound.specs.Values.{FitEach}
+use Rattle.lk_types.proofs.Parts.{same_some}
 use Rattle.lk_types.specs.Each.{Each}
 use Rattle.lk_types.specs.Rows.{Label, EffectSet}
 use Rattle.lk_types.specs.declared.ground.Ground.{Ground}
@@ -46,9 +47,6 @@ use Rattle.lk_typing.specs.Rules as rule
 use Rattle.lk_typing.specs.Types as types
 use Rattle.lk_typing.specs.Types.{record_of}
 use Rattle.lk_typing.specs.Typing.{expr_of, label_of}
-
-just : {A : Type 0} {x y : A} → Some x ≡ Some y → x ≡ y
-just is = cc
 
 none_some : {A : Type 0} {y : A} → None ≡ Some y → ⊥
 none_some is = cc
@@ -97,14 +95,14 @@ below_front n (j ∷ numbers) k below = let rest = below_front n numbers k below
 
 -- what holds of each type holds of those behind the fields'
 pub rest_each : (P : Ground → Type 0) (labels : List Label) (ts : List Ground) (found : Named Ground) (rest : List Ground) → types.labelled labels ts ≡ Some (found, rest) → Each P ts → Each P rest
-rest_each P [] ts found rest is each = subst (Each P) (ap (λ pair. pair.1) (just is)) each
+rest_each P [] ts found rest is each = subst (Each P) (ap (λ pair. pair.1) (same_some is)) each
 rest_each P (l ∷ ls) [] found rest is each = absurd (none_some is)
 rest_each P (l ∷ ls) (t ∷ ts) found rest is each = by (types.labelled ls ts) refl is (rest_each P ls ts)
   where
     by : (o : Option (Named Ground × List Ground)) → types.labelled ls ts ≡ o → option_map {U = Named Ground × List Ground} (λ pair. ((l, t) ∷ pair.0, pair.1)) o ≡ Some (found, rest)
         → ((fs : Named Ground) (r : List Ground) → types.labelled ls ts ≡ Some (fs, r) → Each P ts → Each P r) → Each P rest
     by None e is step = absurd (none_some is)
-    by (Some pair) e is step = subst (Each P) (ap (λ pair. pair.1) (just is)) (step pair.0 pair.1 e each.1)
+    by (Some pair) e is step = subst (Each P) (ap (λ pair. pair.1) (same_some is)) (step pair.0 pair.1 e each.1)
 
 module _ (p : Program) (i : Instances) (tables : Tables) (calls : List ℕ → List Value → Value) (makes : Calls) (functions : Named (Entry Ground)) (effects : EffectSet) (locals : Named Ground) (e : Expr) (numbers : Named ℕ) (s : State) (q : Pending)
     (have : HaveNumbers locals numbers s.parts) where

@@ -15,7 +15,6 @@ use Rattle.lk_ground_types.specs.Shapes.{are_flat, base_level, is_base, is_flat_
 use Rattle.lk_inline.proofs.Extensions.{AreBases, cells_under, extend_stands, part_labels, record_stands}
 use Rattle.lk_inline.proofs.Loops.{AllStand, items_stand}
 use Rattle.lk_inline.proofs.RecordValues.{base_among, flat_fields}
-use Rattle.lk_inline.proofs.RowLabels.{bytes_itself}
 use Rattle.lk_inline.specs.Stands.{Stands}
 use Rattle.lk_operators.specs.Operators.{operated}
 use Rattle.lk_operators.specs.declared.outcome.Outcome.TheVariants as outcome
@@ -25,17 +24,17 @@ use Rattle.lk_sound.proofs.FieldRows.{get_among, same_test}
 use Rattle.lk_sound.proofs.FieldValues.{AreLabelled, labelled_fit}
 use Rattle.lk_sound.proofs.Records.{extend_sound, record_sound}
 use Rattle.lk_sound.proofs.Results.{IsResult}
+use Rattle.lk_sound.proofs.TableRows.{bytes_itself}
 use Rattle.lk_sound.specs.Instances.{Instances}
 use Rattle.lk_sound.specs.Values.{FitEach, Fits}
 use Rattle.lk_sql.specs.Meaning.{no_cells}
+use Rattle.lk_types.proofs.Parts.{same_some, mapped}
 use Rattle.lk_types.specs.Each.{Each}
 use Rattle.lk_types.specs.Rows.{Label, Row, fields_of, has_label, no_effects, no_fields, with_field}
 use Rattle.lk_types.specs.declared.ground.Ground.TheOpen.{Ground-F}
 use Rattle.lk_types.specs.declared.ground.Ground.TheVariants as known
 use Rattle.lk_types.specs.declared.ground.Ground.{Ground}
 use Rattle.lk_types.specs.declared.ground.GroundField.{GroundField}
-use Rattle.lk_typing.proofs.Inverses.{mapped_was}
-use Rattle.lk_typing.proofs.Values.{just}
 use Rattle.lk_typing.specs.Names.{Named, types_of}
 use Rattle.lk_typing.specs.Types as types
 use Rattle.lk_typing.specs.Types.{record_of, with_fields}
@@ -110,7 +109,7 @@ behind_first l t (Some rest) row is = by_test (has_label rest l) refl is
   where
     by_test : (b : Bool) → has_label rest l ≡ b → (if b then None else Some (fin.insert rest l t)) ≡ Some row → Behind l t (Some rest) row
     by_test true has is = let wrong : None ≡ Some row = is in cc
-    by_test false lacks is = record { rest = rest; there = refl; lacks = lacks; is = sym (just is) }
+    by_test false lacks is = record { rest = rest; there = refl; lacks = lacks; is = sym (same_some is) }
 
 pub got : (rest : Row) (l : Label) (t : Ground) (q : Label) → fin.get (fin.insert rest l t) q ≡ cond (bytes_eq l q) (Some t) (fin.get rest q)
 got rest l t q = fin.get-insert nat_list_cmp_total rest l t q ∙ ap (λ b. cond b (Some t) (fin.get rest q)) (same_test q l)
@@ -134,12 +133,12 @@ bases_in (f ∷ fields) other row is all =
 -- the types of what is labelled, and those behind them
 pub labelled_types : (ls : List Label) (ts : List Ground) (fields : Named Ground) (left : List Ground) → types.labelled ls ts ≡ Some (fields, left) → ts ≡ types_of fields ++ left
 labelled_types [] ts fields left is =
-    let same : ◌≡◌ {A = Named Ground × List Ground} ([], ts) (fields, left) = just is in
+    let same : ◌≡◌ {A = Named Ground × List Ground} ([], ts) (fields, left) = same_some is in
     subst (λ (x : Named Ground × List Ground). ts ≡ types_of x.0 ++ x.1) same refl
 labelled_types (l ∷ ls) [] fields left is = let wrong : ◌≡◌ {A = Option (Named Ground × List Ground)} None (Some (fields, left)) = is in cc
 labelled_types (l ∷ ls) (t ∷ ts) fields left is =
     let found : (x : Named Ground × List Ground) × (types.labelled ls ts ≡ Some x) × ((fields, left) ≡ ((l, t) ∷ x.0, x.1)) =
-    mapped_was (λ (x : Named Ground × List Ground). ((l, t) ∷ x.0, x.1)) (types.labelled ls ts) (fields, left) is in
+    mapped (λ (x : Named Ground × List Ground). ((l, t) ∷ x.0, x.1)) (types.labelled ls ts) (fields, left) is in
     subst (λ (x : Named Ground × List Ground). t ∷ ts ≡ types_of x.0 ++ x.1) (sym found.2) (ap (λ ts. t ∷ ts) (labelled_types ls ts found.0.0 found.0.1 found.1))
 
 bases_of : (fields : Named Ground) → Each (λ (f : Label × Ground). is_base f.1 ≡ true) fields → (vs : List Value) (gs : List Given) → StandEach (types_of fields) vs gs → AreBases vs gs

@@ -61,7 +61,7 @@ value_there (cell ∷ cells) l one = by_test (bytes_eq cell.label l) refl (value
     by_test false is behind (inl same) = let wrong : true ≡ false = sym ((bytes_eq-Decides cell.label l).1 same) ∙ is in absurd cc
     by_test false is behind (inr one) = behind one
 
-label_among : (l : Label) (t : Ground) (gs : List GroundField) → OneOf (λ other. other ≡ record { label = l; ty = t }) gs → OneOf (λ other. other ≡ l) (field_labels gs)
+pub label_among : (l : Label) (t : Ground) (gs : List GroundField) → OneOf (λ other. other ≡ record { label = l; ty = t }) gs → OneOf (λ other. other ≡ l) (field_labels gs)
 label_among l t [] one = absurd one
 label_among l t (g ∷ gs) (inl is) = inl (ap (λ (g : GroundField). g.label) is)
 label_among l t (g ∷ gs) (inr one) = inr (label_among l t gs one)

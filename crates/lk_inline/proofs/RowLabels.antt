@@ -16,7 +16,7 @@ use Rattle.lk_query.specs.Given.{at_labels, cell_with, row_with}
 use Rattle.lk_sound.proofs.FlatTypes.{IsFlatRow, flat_row_is}
 use Rattle.lk_sound.proofs.Shapes as shapes
 use Rattle.lk_sound.proofs.Shapes.{fields_shown, fits_fields}
-use Rattle.lk_sound.proofs.TableRows.{cell_fields}
+use Rattle.lk_sound.proofs.TableRows.{cell_fields, bytes_itself}
 use Rattle.lk_sound.specs.Instances.{Instances}
 use Rattle.lk_sound.specs.Values.{Fits, FieldsFit, no_field, field}
 use Rattle.lk_sql.specs.Meaning.{cell_in}
@@ -27,9 +27,6 @@ use Rattle.lk_types.specs.declared.ground.Ground.{Ground}
 use Rattle.lk_types.specs.declared.ground.GroundField.{GroundField}
 
 -- ---- tests of labels
-
-pub bytes_itself : (x : Label) → bytes_eq x x ≡ true
-bytes_itself x = (bytes_eq-Decides x x).1 refl
 
 pub bytes_other : (x y : Label) → (x ≡ y → ⊥) → bytes_eq x y ≡ false
 bytes_other x y apart = by_test (bytes_eq x y) refl

@@ -15,6 +15,7 @@ use Rattle.lk_inline.specs.Stands.{IsRecord, Stands}
 use Rattle.lk_operators.specs.Values.{base_in, list_in}
 use Rattle.lk_query.specs.Given.{Given, of_base, of_list, of_row}
 use Rattle.lk_sound.proofs.TableRows.{IsBaseOf, base_of_fits}
+use Rattle.lk_sound.proofs.UpdatedRows.{base_itself}
 use Rattle.lk_sound.specs.Instances.{Instances}
 use Rattle.lk_sound.specs.Values.{Fits}
 use Rattle.lk_types.specs.Each.{Each}
@@ -101,15 +102,12 @@ kind_is kind.Text = text_is
 pub list_is : (a : Ground) → are_rows (known.List a) ≡ is_flat_row a
 list_is a = ap rows_level (known.outs-List a)
 
-pub base_shown : (b : Base) → base_in (value.Base b) ≡ Some b
-base_shown b = simp (value.outs-Base)
-
 pub list_shown : (vs : List Value) → list_in (value.List vs) ≡ Some vs
 list_shown vs = simp (value.outs-List)
 
 -- a value is one base alone
 pub same_base : (b c : Base) → value.Base b ≡ value.Base c → b ≡ c
-same_base b c is = let found : Some b ≡ Some c = sym (base_shown b) ∙ ap base_in is ∙ base_shown c in cc
+same_base b c is = let found : Some b ≡ Some c = sym (base_itself b) ∙ ap base_in is ∙ base_itself c in cc
 
 pub same_list : (vs ws : List Value) → value.List vs ≡ value.List ws → vs ≡ ws
 same_list vs ws is = let found : Some vs ≡ Some ws = sym (list_shown vs) ∙ ap list_in is ∙ list_shown ws in cc

@@ -17,13 +17,13 @@ use Rattle.lk_ast.specs.declared.table.Column.{Column}
 use Rattle.lk_ast.specs.declared.table.Row.{Row}
 use Rattle.lk_ast.specs.declared.table.TableDef.{TableDef}
 use Rattle.lk_bodies.specs.Shapes.{columns_of, labels}
-use Rattle.lk_ground_types.proofs.Parts.{with_one}
+use Rattle.lk_types.proofs.Parts.{with_one}
 use Rattle.lk_ground_types.specs.Shapes.{is_base, is_there}
 use Rattle.lk_inline.proofs.BlockSets.{field_base}
 use Rattle.lk_inline.proofs.RecordRules.{got}
-use Rattle.lk_inline.proofs.RowLabels.{bytes_itself, cell_labels, fields_fit_labels, labels_are}
+use Rattle.lk_inline.proofs.RowLabels.{cell_labels, fields_fit_labels, labels_are}
 use Rattle.lk_sound.proofs.FieldRows.{get_among}
-use Rattle.lk_sound.proofs.TableRows.{table_found}
+use Rattle.lk_sound.proofs.TableRows.{table_found, bytes_itself}
 use Rattle.lk_sound.specs.Instances.{Instances}
 use Rattle.lk_sound.specs.Tables.{table_at}
 use Rattle.lk_sound.specs.Values.{Fits}

@@ -11,12 +11,12 @@ use Rattle.lk_mono.specs.Grounded.{Are}
 use Rattle.lk_mono.specs.Held.{types_in}
 use Rattle.lk_mono.specs.Instances.{AreGathered, AreHelpers, AreMains, Body, IsBody, IsMain, IsWalked, IsWith, Turn, Wanted, everywhere, lacking, next, nothing, outside, own_turn, start, there, turn_of, uses_among, uses_of, with_use, within_blocks}
 use Rattle.lk_sound.specs.Nodes.{TypedNode, Use, nodes_of}
+use Rattle.lk_types.proofs.Members.{each_both}
 use Rattle.lk_types.specs.Each.{Each}
 use Rattle.lk_types.specs.Grounding.{Grounding, under}
 use Rattle.lk_types.specs.declared.ground.Ground.{Ground}
 use Rattle.lk_types.specs.declared.scheme.Scheme.{Scheme}
 use Rattle.lk_types.specs.declared.ty.Ty.{Ty}
-use Rattle.lk_typing.proofs.Lists.{each_both}
 use Rattle.lk_typing.specs.Law.{Become}
 
 abbrev HasUse : Use → Type 0

@@ -6,23 +6,25 @@ use Rattle.std.specs.FinMap as fin
 use Rattle.std.specs.List.{cons_option}
 use Rattle.std.specs.Ordering.{nat_cmp}
 use Rattle.lk_bodies.specs.Shapes.{columns_level, columns_of, element_columns, element_level, labels}
-use Rattle.lk_ground_types.proofs.Parts.{all_some, function_some, mapped, row_rolled, same_some, with_one}
-use Rattle.lk_ground_types.proofs.TypeInduction.{Hereditary, every_type}
+use Rattle.lk_types.proofs.Agreement.{variables_rolled_row}
+use Rattle.lk_types.proofs.Parts.{all_some, function_some, mapped, row_rolled, same_some, with_one}
+use Rattle.lk_types.proofs.TypeInduction.{Hereditary, every_type}
 use Rattle.lk_ground_types.proofs.Variables.{among_each, among_or}
 use Rattle.lk_ground_types.specs.Least.{IsAmong, IsLeastBut, least, unit}
 use Rattle.lk_inline.proofs.RecordRules.{got}
 use Rattle.lk_inline.proofs.RecordValues.{row_in_order}
-use Rattle.lk_inline.proofs.RowLabels.{bytes_itself, labels_are}
+use Rattle.lk_inline.proofs.RowLabels.{labels_are}
 use Rattle.lk_inline.specs.Law.{IsProperType}
 use Rattle.lk_sound.proofs.Bindings.{same_bytes}
 use Rattle.lk_sound.proofs.FieldRows.{among_get, as_fields, get_among, no_entries}
-use Rattle.lk_sound.proofs.Members.{each_in, each_of_in}
+use Rattle.lk_sound.proofs.TableRows.{bytes_itself}
+use Rattle.lk_types.proofs.Members.{each_in, each_of_in, each_both}
 use Rattle.lk_sql.specs.Good.{are_in_order}
 use Rattle.lk_types.proofs.Unfold.{under_bool, under_fields, under_function, under_int, under_list, under_tags, under_text, under_variable, variables_bool, variables_field, variables_fields, variables_function, variables_int, variables_list, variables_tags, variables_text, variables_variable}
 use Rattle.lk_types.specs.Each.{Each}
 use Rattle.lk_types.specs.Grounding.{Grounding, all_of, before_row, effects_under, row_tail, row_under, under}
 use Rattle.lk_types.specs.Rows.{Label, Row, effects_of, fields_of, no_fields}
-use Rattle.lk_types.specs.Variables.{before_tail, field_variables, joined, row_variables, tail_variable, ty_variables, variables_of, variables_of_field, variables_of_row}
+use Rattle.lk_types.specs.Variables.{joined, tail_variable, variables_of, variables_of_field, variables_of_row}
 use Rattle.lk_types.specs.declared.ground.Ground.{Ground, out-Ground}
 use Rattle.lk_types.specs.declared.ground.Ground.TheOpen.{Ground-F}
 use Rattle.lk_types.specs.declared.ground.Ground.TheVariants as known
@@ -32,13 +34,10 @@ use Rattle.lk_types.specs.declared.ty.Effects.{Effects}
 use Rattle.lk_types.specs.declared.ty.RowTail.{RowTail}
 use Rattle.lk_types.specs.declared.ty.RowTail.TheVariants.{Closed, Var}
 use Rattle.lk_types.specs.declared.ty.Ty.{Ty}
-use Rattle.lk_types.specs.declared.ty.Ty.TheFolds.{fold-roll-TyRow}
-use Rattle.lk_types.specs.declared.ty.Ty.TheOpen.{TyRow-F}
 use Rattle.lk_types.specs.declared.ty.TyField.{TyField}
-use Rattle.lk_types.specs.declared.ty.TyRow.{TyRow, roll-TyRow}
+use Rattle.lk_types.specs.declared.ty.TyRow.{TyRow}
 use Rattle.lk_types.specs.declared.ty.Variable.{Variable}
 use Rattle.lk_types.specs.declared.ty.Variable.TheVariants as variable
-use Rattle.lk_typing.proofs.Lists.{each_both}
 
 -- such a type: each in it is one, too
 mutual
@@ -186,10 +185,6 @@ module _ (σ : Grounding) (all : (x : Variable) → IsOf σ x) where
 
 -- ---- what stands for its variables
 
-rolled_row : (x : TyRow-F Ty TyField TyRow) → variables_of_row (roll-TyRow x) ≡ before_tail (joined (map variables_of_field x.fields)) variable.Row x.tail
-unfolding variables_of variables_of_field variables_of_row
-rolled_row x = fold-roll-TyRow (List Variable) (List Variable) (List Variable) ty_variables field_variables row_variables x
-
 module _ (σ : Grounding) where
   abbrev Are : List Variable → Type 0
   Are xs = Each (IsOf σ) xs
@@ -249,7 +244,7 @@ module _ (σ : Grounding) where
     at_variable = λ n g e of_rows. subst Are (sym (variables_variable n)) (subst OfRows (sym (same_some (sym (under_variable σ n) ∙ e))) of_rows, tt);
     at_row = λ fs tail each m e of_row.
         let all = rows_back (row_tail σ tail) fs each m (sym (row_rolled σ fs tail) ∙ e) of_row in
-        subst Are (sym (rolled_row (record { fields = fs; tail = tail })))
+        subst Are (sym (variables_rolled_row (record { fields = fs; tail = tail })))
         (each_both (IsOf σ) (joined (map variables_of_field fs)) (cons_option (tail_variable variable.Row tail) []) all.1 (tail_back tail all.0));
   }
 

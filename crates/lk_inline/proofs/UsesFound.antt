@@ -7,13 +7,12 @@ use Rattle.lk_ast.specs.declared.place.Word.{Word}
 use Rattle.lk_bodies.specs.Uses.{Used, is_bound, local}
 use Rattle.lk_index.specs.Free.{use_of}
 use Rattle.lk_scope.specs.Names.{Names, bind, is_local, no_names}
-use Rattle.lk_sound.proofs.Members.{each_weaker}
+use Rattle.lk_types.proofs.Members.{each_weaker, each_both}
 use Rattle.lk_sound.proofs.Names.{IsAmong}
 use Rattle.lk_sound.proofs.Standing.{bound_one}
 use Rattle.lk_types.specs.Each.{Each}
 use Rattle.lk_types.specs.Rows.{Label}
 use Rattle.lk_types.specs.declared.ground.Ground.{Ground}
-use Rattle.lk_typing.proofs.Lists.{each_both}
 use Rattle.lk_typing.specs.Names.{Named, named, names_of}
 
 -- ---- names that are bound

@@ -15,7 +15,7 @@ use Rattle.lk_ground_types.specs.Shapes.{is_query_type}
 use Rattle.lk_index.specs.Free.{captured_change, captured_query, free, free_change}
 use Rattle.lk_inline.proofs.QueryTypes.{variant_not_flat}
 use Rattle.lk_inline.proofs.UsesFound.{AreBound, AreFound, among_found, behind_found, both_found, none_bound, none_found, one_bound, outside_found, these_found, use_found}
-use Rattle.lk_inline.proofs.UsesOrder.{ordered_of}
+use Rattle.lk_sound.proofs.OrderedWords.{ordered_of}
 use Rattle.lk_scope.specs.Names.{Names, bind, no_names}
 use Rattle.lk_sites.proofs.Takes.{takes_split}
 use Rattle.lk_sites.specs.Pending.{Pending, pending}
@@ -23,7 +23,7 @@ use Rattle.lk_sites.specs.Takes.{Takes}
 use Rattle.lk_sites.specs.Takes as takes
 use Rattle.lk_sound.proofs.FlatTypes.{unit_not_flat}
 use Rattle.lk_sound.proofs.FreeLevels.{change_level, free_all, free_for_list, free_for_table, free_plain, free_query, free_var, own_uses}
-use Rattle.lk_sound.proofs.Members.{each_weaker}
+use Rattle.lk_types.proofs.Members.{each_weaker, each_front, each_back}
 use Rattle.lk_sound.proofs.Names.{IsAmong}
 use Rattle.lk_sound.proofs.QueryParts.{AreQueryNodes, IsQueryNode}
 use Rattle.lk_sound.proofs.QueryValues.{never_both}
@@ -32,7 +32,6 @@ use Rattle.lk_types.specs.Each.{Each}
 use Rattle.lk_types.specs.Rows.{Label, EffectSet}
 use Rattle.lk_types.specs.declared.ground.Ground.{Ground}
 use Rattle.lk_types.specs.declared.ty.Effect.TheVariants as effect
-use Rattle.lk_typing.proofs.Lists.{each_back, each_front}
 use Rattle.lk_typing.specs.Heads as operator
 use Rattle.lk_typing.specs.Heads.{Head}
 use Rattle.lk_typing.specs.Names.{Entry, Named, named}

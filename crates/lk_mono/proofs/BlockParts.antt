@@ -1,52 +1,18 @@
 -- What queries, updates and deletions of an expression use is what stands inside of them.
-use Rattle.std.proofs.Common.{◌≡◌, Bool, true, false, List, [], ◌∷◌, ◌++◌, Option, Some, None, refl, ap, subst, ◌∙◌}
+use Rattle.std.proofs.Common.{◌≡◌, Bool, true, false, List, [], ◌∷◌, ◌++◌, Option, Some, None, ap, subst, ◌∙◌}
 use Rattle.std.proofs.lemmas.Option.{none-some}
 use Rattle.lk_ast.specs.declared.declaration.TableDecl.{TableDecl}
 use Rattle.lk_ast.specs.declared.expression.Case.{Case}
 use Rattle.lk_ast.specs.declared.expression.ChangeExpr.{ChangeExpr}
 use Rattle.lk_ast.specs.declared.expression.Expr.{Expr}
+use Rattle.lk_sound.proofs.InsideNodes.{inside_nodes, inside_change, IsInside}
 use Rattle.lk_sound.specs.Nodes.{Block, Part, TypedNode, Use, parts_of, case_nodes, change_nodes, each_nodes, nodes_of}
+use Rattle.lk_types.proofs.Members.{each_front, each_back, each_both}
 use Rattle.lk_types.specs.Each.{Each}
 use Rattle.lk_types.specs.Rows.{EffectSet}
 use Rattle.lk_types.specs.declared.ground.Ground.{Ground}
-use Rattle.lk_typing.proofs.Lists.{each_back, each_both, each_front}
 use Rattle.lk_typing.specs.Names.{Entry, Named}
 use Rattle.lk_typing.specs.Typing.{HasType, HaveTypes, HaveCases, IsChange, plain, lambda, var, switch, switch_open, for_list, for_table, query, update, delete, none, more, no_cases, case_of, changed}
-
-abbrev IsInside : TypedNode → Type 0
-IsInside node = node.part.inside ≡ true
-
-inside_both : (xs ys : List TypedNode) → Each IsInside xs → Each IsInside ys → Each IsInside (xs ++ ys)
-inside_both = each_both IsInside
-
-module _ {functions : Named (Entry Ground)} {tables : List TableDecl} where
-  mutual
-    unfolding nodes_of
-
-    -- the nodes of what stands inside do so
-    nodes_inside : {names : Named Ground} {effects : EffectSet} {e : Expr} {t : Ground} {inside : List Ground} (d : HasType functions tables names effects e t inside) → Each IsInside (nodes_of true d)
-    nodes_inside (plain h ts is have by) = (refl, each_inside have)
-    nodes_inside (lambda l params own a is named moves body local) = (refl, nodes_inside body)
-    nodes_inside (var x d rest a first last is one then) = (refl, inside_both (nodes_of true one) (nodes_of true then) (nodes_inside one) (nodes_inside then))
-    nodes_inside (switch d cases row tags ts first bodies is one have same made local) = (refl, inside_both (nodes_of true one) (case_nodes true have) (nodes_inside one) (cases_inside have))
-    nodes_inside (switch_open d cases last rest row tags ts first bodies inside is one have same then made local) =
-        (refl, inside_both (nodes_of true one) (case_nodes true have ++ nodes_of true then) (nodes_inside one) (inside_both (case_nodes true have) (nodes_of true then) (cases_inside have) (nodes_inside then)))
-    nodes_inside (for_list x d body a c first inside is one then) = (refl, inside_both (nodes_of true one) (nodes_of true then) (nodes_inside one) (nodes_inside then))
-    nodes_inside (for_table x rows body a c first inside is one then) = (refl, inside_both (nodes_of true one) (nodes_of true then) (nodes_inside one) (nodes_inside then))
-    nodes_inside (query keys body a inside is one sorted scans own) = (refl, nodes_inside one)
-    nodes_inside (update change is changes writes) = (refl, change_inside changes)
-    nodes_inside (delete change is changes writes) = (refl, change_inside changes)
-
-    each_inside : {names : Named Ground} {effects : EffectSet} {es : List Expr} {ts inside : List Ground} (d : HaveTypes functions tables names effects es ts inside) → Each IsInside (each_nodes true d)
-    each_inside none = tt
-    each_inside (more inside rest first others) = inside_both (nodes_of true first) (each_nodes true others) (nodes_inside first) (each_inside others)
-
-    cases_inside : {names : Named Ground} {effects : EffectSet} {cases : List Case} {ts : List Ground} {tags : Named Ground} {inside : List Ground} (d : HaveCases functions tables names effects cases ts tags inside) → Each IsInside (case_nodes true d)
-    cases_inside no_cases = tt
-    cases_inside (case_of a bound inside rest held body others) = inside_both (nodes_of true body) (case_nodes true others) (nodes_inside body) (cases_inside others)
-
-    change_inside : {names : Named Ground} {change : ChangeExpr} {inside : List Ground} (d : IsChange functions tables names change inside) → Each IsInside (change_nodes d)
-    change_inside (changed row sets ts cond rest has holds values named fields) = inside_both (nodes_of true holds) (each_nodes true values) (nodes_inside holds) (each_inside values)
 
 module _ (R : Use → Type 0) where
   -- what is used inside has that
@@ -89,9 +55,9 @@ module _ (R : Use → Type 0) where
           (no_block, both (nodes_of b one) (case_nodes b have ++ nodes_of b then) (part_uses b one) (both (case_nodes b have) (nodes_of b then) (case_part_uses b have) (part_uses b then)) uses.1)
       part_uses b (for_list x d body a c first inside is one then) uses = (no_block, both (nodes_of b one) (nodes_of b then) (part_uses b one) (part_uses b then) uses.1)
       part_uses b (for_table x rows body a c first inside is one then) uses = (no_block, both (nodes_of b one) (nodes_of b then) (part_uses b one) (part_uses b then) uses.1)
-      part_uses b (query keys body a inside is one sorted scans own) uses = (λ block same. its_block _ block same (nothing_used, of_parts (nodes_of true one) (nodes_inside one) uses.1), part_uses true one uses.1)
-      part_uses b (update change is changes writes) uses = (λ block same. its_block _ block same (of_parts (change_nodes changes) (change_inside changes) uses.1), change_part_uses changes uses.1)
-      part_uses b (delete change is changes writes) uses = (λ block same. its_block _ block same (of_parts (change_nodes changes) (change_inside changes) uses.1), change_part_uses changes uses.1)
+      part_uses b (query keys body a inside is one sorted scans own) uses = (λ block same. its_block _ block same (nothing_used, of_parts (nodes_of true one) (inside_nodes one) uses.1), part_uses true one uses.1)
+      part_uses b (update change is changes writes) uses = (λ block same. its_block _ block same (of_parts (change_nodes changes) (inside_change changes) uses.1), change_part_uses changes uses.1)
+      part_uses b (delete change is changes writes) uses = (λ block same. its_block _ block same (of_parts (change_nodes changes) (inside_change changes) uses.1), change_part_uses changes uses.1)
 
       each_part_uses : {names : Named Ground} {effects : EffectSet} {es : List Expr} {ts inside : List Ground} (b : Bool) (d : HaveTypes functions tables names effects es ts inside) → Each UsesInside (each_nodes b d) → Each BlockUses (each_nodes b d)
       each_part_uses b none uses = tt

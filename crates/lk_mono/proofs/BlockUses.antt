@@ -8,10 +8,10 @@ use Rattle.lk_mono.proofs.FlatUses.{UsesLoopless, change_flat_uses, flat_uses}
 use Rattle.lk_mono.proofs.Loopless.{IsLoopless}
 use Rattle.lk_mono.specs.Shapes.{is_flat_part}
 use Rattle.lk_sound.specs.Nodes.{Block, Part, TypedNode, Use, parts_of, case_nodes, change_nodes, each_nodes, nodes_of}
+use Rattle.lk_types.proofs.Members.{each_front, each_back, each_both}
 use Rattle.lk_types.specs.Each.{Each}
 use Rattle.lk_types.specs.Rows.{EffectSet}
 use Rattle.lk_types.specs.declared.ground.Ground.{Ground}
-use Rattle.lk_typing.proofs.Lists.{each_back, each_both, each_front}
 use Rattle.lk_typing.specs.Names.{Entry, Named}
 use Rattle.lk_typing.specs.Typing.{HasType, HaveTypes, HaveCases, IsChange, plain, lambda, var, switch, switch_open, for_list, for_table, query, update, delete, none, more, no_cases, case_of}
 

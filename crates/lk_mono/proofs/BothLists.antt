@@ -1,10 +1,11 @@
 -- Both lists of instances, from the walks that make them.
-use Rattle.std.proofs.Common.{◌≡◌, ◌⊎◌, inl, inr, ℕ, suc, ◌+◌, ◌<◌, ◌≤◌, Bool, true, false, ◌||◌, not, List, [], ◌∷◌, ◌++◌, Option, Some, None, if◌then◌else◌, length, map, slice_get, refl, sym, ap, subst, ◌∙◌}
+use Rattle.std.proofs.Common.{◌≡◌, ◌⊎◌, ℕ, suc, ◌+◌, ◌<◌, ◌≤◌, Bool, true, false, ◌||◌, not, List, [], ◌∷◌, ◌++◌, Option, Some, None, if◌then◌else◌, length, map, slice_get, refl, sym, ap, subst, ◌∙◌}
 use Rattle.std.proofs.lemmas.List.{length-map}
 use Rattle.std.proofs.lemmas.Option.{slice_get_within}
 use native.Mathlib.Omega.{arith}
-use Rattle.lk_ground_types.proofs.Parts.{same_some}
+use Rattle.lk_types.proofs.Parts.{same_some}
 use Rattle.lk_ground_types.proofs.Variables.{true_false}
+use Rattle.lk_mono.proofs.Growing.{in_front}
 use Rattle.lk_mono.proofs.MadeUses.{all_made_uses}
 use Rattle.lk_mono.specs.Held.{AreHeld, IsHeld, IsSound, IsSource}
 use Rattle.lk_mono.specs.Instances.{AreDistinct, AreGathered, AreHelpers, AreInstances, AreMains, AreTooMany, Body, EndsFull, EndsLarge, HasBody, IsBody, IsDone, IsMain, IsTooLarge, Wanted, everywhere, first_large, most_instances, outside, own_turn, turn_of, uses_among, uses_of, with_use, within_blocks}
@@ -96,11 +97,6 @@ module _ (mains helpers : List Use) where
     helpers_listed (_ ∷ _) [] held all = elim held [ ]
 
 -- ---- growing lists
-
-in_front : (list more : List Use) (u : Use) → IsIn list u → IsIn (list ++ more) u
-in_front [] more u there = absurd there
-in_front (v ∷ list) more u (inl is) = inl is
-in_front (v ∷ list) more u (inr there) = inr (in_front list more u there)
 
 all_in_front : (list more us : List Use) → Each (IsIn list) us → Each (IsIn (list ++ more)) us
 all_in_front list more [] all = tt

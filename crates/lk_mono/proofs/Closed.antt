@@ -1,6 +1,6 @@
 -- The instances of a ground program are a closed set: what they use is among them, their queries are flat, and helpers call only
 -- what stands before them.
-use Rattle.std.proofs.Common.{◌≡◌, inl, inr, ℕ, zero, suc, ◌+◌, ◌<◌, Bool, true, false, ◌||◌, List, [], ◌∷◌, ◌++◌, Option, Some, None, length, map, find, slice_get, if◌then◌else◌, bytes_eq, cond, refl, sym, ap, ap₂, subst, ◌∙◌, append_assoc, append-nil}
+use Rattle.std.proofs.Common.{◌≡◌, inl, inr, ℕ, zero, suc, ◌+◌, ◌<◌, Bool, true, false, ◌||◌, List, [], ◌∷◌, ◌++◌, Option, Some, None, map, find, slice_get, if◌then◌else◌, bytes_eq, cond, refl, sym, ap, ap₂, subst, ◌∙◌, append_assoc, append-nil}
 use native.Mathlib.Omega.{arith}
 use Rattle.std.proofs.lemmas.Option.{none-some}
 use Rattle.std.proofs.lemmas.Slice.Eq.{bytes_eq-Decides}
@@ -12,7 +12,7 @@ use Rattle.lk_ast.specs.declared.declaration.Program.{Program}
 use Rattle.lk_ast.specs.declared.declaration.TableDecl.{TableDecl}
 use Rattle.lk_ground.specs.declared.program.GroundFun.{GroundFun}
 use Rattle.lk_ground.specs.declared.program.GroundProgram.{GroundProgram}
-use Rattle.lk_ground_types.proofs.Parts.{same_some}
+use Rattle.lk_types.proofs.Parts.{same_some}
 use Rattle.lk_ground_types.specs.Least.{least}
 use Rattle.lk_ground_types.specs.Shapes.{has_function, is_flat, is_query_type}
 use Rattle.lk_infer.proofs.Principal.{inferred_principal}
@@ -35,13 +35,13 @@ use Rattle.lk_mono.specs.Shapes as shapes
 use Rattle.lk_mono.specs.declared.error.ShapeKind.TheVariants.{QueryCapture, QueryNotFlat}
 use Rattle.lk_names.specs.Programs.{IsBound}
 use Rattle.lk_outline.proofs.Outlined.{outline_law}
-use Rattle.lk_principal.proofs.Beside.{one_place}
-use Rattle.lk_principal.proofs.There.{as_many_schemes}
+use Rattle.lk_principal.proofs.FunctionNames.{one_place}
+use Rattle.lk_principal.proofs.Standing.{both_parts}
 use Rattle.lk_principal.specs.Bodies.{IsSeenBy}
 use Rattle.lk_principal.specs.Law.{UseLaw}
 use Rattle.lk_sound.proofs.Apart.{functions_apart}
 use Rattle.lk_sound.proofs.FlatTypes.{second_holds}
-use Rattle.lk_sound.proofs.Members.{each_in, found_in, one_in_back, one_in_front}
+use Rattle.lk_types.proofs.Members.{each_in, found_in, one_in_back, one_in_front}
 use Rattle.lk_sound.specs.Functions.{AreSeen, HasFunctionType}
 use Rattle.lk_sound.specs.Instances.{AreClosed, HasBody, Instances, IsFine, IsFlatBlock, IsFlatPart, IsHelperNode, IsListed, IsShaped, number_in, number_of}
 use Rattle.lk_sound.specs.Law.{InstanceLaw}
@@ -52,22 +52,13 @@ use Rattle.lk_types.specs.declared.ground.Ground.{Ground, out-Ground}
 use Rattle.lk_types.specs.declared.ground.Ground.TheVariants as known
 use Rattle.lk_types.specs.declared.scheme.Scheme.{Scheme}
 use Rattle.lk_types.specs.declared.ty.Ty.{Ty}
+use Rattle.lk_typing.proofs.SchemeCounts.{as_many_schemes}
 use Rattle.lk_typing.specs.Groups.{is_mutual}
 use Rattle.lk_typing.specs.Names.{Entry, Named}
 use Rattle.lk_typing.specs.Programs.{HaveSchemes, entries}
 use Rattle.lk_typing.specs.Types.{function_of}
 
 -- ---- what names of functions stand for
-
-both_parts : {A : Type 0} (xs ys others rest : List A) → length xs ≡ length ys → xs ++ others ≡ ys ++ rest → (xs ≡ ys) × (others ≡ rest)
-both_parts [] [] others rest many is = (refl, is)
-both_parts [] (y ∷ ys) others rest many is = absurd (let wrong : 0 ≡ suc (length ys) = many in omega arith)
-both_parts (x ∷ xs) [] others rest many is = absurd (let wrong : suc (length xs) ≡ 0 = many in omega arith)
-both_parts (x ∷ xs) (y ∷ ys) others rest many is =
-    let front : x ≡ y = cc in
-    let back : xs ++ others ≡ ys ++ rest = cc in
-    let both = both_parts xs ys others rest (omega arith) back in
-    (ap₂ (λ z zs. z ∷ zs) front both.0, both.1)
 
 module _ (tables : List TableDecl) (decl : Decl) where
   -- where schemes hold, they stand for what they do in a context

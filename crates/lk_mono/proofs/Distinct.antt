@@ -6,8 +6,8 @@ use Rattle.lk_mono.specs.Instances.{AreDistinct, IsListed, IsWith}
 use Rattle.lk_mono.specs.Instances as instances
 use Rattle.lk_mono.specs.Queues.{is_made}
 use Rattle.lk_sound.specs.Nodes.{Use}
+use Rattle.lk_types.proofs.Members.{each_both}
 use Rattle.lk_types.specs.Each.{Each, OneOf}
-use Rattle.lk_typing.proofs.Lists.{each_both}
 
 abbrev IsIn : List Use → Use → Type 0
 IsIn list u = OneOf (λ other. other ≡ u) list

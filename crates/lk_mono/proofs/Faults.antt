@@ -1,5 +1,6 @@
 -- The first fault: what the code finds is what the definition says.
 use Rattle.std.proofs.Common.{◌≡◌, ℕ, ◌⊎◌, inl, inr, Bool, true, false, not, ◌&&◌, ◌||◌, List, [], ◌∷◌, Option, Some, None, map, refl, sym, ap, ◌∙◌, subst, nat_le, if◌then◌else◌}
+use Rattle.std.proofs.lemmas.Bool.{not-true}
 use Rattle.std.specs.Option.{option_or}
 use Rattle.lk_ast.specs.declared.place.Span.{Span}
 use Rattle.lk_ground_types.specs.Shapes.{has_function, is_base, is_flat}
@@ -7,7 +8,6 @@ use Rattle.lk_mono.proofs.Flags.{AreFlags, AreRight, flag_plain, flags_behind, i
 use Rattle.lk_mono.proofs.Flags as flags
 use Rattle.lk_mono.proofs.Inside.{HasWithin, IsWhole, IsWithin, whole_nodes}
 use Rattle.lk_mono.proofs.Marks.{or_left_right}
-use Rattle.lk_mono.proofs.Ones.{one_back, one_either, one_front}
 use Rattle.lk_mono.specs.Flatness.{Answers, behind, block_fault, body_fault, captured_odd, captures_odd, fault_of, first_fault, first_of, is_odd, is_odd_name, odd_nodes, placed, some_odd}
 use Rattle.lk_mono.specs.Grounded.{AreAllCalled, AreCalled}
 use Rattle.lk_mono.specs.Grounded as called
@@ -25,6 +25,7 @@ use Rattle.lk_sound.specs.Nodes as node
 use Rattle.lk_outline.specs.Outline.{Kind, Site, Function, Call, Equality, Order, Name, Query, Change, Other}
 use Rattle.lk_outline.specs.Shown.{shown}
 use Rattle.lk_outline.specs.Typed.{block_at, captured_at, captured_in, compared, effects_in, node_at, part_at, type_at, used}
+use Rattle.lk_types.proofs.Members.{one_in_front, one_in_back, one_of_both}
 use Rattle.lk_types.specs.Each.{Each, OneOf}
 use Rattle.lk_types.specs.declared.ground.Ground.{Ground, out-Ground}
 use Rattle.lk_types.specs.declared.ty.Effect.{Effect}
@@ -34,13 +35,9 @@ use Rattle.lk_types.specs.declared.ty.Effect.{Effect}
 abbrev IsOddType : Ground → Type 0
 IsOddType t = is_flat t ≡ false
 
-not_true : (b : Bool) → not b ≡ true → b ≡ false
-not_true true e = let f : false ≡ true = e in cc
-not_true false e = refl
-
 module _ (own : List Effect) (types : List Ground) (n : ℕ) where
   name_odd : (t : Ground) (b : Bool) → (b && not (is_flat t)) ≡ true → OneOf IsOddType (if b then t ∷ [] else [])
-  name_odd t true e = inl (not_true (is_flat t) e)
+  name_odd t true e = inl (not-true (is_flat t) e)
   name_odd t false e = let f : false ≡ true = e in cc
 
   odd_name : (t : Ground) (b : Bool) → OneOf IsOddType (if b then t ∷ [] else []) → (b && not (is_flat t)) ≡ true
@@ -71,13 +68,13 @@ module _ (own : List Effect) (types : List Ground) (n : ℕ) where
   captures : (sites : List Site) → captures_odd types n sites ≡ true → OneOf IsOddType (captured_in own types n sites)
   captures [] e = let f : false ≡ true = e in cc
   captures (s ∷ sites) e = elim (or_left_right (is_odd_name types n s s.kind) (captures_odd types n sites) e) [
-    | inl here ↦ one_front IsOddType (captured_at own types n s s.kind) (captured_in own types n sites) (captured_here s s.kind here)
-    | inr there ↦ one_back IsOddType (captured_at own types n s s.kind) (captured_in own types n sites) (captures sites there)
+    | inl here ↦ one_in_front IsOddType (captured_at own types n s s.kind) (captured_in own types n sites) (captured_here s s.kind here)
+    | inr there ↦ one_in_back IsOddType (captured_at own types n s s.kind) (captured_in own types n sites) (captures sites there)
   ]
 
   is_captured : (sites : List Site) → OneOf IsOddType (captured_in own types n sites) → captures_odd types n sites ≡ true
   is_captured [] one = absurd one
-  is_captured (s ∷ sites) one = elim (one_either IsOddType (captured_at own types n s s.kind) (captured_in own types n sites) one) [
+  is_captured (s ∷ sites) one = elim (one_of_both IsOddType (captured_at own types n s s.kind) (captured_in own types n sites) one) [
     | inl here ↦ ap (λ b. b || captures_odd types n sites) (here_captured s s.kind here)
     | inr there ↦ ap (λ b. is_odd_name types n s s.kind || b) (is_captured sites there) ∙ or_true (is_odd_name types n s s.kind)
   ]

@@ -1,7 +1,7 @@
 -- What instances are refused for because of their shapes is fixed: the place and the kind; and nothing where they have the shapes.
 use Rattle.std.proofs.Common.{◌≡◌, Bool, true, false, List, [], ◌∷◌, Some, refl, sym, ap, subst, ◌∙◌}
 use Rattle.lk_ast.specs.declared.place.Span.{Span}
-use Rattle.lk_ground_types.proofs.Parts.{same_some}
+use Rattle.lk_types.proofs.Parts.{same_some}
 use Rattle.lk_mono.proofs.Alone.{IsAlone}
 use Rattle.lk_mono.specs.Instances.{Body}
 use Rattle.lk_mono.specs.Shapes as Shapes

@@ -6,14 +6,15 @@ use Rattle.lk_ast.specs.declared.expression.Case.{Case}
 use Rattle.lk_ast.specs.declared.expression.ChangeExpr.{ChangeExpr}
 use Rattle.lk_ast.specs.declared.expression.Expr.{Expr}
 use Rattle.lk_ground_types.specs.Shapes.{is_query_type}
-use Rattle.lk_mono.proofs.Loopless.{IsLoopless, flat_type, function_not_flat, function_recurs, query_loopless}
+use Rattle.lk_mono.proofs.Loopless.{IsLoopless, flat_type, function_recurs, query_loopless}
 use Rattle.lk_mono.specs.Shapes.{is_flat_part}
+use Rattle.lk_sound.proofs.FlatTypes.{function_not_flat}
 use Rattle.lk_sound.specs.Nodes.{TypedNode, Use, case_nodes, change_nodes, each_nodes, nodes_of, used_by}
+use Rattle.lk_types.proofs.Members.{each_front, each_back, each_both}
 use Rattle.lk_types.specs.Each.{Each}
 use Rattle.lk_types.specs.Rows.{EffectSet}
 use Rattle.lk_types.specs.declared.ground.Ground.{Ground}
 use Rattle.lk_types.specs.declared.ty.Effect.TheVariants as effect
-use Rattle.lk_typing.proofs.Lists.{each_back, each_both, each_front}
 use Rattle.lk_typing.specs.Heads.{Head}
 use Rattle.lk_typing.specs.Names.{Entry, Named, types_of}
 use Rattle.lk_typing.specs.Rules.{Rule}

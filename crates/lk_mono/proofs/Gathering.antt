@@ -22,8 +22,8 @@ use Rattle.lk_mono.specs.declared.body.Source.{Source}
 use Rattle.lk_mono.specs.declared.look.Found.{Found}
 use Rattle.lk_mono.specs.declared.queue.Queue.{Queue}
 use Rattle.lk_principal.specs.Law.{UseLaw}
+use Rattle.lk_types.proofs.Parts.{same_some}
 use Rattle.lk_types.specs.Each.{Each}
-use Rattle.lk_typing.proofs.Values.{just}
 
 -- ---- lists
 
@@ -35,7 +35,7 @@ item_at (y ∷ xs) (suc i) x within is = item_at xs i x (omega arith) is
 -- what holds of the first ones, and of the next one
 each_next : {A : Type 0} (P : A → Type 0) (xs : List A) (n : ℕ) (x : A) → slice_get xs n ≡ Some x → Each P (take n xs) → P x → Each P (take (suc n) xs)
 each_next P [] n x is all this = tt
-each_next P (y ∷ xs) zero x is all this = (subst P (sym (just is)) this, tt)
+each_next P (y ∷ xs) zero x is all this = (subst P (sym (same_some is)) this, tt)
 each_next P (y ∷ xs) (suc n) x is all this = (all.0, each_next P xs n x is all.1 this)
 
 each_whole : {A : Type 0} (P : A → Type 0) (xs : List A) (n : ℕ) → length xs ≤ n → Each P (take n xs) → Each P xs
@@ -55,7 +55,7 @@ record IsBeside (source : Source) (one : TheBody) (bodies : List Body) (i : ℕ)
 
 beside : (source : Source) (helds : List TheBody) (bodies : List Body) → AreHeld source helds bodies → (i : ℕ) (one : TheBody) → slice_get helds i ≡ Some one → IsBeside source one bodies i
 beside source _ _ held.AreHeld.none i one is = absurd (none-some one is)
-beside source _ _ (held.AreHeld.more {body = body} this are) zero one is = record { body = body; there = refl; is_held = subst (λ first. IsHeld source first body) (just is) this }
+beside source _ _ (held.AreHeld.more {body = body} this are) zero one is = record { body = body; there = refl; is_held = subst (λ first. IsHeld source first body) (same_some is) this }
 beside source _ _ (held.AreHeld.more {helds = helds} {bodies = bodies} this are) (suc i) one is =
     let later : IsBeside source one bodies i = beside source helds bodies are i one is in
     record { body = later.body; there = later.there; is_held = later.is_held }

@@ -33,7 +33,7 @@ IsIn list u = OneOf (λ other. other ≡ u) list
 abbrev pub AreIn : List Use → Wanted → List Body → Type 0
 AreIn list wanted bodies = Each (λ (body : Body). Each (IsIn list) (uses_among wanted body.nodes)) bodies
 
-in_front : (list rest : List Use) (u : Use) → IsIn list u → IsIn (list ++ rest) u
+pub in_front : (list rest : List Use) (u : Use) → IsIn list u → IsIn (list ++ rest) u
 in_front [] rest u none = absurd none
 in_front (v ∷ list) rest u (inl here) = inl here
 in_front (v ∷ list) rest u (inr later) = inr (in_front list rest u later)

@@ -17,12 +17,11 @@ use Rattle.lk_mono.specs.declared.error.ShapeKind.TheVariants.{QueryNotFlat}
 use Rattle.lk_names.specs.Programs.{IsBound}
 use Rattle.lk_outline.specs.Law.{OutlineLaw}
 use Rattle.lk_sound.specs.Nodes.{Block, Part, TypedNode, Use, nodes_of, parts_of}
-use Rattle.lk_sound.proofs.Members.{each_in}
+use Rattle.lk_types.proofs.Members.{each_in, each_both}
 use Rattle.lk_types.specs.Each.{Each, OneOf}
 use Rattle.lk_types.specs.declared.scheme.Scheme.{Scheme}
 use Rattle.lk_types.specs.declared.ty.Effect.TheVariants as effect
 use Rattle.lk_types.specs.declared.ty.Ty.{Ty}
-use Rattle.lk_typing.proofs.Lists.{each_both}
 use Rattle.lk_typing.specs.Names.{types_of}
 
 -- ---- parts

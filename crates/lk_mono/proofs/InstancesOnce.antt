@@ -4,14 +4,14 @@ use Rattle.lk_ast.specs.Functions.{functions_of}
 use Rattle.lk_ast.specs.declared.declaration.FunDef.{FunDef}
 use Rattle.lk_ast.specs.declared.declaration.Program.{Program}
 use Rattle.lk_ast.specs.declared.place.Span.{Span}
-use Rattle.lk_ground_types.proofs.Parts.{same_some}
+use Rattle.lk_types.proofs.Parts.{same_some}
 use Rattle.lk_ground_types.specs.Least.{least}
 use Rattle.lk_mono.proofs.SameNodes.{same_nodes}
 use Rattle.lk_mono.proofs.WalkedOnce.{done_once, done_small, done_within, full_or_large, large_once}
 use Rattle.lk_mono.specs.Instances.{AreGathered, AreHelpers, AreInstances, AreMains, AreTooMany, Body, EndsFull, EndsLarge, HasBody, IsBody, IsDone, IsMain, IsTooLarge, everywhere, outside, own_turn, turn_of, uses_of, within_blocks}
 use Rattle.lk_names.specs.Programs.{IsBound}
 use Rattle.lk_outline.specs.Law.{OutlineLaw}
-use Rattle.lk_principal.proofs.Beside.{one_place}
+use Rattle.lk_principal.proofs.FunctionNames.{one_place}
 use Rattle.lk_sound.proofs.Apart.{functions_apart}
 use Rattle.lk_sound.specs.Nodes.{TypedNode, Use}
 use Rattle.lk_types.specs.Each.{Each}

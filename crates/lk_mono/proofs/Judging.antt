@@ -2,7 +2,7 @@
 use Rattle.std.proofs.Common.{◌≡◌, ℕ, ◌<◌, Bool, Err, length, true, false, List, [], ◌∷◌, Option, Some, None, map, slice_get, refl, sym, ap, subst, ◌∙◌}
 use native.Mathlib.Omega.{arith}
 use Rattle.lk_ast.specs.declared.place.Span.{Span}
-use Rattle.lk_ground_types.proofs.Parts.{same_some}
+use Rattle.lk_types.proofs.Parts.{same_some}
 use Rattle.lk_mono.specs.Flatness.{Answers}
 use Rattle.lk_mono.specs.Instances.{Body, uses_of}
 use Rattle.lk_mono.specs.Grounded.{AreAllCalled}

@@ -21,12 +21,11 @@ use Rattle.lk_mono.specs.Instances.{Body, HasBody, IsBody, uses_of}
 use Rattle.lk_mono.specs.Keeps.{Keeps, KeepsSessions}
 use Rattle.lk_names.specs.Programs.{IsBound}
 use Rattle.lk_sound.specs.Nodes.{Use, TypedNode}
-use Rattle.lk_sound.proofs.Members.{each_of_in, found_in}
+use Rattle.lk_types.proofs.Members.{each_of_in, found_in, each_both}
 use Rattle.lk_sound.specs.Within.{IsFunctionOf}
 use Rattle.lk_types.specs.Each.{Each, OneOf}
 use Rattle.lk_types.specs.declared.scheme.Scheme.{Scheme}
 use Rattle.lk_types.specs.declared.ty.Ty.{Ty}
-use Rattle.lk_typing.proofs.Lists.{each_both}
 
 -- ---- uses outside of queries, updates and deletions
 

@@ -1,5 +1,5 @@
 -- Types that aren't those of functions that may call themselves, and that what may stand in a query has such a type.
-use Rattle.std.proofs.Common.{◌≡◌, Bool, true, false, ◌&&◌, ◌||◌, List, refl, sym, ap, ◌∙◌}
+use Rattle.std.proofs.Common.{◌≡◌, Bool, true, false, ◌&&◌, ◌||◌, List, refl, ap, ◌∙◌}
 use Rattle.lk_ground_types.proofs.EffectLists.{in_list}
 use Rattle.lk_ground_types.specs.Bound.{is_listed}
 use Rattle.lk_ground_types.specs.Shapes.{base_level, row_level, rows_level, is_query_type}
@@ -45,10 +45,6 @@ level_loopless (Ground-F.Tags tags) is = refl
 
 pub query_loopless : (t : Ground) → is_query_type t ≡ true → IsLoopless t
 query_loopless t is = level_loopless (out-Ground t) is
-
--- a function doesn't stand in a query
-pub function_not_flat : (params : List Ground) (effects : EffectSet) (answer : Ground) → is_query_type (function_of params effects answer) ≡ true → ⊥
-function_not_flat params effects answer is = let wrong : false ≡ true = sym (ap query_level (known.outs-Fun params (effects_of effects) answer)) ∙ is in cc
 
 -- the type of what may stand in a query
 pub flat_type : (t : Ground) (compares : Bool) → (is_query_type t && compares) ≡ true → is_query_type t ≡ true

@@ -12,11 +12,11 @@ use Rattle.lk_mono.proofs.Siting.{all_fit_at}
 use Rattle.lk_mono.specs.Instances.{Wanted, can_be_made, can_be_made_level, first_large, fits, uses_among, with_use}
 use Rattle.lk_mono.specs.Queues.{is_made}
 use Rattle.lk_sound.specs.Nodes.{TypedNode, Use, case_nodes, change_nodes, each_nodes, nodes_of, used_by}
+use Rattle.lk_types.proofs.Members.{each_front, each_back, each_both}
 use Rattle.lk_types.specs.Each.{Each}
 use Rattle.lk_types.specs.Rows.{EffectSet, effects_of}
 use Rattle.lk_types.specs.declared.ground.Ground.{Ground}
 use Rattle.lk_types.specs.declared.ground.Ground.TheVariants as known
-use Rattle.lk_typing.proofs.Lists.{each_back, each_both, each_front}
 use Rattle.lk_typing.specs.Heads.{Head}
 use Rattle.lk_typing.specs.Names.{Entry, Named}
 use Rattle.lk_typing.specs.Rules.{Rule}

@@ -5,7 +5,7 @@ use Rattle.lk_ast.specs.Functions.{main_of}
 use Rattle.lk_ast.specs.declared.declaration.FunDef.{FunDef}
 use Rattle.lk_ast.specs.declared.declaration.Program.{Program}
 use Rattle.lk_ground_types.proofs.GroundNodes.{ground_text}
-use Rattle.lk_ground_types.proofs.Parts.{mapped, same_some}
+use Rattle.lk_types.proofs.Parts.{mapped, same_some}
 use Rattle.lk_ground_types.specs.Least.{least}
 use Rattle.lk_ground_types.specs.Sizes.{within}
 use Rattle.lk_mono.proofs.FirstNode.{Begins, begins}

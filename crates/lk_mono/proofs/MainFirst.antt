@@ -7,16 +7,16 @@ use Rattle.lk_ast.specs.declared.declaration.Program.{Program}
 use Rattle.lk_ground.specs.Language.{function_of, instance}
 use Rattle.lk_ground.specs.declared.program.GroundFun.{GroundFun}
 use Rattle.lk_ground.specs.declared.program.GroundProgram.{GroundProgram}
-use Rattle.lk_ground_types.proofs.Parts.{same_some}
+use Rattle.lk_types.proofs.Parts.{same_some}
 use Rattle.lk_mono.proofs.Closed.{first_same, walked_from}
 use Rattle.lk_mono.specs.Grounded.{Are, IsGrounded}
 use Rattle.lk_mono.specs.Instances.{Body, uses_of}
 use Rattle.lk_mono.specs.Keeps.{IsMainInstance}
 use Rattle.lk_mono.specs.Shapes.{AreShaped}
 use Rattle.lk_names.specs.Programs.{IsBound}
-use Rattle.lk_principal.proofs.Beside.{found_named}
+use Rattle.lk_principal.proofs.FunctionNames.{found_named}
 use Rattle.lk_sound.proofs.Apart.{functions_apart}
-use Rattle.lk_sound.proofs.Members.{found_in}
+use Rattle.lk_types.proofs.Members.{found_in}
 use Rattle.lk_sound.specs.Nodes.{Use}
 use Rattle.lk_types.specs.declared.scheme.Scheme.{Scheme}
 use Rattle.lk_types.specs.declared.ty.Ty.{Ty}

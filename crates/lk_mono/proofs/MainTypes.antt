@@ -1,8 +1,8 @@
 -- The type of `main`: what becomes a function of a text where the least stands for variables is written as a function type.
 use Rattle.std.proofs.Common.{◌≡◌, Bool, true, false, List, [], ◌∷◌, Option, Some, None, refl, sym, ap, subst, ◌∙◌}
 use Rattle.std.specs.Option.{option_map}
-use Rattle.lk_ground_types.proofs.Parts.{mapped, same_some}
-use Rattle.lk_ground_types.proofs.TypeInduction.{Hereditary, every_type}
+use Rattle.lk_types.proofs.Parts.{mapped, same_some}
+use Rattle.lk_types.proofs.TypeInduction.{Hereditary, every_type}
 use Rattle.lk_ground_types.proofs.Variables.{true_false}
 use Rattle.lk_ground_types.specs.Functions.{effects_in, effects_level}
 use Rattle.lk_ground_types.specs.Least.{least, unit}

@@ -1,5 +1,6 @@
 -- The first instance: `main` at its least type.
 use Rattle.std.proofs.Common.{◌≡◌, ℕ, ◌+◌, ◌<◌, Bool, true, false, ◌&&◌, ◌==◌, codes, List, [], ◌∷◌, ◌++◌, Option, Some, None, length, map, find, slice_get, refl, sym, ap, subst, ◌∙◌}
+use Rattle.std.proofs.lemmas.Bool.{eqb-true}
 use Rattle.std.proofs.lemmas.List.{length-map}
 use Rattle.std.proofs.lemmas.Option.{none-some}
 use Rattle.std.specs.Option.{option_map}
@@ -10,8 +11,8 @@ use Rattle.lk_ast.specs.declared.declaration.Program.{Program}
 use Rattle.lk_ast.specs.declared.declaration.TableDecl.{TableDecl}
 use Rattle.lk_ast.specs.declared.place.Span.{Span}
 use Rattle.lk_ast.specs.declared.place.Word.{Word}
-use Rattle.lk_ground_types.proofs.Parts.{mapped, same_some}
-use Rattle.lk_ground_types.proofs.Variables.{same_number, true_false}
+use Rattle.lk_types.proofs.Parts.{mapped, same_some}
+use Rattle.lk_ground_types.proofs.Variables.{true_false}
 use Rattle.lk_ground_types.specs.Least.{least}
 use Rattle.lk_ground_types.specs.Sizes.{within}
 use Rattle.lk_infer.specs.Inferred.{HasTypes}
@@ -21,11 +22,11 @@ use Rattle.lk_mono.specs.Mains.{IsOfText, made_of_text, of_text}
 use Rattle.lk_mono.specs.Members.{TheMember, members_of, named_member}
 use Rattle.lk_names.specs.Programs.{IsBound}
 use Rattle.lk_sound.specs.Nodes.{Use}
-use Rattle.lk_principal.proofs.Beside.{found_named}
+use Rattle.lk_principal.proofs.FunctionNames.{found_named}
 use Rattle.lk_principal.specs.Bodies.{IsTyped, IsTypedLeast, shares}
 use Rattle.lk_principal.specs.Law.{BodyLaw, IsInstanceOf, LeastLaw, SchemesLaw}
 use Rattle.lk_sound.proofs.Apart.{functions_apart}
-use Rattle.lk_sound.proofs.Members.{found_in}
+use Rattle.lk_types.proofs.Members.{found_in}
 use Rattle.lk_types.specs.Each.{Each, OneOf}
 use Rattle.lk_types.specs.Rows.{EffectSet, Label, effects_of}
 use Rattle.lk_types.specs.Schemes.{IsInstance}
@@ -67,7 +68,7 @@ module _ (p : Program) (schemes : List Scheme) (types : List Ty) where
   one_text (t ∷ u ∷ ts) one are = absurd (omega (arith, one))
 
   one_parameter : (f : FunDef) → is_main f ≡ true → length f.params ≡ 1
-  one_parameter f is = same_number (length f.params) 1 (and_right (is_named (codes "main") f) (length f.params == 1) (and_left (is_named (codes "main") f && (length f.params == 1)) (is_client f.place) is))
+  one_parameter f is = eqb-true (length f.params) 1 (and_right (is_named (codes "main") f) (length f.params == 1) (and_left (is_named (codes "main") f && (length f.params == 1)) (is_client f.place) is))
 
   pub is_of_text : {functions : Named (Entry Ground)} {tables : List TableDecl} {in_mutual : Bool} {f : FunDef} {t : Ground} {nodes : List Ground} → is_main f ≡ true
       → IsFunction functions tables in_mutual f t nodes → (effects : EffectSet) × (answer : Ground) × (t ≡ function_of (known.Text ∷ []) effects answer)

@@ -4,7 +4,7 @@ use Rattle.lk_ast.specs.declared.declaration.FunDef.{FunDef}
 use Rattle.lk_ast.specs.declared.declaration.Program.{Program}
 use Rattle.lk_ast.specs.declared.place.Span.{Span}
 use Rattle.lk_ground.specs.declared.program.GroundProgram.{GroundProgram}
-use Rattle.lk_ground_types.proofs.Parts.{same_some}
+use Rattle.lk_types.proofs.Parts.{same_some}
 use Rattle.lk_mono.proofs.Alone.{IsAlone, all_alone}
 use Rattle.lk_mono.proofs.FaultsOnce.{AreSame, misshapen_once, shaped_fine}
 use Rattle.lk_mono.proofs.InstancesOnce.{instances_once, listed_small, listed_within, many_or_large, too_large_once}

@@ -10,17 +10,17 @@ use Rattle.lk_mono.specs.Members.{as_member, member_of, members_of, named_member
 use Rattle.lk_mono.specs.declared.body.Source.{Source}
 use Rattle.lk_mono.specs.declared.member.Member.{Member}
 use Rattle.lk_sound.specs.Nodes.{Use}
-use Rattle.lk_principal.proofs.Beside.{names}
+use Rattle.lk_principal.proofs.FunctionNames.{names}
 use Rattle.lk_principal.specs.Bodies.{body_size, shares}
 use Rattle.lk_principal.specs.Law.{IsInstanceOf}
 use Rattle.lk_sound.proofs.Apart.{functions_apart}
 use Rattle.lk_sound.proofs.Names.{AreDistinct, IsAmong}
+use Rattle.lk_types.proofs.Parts.{same_some}
 use Rattle.lk_types.specs.Grounding.{Grounding}
 use Rattle.lk_types.specs.Rows.{Label}
 use Rattle.lk_types.specs.Schemes.{IsInstance}
 use Rattle.lk_types.specs.declared.scheme.Scheme.{Scheme}
 use Rattle.lk_types.specs.declared.ty.Ty.{Ty}
-use Rattle.lk_typing.proofs.Values.{just}
 
 -- ---- functions with their own
 
@@ -30,7 +30,7 @@ name_of [] name f is = absurd (none-some f is)
 name_of (g ∷ fs) name f is = by_test (bytes_eq g.name.text name) refl is (name_of fs name f)
   where
     by_test : (b : Bool) → bytes_eq g.name.text name ≡ b → cond b (Some g) (find (is_named name) fs) ≡ Some f → (find (is_named name) fs ≡ Some f → f.name.text ≡ name) → f.name.text ≡ name
-    by_test true same is later = ap (λ (h : FunDef). h.name.text) (sym (just is)) ∙ (bytes_eq-Decides g.name.text name).0 same
+    by_test true same is later = ap (λ (h : FunDef). h.name.text) (sym (same_some is)) ∙ (bytes_eq-Decides g.name.text name).0 same
     by_test false other is later = later is
 
 -- each function has a share
@@ -41,7 +41,7 @@ share_at (g ∷ fs) types (suc i) f is = share_at fs (drop (body_size g) types) 
 
 named_at : (fs : List FunDef) (i : ℕ) (f : FunDef) → slice_get fs i ≡ Some f → IsAmong f.name.text (names fs)
 named_at [] i f is = absurd (none-some f is)
-named_at (g ∷ fs) zero f is = inl (ap (λ (h : FunDef). h.name.text) (just is))
+named_at (g ∷ fs) zero f is = inl (ap (λ (h : FunDef). h.name.text) (same_some is))
 named_at (g ∷ fs) (suc i) f is = inr (named_at fs i f is)
 
 -- the one of that name stands with its own
@@ -52,8 +52,8 @@ own_member [] schemes types i f scheme own distinct is has share = absurd (none-
 own_member (g ∷ fs) [] types i f scheme own distinct is has share = absurd (none-some scheme has)
 own_member (g ∷ fs) (s ∷ schemes) types zero f scheme own distinct is has share =
     ap (λ b. cond b (Some (member_of g s (take (body_size g) types))) (named_member f.name.text (members_of fs schemes (drop (body_size g) types))))
-    ((bytes_eq-Decides g.name.text f.name.text).1 (ap (λ (h : FunDef). h.name.text) (just is)))
-    ∙ (λ j. Some (member_of (just is j) (just has j) (just share j)))
+    ((bytes_eq-Decides g.name.text f.name.text).1 (ap (λ (h : FunDef). h.name.text) (same_some is)))
+    ∙ (λ j. Some (member_of (same_some is j) (same_some has j) (same_some share j)))
 own_member (g ∷ fs) (s ∷ schemes) types (suc i) f scheme own distinct is has share =
     by_test (bytes_eq g.name.text f.name.text) refl (own_member fs schemes (drop (body_size g) types) i f scheme own distinct.1 is has share)
   where
@@ -111,5 +111,5 @@ module _ (source : Source) (is : IsSource source) (u : Use) (instance : IsInstan
     share = own_share.1;
     instance = instance.instance;
     name = its_name;
-    member = just (ap (option_map (λ (m : Bor Member). as_member m.now)) (sym some) ∙ found_is);
+    member = same_some (ap (option_map (λ (m : Bor Member). as_member m.now)) (sym some) ∙ found_is);
   }

@@ -1,6 +1,7 @@
 -- The places of instances that are listed for the uses among nodes, found by where the uses begin.
 use Rattle.std.proofs.Common.{◌≡◌, refl, sym, ap, subst, ◌∙◌, arith, ℕ, Bool, true, false, ◌||◌, ◌==◌, if◌then◌else◌, List, [], ◌∷◌, ◌++◌, map, Some, None, slice_get}
 use Rattle.std.proofs.lemmas.Bool.Decides.{nat_tests}
+use Rattle.std.proofs.lemmas.Bool.{eqb-true}
 use Rattle.std.proofs.lemmas.Option.{none-some}
 use Rattle.lk_ground.specs.Language.{at_place}
 use Rattle.lk_ground.specs.Sites.{PlacedUse, use_at}
@@ -9,14 +10,11 @@ use Rattle.lk_mono.proofs.PlacedUses.{placed, use_placed}
 use Rattle.lk_mono.specs.Grounded.{AreCalled}
 use Rattle.lk_mono.specs.Grounded as grounded
 use Rattle.lk_sound.specs.Nodes.{Use, TypedNode}
-use Rattle.lk_sound.proofs.Members.{each_weaker}
+use Rattle.lk_types.proofs.Members.{each_weaker}
 use Rattle.lk_types.specs.Each.{Each}
 
 abbrev pub sites : List PlacedUse → List ℕ
 sites uses = map (λ u. u.site) uses
-
-same_number : (m n : ℕ) → (m == n) ≡ true → m ≡ n
-same_number m n is = grind (arith, nat_tests)
 
 number_itself : (n : ℕ) → (n == n) ≡ true
 number_itself n = grind (arith, nat_tests)
@@ -31,7 +29,7 @@ not_none (u ∷ uses) [] site n m found none same = none-some n found
 not_none (u ∷ uses) (place ∷ places) site n m found none same = by_test (u.site == site) refl found (λ later. not_none uses places site n m later none.1 same)
   where
     by_test : (b : Bool) → (u.site == site) ≡ b → (if b then Some place else at_place uses places site) ≡ Some n → (at_place uses places site ≡ Some n → ⊥) → ⊥
-    by_test true here found later = none.0 (same ∙ sym (same_number u.site site here))
+    by_test true here found later = none.0 (same ∙ sym (eqb-true u.site site here))
     by_test false other found later = later found
 
 -- it is found behind a use that begins elsewhere than all others

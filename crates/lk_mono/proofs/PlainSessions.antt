@@ -20,7 +20,7 @@ use Rattle.lk_ground.specs.Alike.{Alike}
 use Rattle.lk_ground.specs.Language.{function_of}
 use Rattle.lk_ground.specs.declared.program.GroundFun.{GroundFun}
 use Rattle.lk_ground.specs.declared.program.GroundProgram.{GroundProgram}
-use Rattle.lk_ground_types.proofs.Parts.{same_some}
+use Rattle.lk_types.proofs.Parts.{same_some}
 use Rattle.lk_ground_types.specs.Shapes.{has_function}
 use Rattle.lk_mono.specs.Keeps.{Keeps, SameEvents}
 use Rattle.lk_mono.specs.Plain.{IsPlainEvent, IsPlainOut, ShowsPlain}

@@ -6,7 +6,7 @@ use Rattle.lk_ast.specs.Functions.{functions_of}
 use Rattle.lk_ast.specs.declared.declaration.Program.{Program}
 use Rattle.lk_ground.specs.declared.program.GroundFun.{GroundFun}
 use Rattle.lk_ground.specs.declared.program.GroundProgram.{GroundProgram}
-use Rattle.lk_ground_types.proofs.Parts.{same_some}
+use Rattle.lk_types.proofs.Parts.{same_some}
 use Rattle.lk_infer.specs.Inferred.{HasTypes}
 use Rattle.lk_mono.proofs.HelperUses.{IsGood, all_good, body_there, effects_free}
 use Rattle.lk_mono.proofs.Loopless.{IsLoopless}
@@ -21,7 +21,7 @@ use Rattle.lk_mono.specs.Shapes.{IsUsedBy}
 use Rattle.lk_names.specs.Programs.{IsBound}
 use Rattle.lk_outline.proofs.Outlined.{outline_law}
 use Rattle.lk_sound.specs.Nodes.{TypedNode, Use, nodes_of, parts_of}
-use Rattle.lk_principal.proofs.Beside.{one_place}
+use Rattle.lk_principal.proofs.FunctionNames.{one_place}
 use Rattle.lk_principal.specs.Law.{IsInstanceOf, UseLaw}
 use Rattle.lk_sound.proofs.Apart.{functions_apart}
 use Rattle.lk_types.specs.Each.{Each, OneOf}

@@ -1,5 +1,6 @@
 -- Marks of helpers: a helper is marked just where it reaches one that has something odd in it.
 use Rattle.std.proofs.Common.{◌≡◌, ℕ, zero, suc, ◌<◌, inl, inr, Bool, true, false, not, ◌||◌, List, [], ◌∷◌, Some, None, length, map, slice_get, refl, sym, ap, ◌∙◌, subst, arith}
+use Rattle.std.proofs.lemmas.Bool.{not-true}
 use Rattle.std.specs.List.{list_any}
 use Rattle.std.specs.Option.{option_map}
 use Rattle.std.proofs.lemmas.List.{length-map}
@@ -40,12 +41,8 @@ compared_same own types Other = refl
 flat_same : (own : List Effect) (types : List Ground) (s : Site) → is_flat_part (part_at own types s) ≡ is_flat_part (part_at [] types s)
 flat_same own types s = ap (λ c. is_flat_part (record { span = s.span; type = type_at types s.number; use_of = None; compares = c; inside = s.inside })) (compared_same own types s.kind)
 
-not_true : (b : Bool) → not b ≡ true → b ≡ false
-not_true true e = let no : false ≡ true = e in cc
-not_true false e = refl
-
 pub odd_part : (own : List Effect) (types : List Ground) (s : Site) → is_odd types s ≡ true → IsOdd (part_at own types s)
-odd_part own types s e = flat_same own types s ∙ not_true (is_flat_part (part_at [] types s)) e
+odd_part own types s e = flat_same own types s ∙ not-true (is_flat_part (part_at [] types s)) e
 
 pub odd_site : (own : List Effect) (types : List Ground) (s : Site) → IsOdd (part_at own types s) → is_odd types s ≡ true
 odd_site own types s odd = ap not (sym (flat_same own types s) ∙ odd)

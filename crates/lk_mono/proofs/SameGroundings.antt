@@ -1,23 +1,23 @@
 -- Groundings under which a type becomes the same say the same of its variables.
+use Rattle.lk_infer.proofs.GroundParts.{same_element, same_row}
 use Rattle.std.proofs.Common.{◌≡◌, ℕ, List, [], ◌∷◌, ◌++◌, map, Option, Some, refl, sym, ap, subst, ◌∙◌}
-use Rattle.std.specs.FinMap as fin
 use Rattle.std.specs.List.{cons_option}
 use Rattle.std.specs.Prelude.{flat_map}
 use Rattle.lk_ground_types.proofs.Arms.{rest_is}
 use Rattle.lk_ground_types.proofs.EffectLists.{left_of}
-use Rattle.lk_ground_types.proofs.LabelMaps.{map_back}
-use Rattle.lk_ground_types.proofs.Parts.{all_some, function_some, mapped, row_rolled, same_some, with_one}
-use Rattle.lk_ground_types.proofs.TypeInduction.{Hereditary, every_type}
+use Rattle.lk_types.proofs.Agreement.{variables_rolled_row}
+use Rattle.lk_types.proofs.Members.{each_both}
+use Rattle.lk_types.proofs.Parts.{all_some, function_some, mapped, row_rolled, same_some, with_one}
+use Rattle.lk_types.proofs.TypeInduction.{Hereditary, every_type}
 use Rattle.lk_ground_types.proofs.Variables.{among_each}
-use Rattle.lk_ground_types.specs.Bound.{row_of}
-use Rattle.lk_ground_types.specs.Forms.{fields_in, fields_level, function_in, function_level, item_in, item_level, tags_in, tags_level}
+use Rattle.lk_ground_types.specs.Forms.{fields_in, fields_level, function_in, function_level, tags_in, tags_level}
 use Rattle.lk_ground_types.specs.Least.{AreSameAt}
 use Rattle.lk_ground_types.specs.Matching.{IsSameAt}
 use Rattle.lk_types.proofs.Unfold.{under_fields, under_function, under_list, under_tags, under_variable, variables_bool, variables_field, variables_fields, variables_function, variables_int, variables_list, variables_tags, variables_text, variables_variable}
 use Rattle.lk_types.specs.Each.{Each}
 use Rattle.lk_types.specs.Grounding.{Grounding, all_of, before_effects, before_row, effect_tail, effects_under, row_tail, row_under, under}
 use Rattle.lk_types.specs.Rows.{EffectSet, Label, Row, effects_of, fields_of}
-use Rattle.lk_types.specs.Variables.{before_tail, field_variables, joined, row_variables, tail_variable, ty_variables, variables_of, variables_of_field, variables_of_row}
+use Rattle.lk_types.specs.Variables.{joined, tail_variable, variables_of, variables_of_field, variables_of_row}
 use Rattle.lk_types.specs.declared.ground.Ground.{Ground}
 use Rattle.lk_types.specs.declared.ground.Ground.TheVariants as known
 use Rattle.lk_types.specs.declared.ground.GroundField.{GroundField}
@@ -26,19 +26,13 @@ use Rattle.lk_types.specs.declared.ty.Effects.{Effects}
 use Rattle.lk_types.specs.declared.ty.RowTail.{RowTail}
 use Rattle.lk_types.specs.declared.ty.RowTail.TheVariants.{Closed, Var}
 use Rattle.lk_types.specs.declared.ty.Ty.{Ty}
-use Rattle.lk_types.specs.declared.ty.Ty.TheFolds.{fold-roll-TyRow}
-use Rattle.lk_types.specs.declared.ty.Ty.TheOpen.{TyRow-F}
 use Rattle.lk_types.specs.declared.ty.Ty.TheVariants as ty
 use Rattle.lk_types.specs.declared.ty.TyField.{TyField}
 use Rattle.lk_types.specs.declared.ty.TyRow.{TyRow, roll-TyRow}
 use Rattle.lk_types.specs.declared.ty.Variable.{Variable}
 use Rattle.lk_types.specs.declared.ty.Variable.TheVariants as variable
-use Rattle.lk_typing.proofs.Lists.{each_both}
 
 -- ---- parts of ground types
-
-item_same : (a b : Ground) → known.List a ≡ known.List b → a ≡ b
-item_same a b e = same_some (sym (ap item_level (known.outs-List a)) ∙ ap item_in e ∙ ap item_level (known.outs-List b))
 
 fields_same : (a b : List GroundField) → known.Fields a ≡ known.Fields b → a ≡ b
 fields_same a b e = same_some (sym (ap fields_level (known.outs-Fields a)) ∙ ap fields_in e ∙ ap fields_level (known.outs-Fields b))
@@ -52,24 +46,9 @@ Three = List Ground × List Effect × Ground
 function_same : (ps qs : List Ground) (es fs : List Effect) (a b : Ground) → known.Fun ps es a ≡ known.Fun qs fs b → ◌≡◌ {A = Three} (ps, es, a) (qs, fs, b)
 function_same ps qs es fs a b e = same_some (sym (ap function_level (known.outs-Fun ps es a)) ∙ ap function_in e ∙ ap function_level (known.outs-Fun qs fs b))
 
--- a row from its fields
-row_back : (m : Row) → row_of (fields_of m) ≡ m
-row_back m = ap fin.from_entries (each_entry (fin.entries m)) ∙ map_back m
-  where
-    each_entry : (es : List (Label × Ground)) → map (λ (f : GroundField). (f.label, f.ty)) (map (λ e. record { label = e.0; ty = e.1 }) es) ≡ es
-    each_entry [] = refl
-    each_entry (e ∷ es) = ap (λ more. e ∷ more) (each_entry es)
-
-row_same : (a b : Row) → fields_of a ≡ fields_of b → a ≡ b
-row_same a b e = sym (row_back a) ∙ ap row_of e ∙ row_back b
-
 -- what stands behind the same effects
 below_same : (labels : List Effect) (a b s r : EffectSet) → before_effects labels a ≡ Some s → before_effects labels b ≡ Some r → effects_of s ≡ effects_of r → a ≡ b
 below_same labels a b s r e f same = sym (left_of labels (effects_of r) a s e same) ∙ left_of labels (effects_of r) b r f refl
-
-rolled_row : (x : TyRow-F Ty TyField TyRow) → variables_of_row (roll-TyRow x) ≡ before_tail (joined (map variables_of_field x.fields)) variable.Row x.tail
-unfolding variables_of variables_of_field variables_of_row
-rolled_row x = fold-roll-TyRow (List Variable) (List Variable) (List Variable) ty_variables field_variables row_variables x
 
 -- ---- types
 
@@ -87,21 +66,21 @@ module _ (τ σ : Grounding) where
   at_list t same g e f =
       let x = mapped known.List (under τ t) g (sym (under_list τ t) ∙ e) in
       let y = mapped known.List (under σ t) g (sym (under_list σ t) ∙ f) in
-      let item : y.0 ≡ x.0 = item_same y.0 x.0 (sym y.2 ∙ x.2) in
+      let item : y.0 ≡ x.0 = same_element y.0 x.0 (sym y.2 ∙ x.2) in
       subst Same (sym (variables_list t)) (same x.0 x.1 (y.1 ∙ ap (λ k. Some k) item))
 
   at_fields : (r : TyRow) → SameRow r → SameType (ty.Fields r)
   at_fields r same g e f =
       let x = mapped (λ (m : Row). known.Fields (fields_of m)) (row_under τ r) g (sym (under_fields τ r) ∙ e) in
       let y = mapped (λ (m : Row). known.Fields (fields_of m)) (row_under σ r) g (sym (under_fields σ r) ∙ f) in
-      let row : y.0 ≡ x.0 = row_same y.0 x.0 (fields_same (fields_of y.0) (fields_of x.0) (sym y.2 ∙ x.2)) in
+      let row : y.0 ≡ x.0 = same_row y.0 x.0 (fields_same (fields_of y.0) (fields_of x.0) (sym y.2 ∙ x.2)) in
       subst Same (sym (variables_fields r)) (same x.0 x.1 (y.1 ∙ ap (λ k. Some k) row))
 
   at_tags : (r : TyRow) → SameRow r → SameType (ty.Tags r)
   at_tags r same g e f =
       let x = mapped (λ (m : Row). known.Tags (fields_of m)) (row_under τ r) g (sym (under_tags τ r) ∙ e) in
       let y = mapped (λ (m : Row). known.Tags (fields_of m)) (row_under σ r) g (sym (under_tags σ r) ∙ f) in
-      let row : y.0 ≡ x.0 = row_same y.0 x.0 (tags_same (fields_of y.0) (fields_of x.0) (sym y.2 ∙ x.2)) in
+      let row : y.0 ≡ x.0 = same_row y.0 x.0 (tags_same (fields_of y.0) (fields_of x.0) (sym y.2 ∙ x.2)) in
       subst Same (sym (variables_tags r)) (same x.0 x.1 (y.1 ∙ ap (λ k. Some k) row))
 
   all_same : (ts : List Ty) → Each SameType ts → (gs : List Ground) → all_of (map (under τ) ts) ≡ Some gs → all_of (map (under σ) ts) ≡ Some gs → Same (flat_map variables_of ts)
@@ -156,7 +135,7 @@ module _ (τ σ : Grounding) where
   at_row : (fs : List TyField) (tail : RowTail) → Each (λ f. SameType f.ty) fs → SameRow (roll-TyRow (record { fields = fs; tail = tail }))
   at_row fs tail each m e f =
       let same = rows_same (row_tail τ tail) (row_tail σ tail) fs each m (sym (row_rolled τ fs tail) ∙ e) (sym (row_rolled σ fs tail) ∙ f) in
-      subst Same (sym (rolled_row (record { fields = fs; tail = tail })))
+      subst Same (sym (variables_rolled_row (record { fields = fs; tail = tail })))
       (each_both (IsSameAt τ σ) (joined (map variables_of_field fs)) (cons_option (tail_variable variable.Row tail) []) same.1 (row_tail_same tail same.0))
 
   at_variable : (n : ℕ) → SameType (ty.Var n)

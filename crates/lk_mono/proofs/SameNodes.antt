@@ -2,7 +2,7 @@
 use Rattle.std.proofs.Common.{◌≡◌, List, [], ◌∷◌, map, Some, slice_get, refl, sym, ap, ap₂, subst, ◌∙◌}
 use Rattle.lk_ast.specs.Functions.{functions_of}
 use Rattle.lk_ast.specs.declared.declaration.Program.{Program}
-use Rattle.lk_ground_types.proofs.Parts.{same_some}
+use Rattle.lk_types.proofs.Parts.{same_some}
 use Rattle.lk_ground_types.proofs.Variables.{agree_law}
 use Rattle.lk_ground_types.specs.Least.{AreSameAt, IsLeastBut}
 use Rattle.lk_mono.proofs.SameEverywhere.{become_same}
@@ -13,16 +13,17 @@ use Rattle.lk_outline.specs.Law.{OutlineLaw}
 use Rattle.lk_sound.specs.Nodes.{TypedNode, Use}
 use Rattle.lk_outline.specs.Outline.{body_outline}
 use Rattle.lk_outline.specs.Typed.{effects_in, typed_nodes}
-use Rattle.lk_principal.proofs.Beside.{one_place}
+use Rattle.lk_principal.proofs.FunctionNames.{one_place}
 use Rattle.lk_principal.specs.Bodies.{shares}
 use Rattle.lk_sound.proofs.Apart.{functions_apart}
-use Rattle.lk_types.specs.Grounding.{Grounding, under}
+use Rattle.lk_types.specs.Grounding.{under}
 use Rattle.lk_types.specs.Rows.{effects_of}
 use Rattle.lk_types.specs.Variables.{variables_of}
 use Rattle.lk_types.specs.declared.ground.Ground.{Ground, out-Ground}
 use Rattle.lk_types.specs.declared.ground.Ground.TheVariants as known
 use Rattle.lk_types.specs.declared.scheme.Scheme.{Scheme}
 use Rattle.lk_types.specs.declared.ty.Ty.{Ty}
+use Rattle.lk_typing.proofs.Operators.{become_same as become_one}
 use Rattle.lk_typing.specs.Law.{Become}
 use Rattle.lk_typing.specs.Names.{types_of}
 use Rattle.lk_ast.specs.Tables.{tables_of}
@@ -35,10 +36,6 @@ all_some_same (t ∷ ts) (u ∷ us) is =
     let first : t ≡ u = cc in
     let rest : map (λ t. Some t) ts ≡ map (λ t. Some t) us = cc in
     ap₂ (λ a more. a ∷ more) first (all_some_same ts us rest)
-
--- types become just one list
-become_one : (σ : Grounding) (types : List Ty) (ts us : List Ground) → Become σ types ts → Become σ types us → ts ≡ us
-become_one σ types ts us first second = all_some_same ts us (sym first ∙ second)
 
 module _ (outline_law : OutlineLaw) {p : Program} {schemes : List Scheme} {types : List Ty} where
   -- the nodes by the outline of the function and their types

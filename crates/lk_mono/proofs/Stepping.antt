@@ -1,6 +1,6 @@
 -- An instance whose turn it is: what there is in it, and what comes of adding what it uses.
-use Rattle.std.proofs.Common.{◌≡◌, ℕ, zero, suc, Bor, Bool, true, false, List, [], ◌∷◌, map, Option, Some, None, slice_get, refl, sym, ap, subst, ◌∙◌}
-use Rattle.std.proofs.lemmas.Option.{none-some, slice_get-map}
+use Rattle.std.proofs.Common.{◌≡◌, ℕ, Bor, Bool, true, false, List, map, Option, Some, None, slice_get, refl, sym, ap, subst, ◌∙◌}
+use Rattle.std.proofs.lemmas.Option.{slice_get-map}
 use Rattle.std.specs.Option.{option_map}
 use Rattle.lk_ast.specs.Functions.{function_named}
 use Rattle.lk_ast.specs.declared.declaration.FunDef.{FunDef}
@@ -35,7 +35,7 @@ use Rattle.lk_outline.specs.Shown.{shown}
 use Rattle.lk_outline.specs.Typed.{effects_in, typed_nodes}
 use Rattle.lk_principal.specs.Bodies.{IsTypedLeast}
 use Rattle.lk_principal.specs.Law.{BodyLaw, IsInstanceOf, UseLaw}
-use Rattle.lk_types.specs.Each.{Each}
+use Rattle.lk_types.proofs.Members.{each_at}
 use Rattle.lk_types.specs.Grounding.{Grounding, under}
 use Rattle.lk_types.specs.Rows.{effects_of}
 use Rattle.lk_types.specs.Variables.{variables_of}
@@ -44,7 +44,6 @@ use Rattle.lk_types.specs.declared.ground.Ground.TheOpen.{Ground-F}
 use Rattle.lk_types.specs.declared.ground.Ground.TheVariants as known
 use Rattle.lk_types.specs.declared.ground.GroundField.{GroundField}
 use Rattle.lk_types.specs.declared.scheme.Scheme.{Scheme}
-use Rattle.lk_typing.proofs.Values.{just}
 use Rattle.lk_typing.specs.Law.{Become}
 use Rattle.lk_typing.specs.Names.{types_of as types_of_names}
 use Rattle.lk_ast.specs.Tables.{tables_of}
@@ -179,11 +178,6 @@ module _ (body_law : BodyLaw) (outline_law : OutlineLaw) (source : Source) (is :
 -- one that stands in a list of the code, in the definition's
 listed_at : (listed : List TheUse) (number : ℕ) (next : TheUse) → slice_get listed number ≡ Some next → slice_get (as_list listed) number ≡ Some (as_use next)
 listed_at listed number next is = slice_get-map as_use listed number ∙ ap (option_map as_use) is
-
-each_at : {A : Type 0} (P : A → Type 0) (xs : List A) (i : ℕ) (x : A) → slice_get xs i ≡ Some x → Each P xs → P x
-each_at P [] i x is all = absurd (none-some x is)
-each_at P (y ∷ xs) zero x is all = subst P (just is) all.0
-each_at P (y ∷ xs) (suc i) x is all = each_at P xs i x is all.1
 
 module _ (source : Source) (is : IsSource source) (others : ℕ) (old : Queue) (sound : IsSound source others old) (number : ℕ) (next : TheUse) (listed : slice_get old.listed number ≡ Some next)
     (found : Option (Bor Member)) (ensures : option_map (λ (m : Bor Member). as_member m.now) found ≡ named_member (as_use next).name (map as_member source.members.now)) where

@@ -9,10 +9,10 @@ use Rattle.lk_ast.specs.declared.expression.Expr.{Expr}
 use Rattle.lk_ast.specs.declared.expression.Node.TheOpen.{Node-F}
 use Rattle.lk_mono.proofs.UsedLevels.{binder_level, case_level, change_level, lambda_level, last_level, of_case, of_change, of_lambda, of_last, plain_level}
 use Rattle.lk_sound.specs.Nodes.{TypedNode, Use, case_nodes, change_nodes, each_nodes, nodes_of, used_by}
+use Rattle.lk_types.proofs.Members.{each_both}
 use Rattle.lk_types.specs.Each.{Each, OneOf}
 use Rattle.lk_types.specs.Rows.{EffectSet, Label}
 use Rattle.lk_types.specs.declared.ground.Ground.{Ground}
-use Rattle.lk_typing.proofs.Lists.{each_both}
 use Rattle.lk_typing.specs.Heads.{Head}
 use Rattle.lk_typing.specs.Names.{Entry, Named}
 use Rattle.lk_typing.specs.Rules.{Rule}

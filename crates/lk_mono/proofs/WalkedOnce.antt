@@ -3,7 +3,7 @@ use Rattle.std.proofs.Common.{◌≡◌, ℕ, ◌+◌, ◌<◌, zero, suc, List,
 use Rattle.std.proofs.lemmas.Option.{none-some}
 use Rattle.lk_ast.specs.declared.declaration.Program.{Program}
 use Rattle.lk_ast.specs.declared.place.Span.{Span}
-use Rattle.lk_ground_types.proofs.Parts.{same_some}
+use Rattle.lk_types.proofs.Parts.{same_some}
 use Rattle.lk_mono.proofs.GrowingOnce.{grown_once, grown_within}
 use Rattle.lk_mono.proofs.SameNodes.{same_nodes}
 use Rattle.lk_mono.proofs.Siting.{all_before}

@@ -15,10 +15,10 @@ use Rattle.lk_mono.specs.declared.body.Body.{Body as TheBody}
 use Rattle.lk_mono.specs.declared.body.Source.{Source}
 use Rattle.lk_mono.specs.declared.queue.Queue.{Queue}
 use Rattle.lk_sound.specs.Nodes.{Use}
+use Rattle.lk_types.proofs.Members.{each_both}
+use Rattle.lk_types.proofs.Parts.{same_some}
 use Rattle.lk_types.specs.Each.{Each}
 use Rattle.lk_typing.proofs.Levels.{map_joined}
-use Rattle.lk_typing.proofs.Lists.{each_both}
-use Rattle.lk_typing.proofs.Values.{just}
 
 -- what is handed on by `?` is what came
 pub handed_on : {A B E : Type 0} (r : Result A E) (e why : E) → (y : E) × (r ≡ Err y) × (y ≡ e) → r ≡ Err why → ◌≡◌ {A = Result B E} (Err e) (Err why)
@@ -37,7 +37,7 @@ last_further xs x = let both : length (xs ++ x ∷ []) ≡ length xs + 1 = lengt
 
 take_next : {A : Type 0} (xs rest : List A) (n : ℕ) (x : A) → slice_get xs n ≡ Some x → take n xs ++ x ∷ [] ≡ take (suc n) (xs ++ rest)
 take_next [] rest n x is = absurd (none-some x is)
-take_next (y ∷ xs) rest zero x is = ap (λ z. z ∷ []) (sym (just is))
+take_next (y ∷ xs) rest zero x is = ap (λ z. z ∷ []) (sym (same_some is))
 take_next (y ∷ xs) rest (suc n) x is = ap (λ ys. y ∷ ys) (take_next xs rest n x is)
 
 take_all : {A : Type 0} (xs : List A) (n : ℕ) → length xs ≤ n → take n xs ≡ xs

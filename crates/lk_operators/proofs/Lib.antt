@@ -1,4 +1,4 @@
-mod Ascending
+pub mod Ascending
 mod LastValue
 mod Passing
 mod Samples

@@ -6,13 +6,13 @@ use Rattle.lk_ast.specs.Children.{exprs_of}
 use Rattle.lk_ast.specs.Layers.{Layer, layer}
 use Rattle.lk_ast.specs.declared.expression.Case.{Case, fold_out-Case}
 use Rattle.lk_ast.specs.declared.expression.ChangeExpr.{ChangeExpr, out-ChangeExpr, fold_out-ChangeExpr}
-use Rattle.lk_ast.specs.declared.expression.Expr.{Expr, fold_out-Expr}
+use Rattle.lk_ast.specs.declared.expression.Expr.{Expr}
 use Rattle.lk_ast.specs.declared.expression.LambdaExpr.{LambdaExpr, fold_out-LambdaExpr}
 use Rattle.lk_ast.specs.declared.expression.LastCase.{LastCase, fold_out-LastCase}
 use Rattle.lk_ast.specs.declared.expression.Node.{Node, out-Node, fold_out-Node}
 use Rattle.lk_ast.specs.declared.expression.Node.TheFolds.{map-Node}
 use Rattle.lk_ast.specs.declared.expression.Node.TheOpen.{Node-F}
-use Rattle.lk_ast.specs.declared.expression.PartExpr.{PartExpr, fold_out-PartExpr}
+use Rattle.lk_ast.specs.declared.expression.PartExpr.{PartExpr}
 use Rattle.lk_ast.specs.declared.expression.SortKey.{SortKey}
 use Rattle.lk_ast.specs.declared.place.Span.{Span}
 use Rattle.lk_ast.specs.declared.place.Word.{Word}
@@ -20,23 +20,16 @@ use Rattle.lk_typing.specs.Heads as operator
 use Rattle.lk_typing.specs.Heads.{Head, head, parts}
 use Rattle.lk_typing.specs.Names.{Named, named}
 use Rattle.lk_typing.specs.Typing.{label_of, expr_of, head_of, parts_of}
+use Rattle.lk_outline.proofs.Levels.{expr_level, part_level}
 use Rattle.lk_outline.specs.Outline.{Around, Kind, Site, Context, In, Bound, before, all, starts, with_names, with_some, where_bound, in_lambda, binder_of, site, all_bound, binding, node_in, case_in, change_in, expr_in, lambda_in, last_in, part_in, outline, outline_node, outline_part, outline_lambda, outline_case, outline_last, outline_change}
 
 -- a level with the outlines of its parts
 abbrev mapped : Layer → Node-F (Span → In) Bound Bound In Bound Bound In
 mapped = map-Node Node Case ChangeExpr Expr LambdaExpr LastCase PartExpr (Span → In) Bound Bound In Bound Bound In outline_node outline_case outline_change outline outline_lambda outline_last outline_part
 
-pub expr_level : (e : Expr) → outline e ≡ outline_node e.node e.span
-unfolding outline outline_node
-expr_level e = fold_out-Expr (Span → In) Bound Bound In Bound Bound In node_in case_in change_in expr_in lambda_in last_in part_in e
-
 node_level : (n : Node) (span : Span) → outline_node n span ≡ node_in (mapped (out-Node n)) span
 unfolding outline outline_node outline_part outline_lambda outline_case outline_last outline_change
 node_level n span = ap (λ f. f span) (fold_out-Node (Span → In) Bound Bound In Bound Bound In node_in case_in change_in expr_in lambda_in last_in part_in n)
-
-part_level : (part : PartExpr) → outline_part part ≡ outline part.expr
-unfolding outline outline_part
-part_level part = fold_out-PartExpr (Span → In) Bound Bound In Bound Bound In node_in case_in change_in expr_in lambda_in last_in part_in part
 
 lambda_level : (l : LambdaExpr) (number : ℕ) → outline_lambda l number ≡ in_lambda (with_names l.params (1 + number)) number (outline l.body)
 unfolding outline outline_lambda

@@ -1,6 +1,7 @@
 -- What types become where the least stands for all but some variables: something still, and row variables lack what they lacked.
 use Rattle.std.proofs.Common.{◌≡◌, ◌⊎◌, inl, inr, ℕ, zero, suc, ◌==◌, Bool, true, false, List, [], ◌∷◌, map, Some, slice_get, refl, ap, ap₂, subst, ◌∙◌, arith}
 use Rattle.std.proofs.lemmas.Bool.Decides.{nat_tests}
+use Rattle.std.proofs.lemmas.Bool.{eqb-true}
 use Rattle.std.proofs.lemmas.Option.{none-some}
 use Rattle.std.specs.FinMap as fin
 use Rattle.std.specs.Option.{is_some}
@@ -8,6 +9,7 @@ use Rattle.lk_ground_types.specs.Law.{EmptiedLaw}
 use Rattle.lk_ground_types.specs.Least.{IsAmong, IsLeastBut, AreSameAt, least}
 use Rattle.lk_principal.proofs.There.{IsHeld, held}
 use Rattle.lk_principal.specs.Law.{LeastLaw}
+use Rattle.lk_types.proofs.Parts.{same_some}
 use Rattle.lk_types.specs.Each.{Each}
 use Rattle.lk_types.specs.Grounding.{Grounding, under}
 use Rattle.lk_types.specs.Rows.{Label, has_label, label_order, no_fields}
@@ -18,15 +20,11 @@ use Rattle.lk_types.specs.declared.scheme.Scheme.{Scheme}
 use Rattle.lk_types.specs.declared.ty.Ty.{Ty}
 use Rattle.lk_types.specs.declared.ty.Variable.{Variable}
 use Rattle.lk_types.specs.declared.ty.Variable.TheVariants as variable
-use Rattle.lk_typing.proofs.Values.{just}
 use Rattle.lk_typing.specs.Law.{Become}
 use Rattle.lk_typing.specs.Programs.{AreAt, AreInstances}
 use Rattle.lk_ast.specs.Tables.{tables_of}
 
 -- ---- whether a row variable is among others
-
-same_number : (m n : ℕ) → (m == n) ≡ true → m ≡ n
-same_number m n same = grind (arith, nat_tests)
 
 other_number : (m n : ℕ) → (m == n) ≡ false → m ≡ n → ⊥
 other_number m n differs same = grind (arith, nat_tests)
@@ -37,7 +35,7 @@ is_row (variable.Effects m) n = inr (λ is. cc)
 is_row (variable.Row m) n = by_test (m == n) refl
   where
     by_test : (b : Bool) → (m == n) ≡ b → (variable.Row m ≡ variable.Row n) ⊎ (variable.Row m ≡ variable.Row n → ⊥)
-    by_test true same = inl (ap variable.Row (same_number m n same))
+    by_test true same = inl (ap variable.Row (eqb-true m n same))
     by_test false differs = inr (λ is. other_number m n differs (let same : m ≡ n = cc in same))
 
 row_among : (xs : List Variable) (n : ℕ) → IsAmong xs (variable.Row n) ⊎ (IsAmong xs (variable.Row n) → ⊥)
@@ -100,7 +98,7 @@ pub instance_at : (σ : Grounding) (schemes : List Scheme) (ts : List Ground) �
     → (i : ℕ) (scheme : Scheme) → slice_get schemes i ≡ Some scheme → (t : Ground) × (slice_get ts i ≡ Some t) × IsInstance σ scheme t
 instance_at σ [] ts are i scheme is = absurd (none-some scheme is)
 instance_at σ (s ∷ schemes) [] are i scheme is = absurd are
-instance_at σ (s ∷ schemes) (t ∷ ts) are zero scheme is = (t, refl, subst (λ s. IsInstance σ s t) (just is) are.0)
+instance_at σ (s ∷ schemes) (t ∷ ts) are zero scheme is = (t, refl, subst (λ s. IsInstance σ s t) (same_some is) are.0)
 instance_at σ (s ∷ schemes) (t ∷ ts) are (suc i) scheme is = instance_at σ schemes ts are.1 i scheme is
 
 -- ---- the least for all variables

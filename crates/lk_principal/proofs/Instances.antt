@@ -8,11 +8,12 @@ use Rattle.lk_ground_types.specs.Law.{AgreeLaw, EmptiedLaw, ExistsLaw}
 use Rattle.lk_ground_types.specs.Least.{IsLeastBut, AreSameAt}
 use Rattle.lk_outline.specs.Law.{LengthLaw}
 use Rattle.lk_principal.proofs.Emptied.{all_still_lack, still_at, still_become, instance_at}
-use Rattle.lk_principal.proofs.Places.{one_at}
 use Rattle.lk_principal.proofs.Shares.{IsOneOf, function_there, share_becomes}
 use Rattle.lk_principal.proofs.There.{IsThere, there, all_schemes}
 use Rattle.lk_principal.specs.Bodies.{IsTypedLeast, shares}
 use Rattle.lk_principal.specs.Law.{BodyLaw, SchemesLaw}
+use Rattle.lk_types.proofs.Members.{one_at}
+use Rattle.lk_types.proofs.Parts.{same_some}
 use Rattle.lk_types.specs.Each.{Each}
 use Rattle.lk_types.specs.Grounding.{Grounding}
 use Rattle.lk_types.specs.Schemes.{IsInstance, IsLacking}
@@ -20,7 +21,6 @@ use Rattle.lk_types.specs.Variables.{variables_of}
 use Rattle.lk_types.specs.declared.ground.Ground.{Ground}
 use Rattle.lk_types.specs.declared.scheme.Scheme.{Scheme}
 use Rattle.lk_types.specs.declared.ty.Ty.{Ty}
-use Rattle.lk_typing.proofs.Values.{just}
 use Rattle.lk_typing.specs.Groups.{IsGroup, is_mutual, own_entries, scheme_entries}
 use Rattle.lk_typing.specs.Law.{Become}
 use Rattle.lk_typing.specs.Names.{Named, Entry}
@@ -41,7 +41,7 @@ typed_least agree emptied long p schemes types i f scheme mine t one share ts is
     let all : (ws : List Ground) × AreAt τ one.own ws = still_at emptied xs τ σ low same one.own ts are in
     let inside : (ws : List Ground) × Become τ one.inside ws = still_become emptied xs τ σ low same one.inside nodes become in
     let now : (u : Ground) × (slice_get all.0 one.place ≡ Some u) × IsInstance τ scheme u = instance_at τ one.own all.0 all.1 one.place scheme one.has in
-    let the_type : now.0 ≡ t = just (sym now.2.body ∙ agree scheme.body τ σ same ∙ was.2.body ∙ sym was.1 ∙ is) in
+    let the_type : now.0 ≡ t = same_some (sym now.2.body ∙ agree scheme.body τ σ same ∙ was.2.body ∙ sym was.1 ∙ is) in
     let group : IsGroup one.before (tables_of p) one.decl all.0 inside.0 = one.inferred.sound τ all.0 inside.0 all.1 inside.1 (all_still_lack emptied xs τ σ low same one.inferred.lacks lacking) in
     let functions : Named (Entry Ground) = own_entries (functions_in one.decl) all.0 ++ scheme_entries one.before in
     let function : IsOneOf long functions (tables_of p) (is_mutual one.decl) (functions_in one.decl) inside.0 one.place f t =

@@ -1,5 +1,5 @@
-pub mod Beside
 pub mod Emptied
+pub mod FunctionNames
 pub mod Instances
 pub mod Places
 pub mod Shares

@@ -1,9 +1,6 @@
 -- Lists: what stands at a place of a list of two parts, or of a list made from another one.
 use Rattle.std.proofs.Common.{◌≡◌, ◌⊎◌, inl, inr, ℕ, zero, suc, ◌+◌, ◌<◌, List, [], ◌∷◌, ◌++◌, length, Some, slice_get, refl, sym, ap, ◌∙◌}
 use native.Mathlib.Omega.{arith}
-use Rattle.std.proofs.lemmas.Option.{none-some}
-use Rattle.lk_types.specs.Each.{OneOf}
-use Rattle.lk_typing.proofs.Values.{just}
 
 one_behind : (n j : ℕ) → suc n + j ≡ suc (n + j)
 one_behind n j = omega arith
@@ -40,8 +37,3 @@ pub other_back : {A B : Type 0} (xs : List A) (ys rest : List B) (i j : ℕ) (y 
 other_back xs ys rest i j y many behind is =
     let at : i ≡ length ys + j = omega arith in
     sym (get_back ys rest j) ∙ ap (slice_get (ys ++ rest)) (sym at) ∙ is
-
-pub one_at : {A : Type 0} (xs : List A) (i : ℕ) (x : A) → slice_get xs i ≡ Some x → OneOf (λ y. y ≡ x) xs
-one_at [] i x is = absurd (none-some x is)
-one_at (y ∷ xs) zero x is = inl (just is)
-one_at (y ∷ xs) (suc i) x is = inr (one_at xs i x is)

@@ -9,10 +9,10 @@ use Rattle.lk_ast.specs.declared.declaration.FunDef.{FunDef}
 use Rattle.lk_ast.specs.declared.declaration.TableDecl.{TableDecl}
 use Rattle.lk_outline.specs.Law.{LengthLaw}
 use Rattle.lk_principal.specs.Bodies.{body_size, shares}
+use Rattle.lk_types.proofs.Parts.{same_some}
 use Rattle.lk_types.specs.Grounding.{Grounding, under}
 use Rattle.lk_types.specs.declared.ground.Ground.{Ground}
 use Rattle.lk_types.specs.declared.ty.Ty.{Ty}
-use Rattle.lk_typing.proofs.Values.{just}
 use Rattle.lk_typing.specs.Groups.{IsFunction, AreFunctions}
 use Rattle.lk_typing.specs.Law.{Become}
 use Rattle.lk_typing.specs.Names.{Named, Entry}
@@ -55,7 +55,7 @@ pub share_becomes : (σ : Grounding) (fs : List FunDef) (types : List Ty) (nodes
     → (i : ℕ) (mine : List Ty) (own : List Ground) → slice_get (shares fs types) i ≡ Some mine → slice_get (shares fs nodes) i ≡ Some own → Become σ mine own
 share_becomes σ fs types nodes become i mine own is at =
     let both = sym (shares_map (under σ) fs types) ∙ ap (shares fs) become ∙ shares_map (λ t. Some t) fs nodes in
-    just
+    same_some
     (ap (option_map (map (under σ))) (sym is) ∙ sym (slice_get-map (map (under σ)) (shares fs types) i) ∙ ap (λ all. slice_get all i) both
     ∙ slice_get-map (map (λ t. Some t)) (shares fs nodes) i ∙ ap (option_map (map (λ t. Some t))) at)
 
@@ -81,7 +81,7 @@ module _ (law : LengthLaw) (functions : Named (Entry Ground)) (tables : List Tab
   function_there _ _ _ AreFunctions.none i f t is at = absurd (none-some f is)
   function_there _ _ _ (AreFunctions.more {f = g} {fs = fs} {t = u} {ts = ts} nodes rest typed later) zero f t is at = record {
     own = nodes;
-    typed = subst₂ (λ f t. IsFunction functions tables in_mutual f t nodes) (just is) (just at) typed;
+    typed = subst₂ (λ f t. IsFunction functions tables in_mutual f t nodes) (same_some is) (same_some at) typed;
     share = ap (λ n. Some (take n (nodes ++ rest))) (sym (function_size g u nodes typed)) ∙ ap (λ own. Some own) (take-append_seam nodes rest);
   }
   function_there _ _ _ (AreFunctions.more {f = g} {fs = fs} {t = u} {ts = ts} nodes rest typed later) (suc i) f t is at =

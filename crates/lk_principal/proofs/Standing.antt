@@ -1,4 +1,5 @@
 -- Where a declaration of a program stands, by what names of functions stand for in its bodies: behind functions that have schemes.
+use Rattle.lk_sound.proofs.Beside.{IsBeside, paired, scheme_pairs}
 use Rattle.std.proofs.Common.{◌≡◌, ◌⊎◌, inl, inr, ℕ, suc, ◌+◌, ◌<◌, Bool, List, [], ◌∷◌, ◌++◌, flat_map, length, Some, slice_get, refl, sym, ap, ap₂, subst, ◌∙◌}
 use native.Mathlib.Omega.{arith}
 use Rattle.std.proofs.lemmas.Option.{slice_get_within}
@@ -7,20 +8,19 @@ use Rattle.lk_ast.specs.declared.declaration.Decl.{Decl}
 use Rattle.lk_ast.specs.declared.declaration.FunDef.{FunDef}
 use Rattle.lk_ast.specs.declared.declaration.TableDecl.{TableDecl}
 use Rattle.lk_infer.specs.Inferred.{IsInferred, AreInferred}
-use Rattle.lk_principal.proofs.Beside.{IsBeside, paired, scheme_pairs}
 use Rattle.lk_principal.proofs.Places.{get_front, get_back}
-use Rattle.lk_principal.proofs.There.{as_many_schemes}
 use Rattle.lk_principal.specs.Bodies.{IsSeenBy}
 use Rattle.lk_types.specs.Rows.{Label}
 use Rattle.lk_types.specs.declared.ground.Ground.{Ground}
 use Rattle.lk_types.specs.declared.scheme.Scheme.{Scheme}
 use Rattle.lk_types.specs.declared.ty.Ty.{Ty}
+use Rattle.lk_typing.proofs.SchemeCounts.{as_many_schemes}
 use Rattle.lk_typing.specs.Groups.{IsGroup, own_entries, scheme_entries}
 use Rattle.lk_typing.specs.Names.{Named, named, Entry}
 use Rattle.lk_typing.specs.Programs.{entries}
 
 -- two lists of two parts, whose fronts are as long
-both_parts : {A : Type 0} (xs ys others rest : List A) → length xs ≡ length ys → xs ++ others ≡ ys ++ rest → (xs ≡ ys) × (others ≡ rest)
+pub both_parts : {A : Type 0} (xs ys others rest : List A) → length xs ≡ length ys → xs ++ others ≡ ys ++ rest → (xs ≡ ys) × (others ≡ rest)
 both_parts [] [] others rest many is = (refl, is)
 both_parts [] (y ∷ ys) others rest many is = absurd (let wrong : 0 ≡ suc (length ys) = many in omega arith)
 both_parts (x ∷ xs) [] others rest many is = absurd (let wrong : suc (length xs) ≡ 0 = many in omega arith)

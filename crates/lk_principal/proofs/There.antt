@@ -1,6 +1,6 @@
 -- Where a function of some declarations stands, and what was inferred of its declaration. Each function has a scheme, and a
 -- scheme has an instance in which the least stands for all variables.
-use Rattle.std.proofs.Common.{◌≡◌, ◌⊎◌, inl, inr, ℕ, suc, ◌+◌, ◌<◌, Bool, List, [], ◌∷◌, ◌++◌, flat_map, length, Some, slice_get, refl, sym, ap, ap₂, ◌∙◌}
+use Rattle.std.proofs.Common.{◌≡◌, ◌⊎◌, inl, inr, ℕ, ◌+◌, ◌<◌, Bool, List, ◌∷◌, ◌++◌, flat_map, length, Some, slice_get, refl, sym, ap, ap₂, ◌∙◌}
 use Rattle.std.proofs.lemmas.List.{length-append, length-map}
 use Rattle.std.proofs.lemmas.Option.{none-some}
 use Rattle.lk_ast.specs.Functions.{functions_in}
@@ -16,30 +16,13 @@ use Rattle.lk_types.specs.Grounding.{Grounding, under}
 use Rattle.lk_types.specs.declared.ground.Ground.{Ground}
 use Rattle.lk_types.specs.declared.scheme.Scheme.{Scheme}
 use Rattle.lk_types.specs.declared.ty.Ty.{Ty}
-use Rattle.lk_typing.specs.Groups.{AreFunctions, IsGroup, is_mutual, own_entries, scheme_entries}
+use Rattle.lk_typing.proofs.SchemeCounts.{as_many_schemes}
+use Rattle.lk_typing.specs.Groups.{IsGroup, is_mutual, own_entries, scheme_entries}
 use Rattle.lk_typing.specs.Law.{Become}
-use Rattle.lk_typing.specs.Names.{Named, Entry}
-use Rattle.lk_typing.specs.Programs.{AreAt, AreInstances, Hold, entries}
+use Rattle.lk_typing.specs.Names.{Named}
+use Rattle.lk_typing.specs.Programs.{AreInstances, Hold, entries}
 
 -- ---- lengths
-
-pub as_many_at : (σ : Grounding) (schemes : List Scheme) (ts : List Ground) → AreAt σ schemes ts → length schemes ≡ length ts
-as_many_at σ [] [] are = refl
-as_many_at σ [] (t ∷ ts) are = absurd are
-as_many_at σ (scheme ∷ schemes) [] are = absurd are
-as_many_at σ (scheme ∷ schemes) (t ∷ ts) are = ap (λ n. suc n) (as_many_at σ schemes ts are.1)
-
-pub as_many_types : (functions : Named (Entry Ground)) (tables : List TableDecl) (in_mutual : Bool) (fs : List FunDef) (ts nodes : List Ground) → AreFunctions functions tables in_mutual fs ts nodes → length ts ≡ length fs
-as_many_types functions tables in_mutual _ _ _ AreFunctions.none = refl
-as_many_types functions tables in_mutual _ _ _ (AreFunctions.more {fs = fs} {ts = ts} nodes rest typed later) = ap (λ n. suc n) (as_many_types functions tables in_mutual fs ts rest later)
-
-module _ (earlier : Named Scheme) (tables : List TableDecl) (decl : Decl) (schemes : List Scheme) (hold : Hold earlier tables decl schemes) where
-  pub as_many_schemes : length schemes ≡ length (functions_in decl)
-  as_many_schemes =
-      let some : (ts : List Ground) × AreInstances schemes ts = hold.some in
-      let group : (nodes : List Ground) × IsGroup earlier tables decl some.0 nodes = hold.each some.0 some.1 in
-      as_many_at some.1.0 schemes some.0 some.1.1
-      ∙ as_many_types (own_entries (functions_in decl) some.0 ++ scheme_entries earlier) tables (is_mutual decl) (functions_in decl) some.0 group.0 group.1
 
 become_length : (σ : Grounding) (types : List Ty) (nodes : List Ground) → Become σ types nodes → length types ≡ length nodes
 become_length σ types nodes become = sym (length-map types (under σ)) ∙ ap length become ∙ length-map nodes (λ t. Some t)

@@ -12,20 +12,21 @@ use Rattle.lk_ast.specs.declared.declaration.Decl.TheVariants.{Table, Fun, Mutua
 use Rattle.lk_ast.specs.declared.declaration.FunDef.{FunDef}
 use Rattle.lk_ast.specs.declared.declaration.Program.{Program}
 use Rattle.lk_names.specs.Programs.{IsBound}
-use Rattle.lk_principal.proofs.Beside.{IsBeside, paired, own_pairs, earlier_named, names, found_named, one_place}
+use Rattle.lk_principal.proofs.FunctionNames.{names, found_named, one_place}
 use Rattle.lk_principal.proofs.Emptied.{instance_at}
-use Rattle.lk_principal.proofs.Places.{one_at}
 use Rattle.lk_principal.proofs.Standing.{HasScheme, IsPlaced, all_from, placed}
 use Rattle.lk_principal.specs.Law.{IsInstanceOf, UseLaw}
 use Rattle.lk_sound.proofs.Apart.{functions_apart}
+use Rattle.lk_sound.proofs.Beside.{IsBeside, paired, own_pairs, earlier_named}
 use Rattle.lk_sound.proofs.Names.{AreDistinct}
+use Rattle.lk_types.proofs.Members.{one_at}
+use Rattle.lk_types.proofs.Parts.{same_some}
 use Rattle.lk_types.specs.Each.{OneOf}
 use Rattle.lk_types.specs.Grounding.{Grounding}
 use Rattle.lk_types.specs.Rows.{Label}
 use Rattle.lk_types.specs.Schemes.{IsInstance}
 use Rattle.lk_types.specs.declared.ground.Ground.{Ground}
 use Rattle.lk_types.specs.declared.scheme.Scheme.{Scheme}
-use Rattle.lk_typing.proofs.Values.{just}
 use Rattle.lk_typing.specs.Groups.{is_mutual, is_recursive, own_entries, scheme_entries}
 use Rattle.lk_typing.specs.Names.{Named, named, Entry, One, Many, IsUse, MayBe}
 use Rattle.lk_typing.specs.Programs.{AreAt}
@@ -103,7 +104,7 @@ module _ (p : Program) (schemes : List Scheme) (bound : IsBound p) (f : FunDef) 
           is = is;
           named = found_at (at.offset + it.place) it.function is it.name;
           has = at.scheme_at it.place scheme.0 scheme.1;
-          instance = subst (IsInstance general.0 scheme.0) (just (sym instance.1 ∙ its)) instance.2;
+          instance = subst (IsInstance general.0 scheme.0) (same_some (sym instance.1 ∙ its)) instance.2;
         },
         λ i its_place alone used.
             let same : f ≡ it.function = only_one decl (left_false (is_mutual decl) (list_any (λ name. bytes_eq name f.name.text) (functions_used f.body)) alone) f it.function member (one_at (functions_in decl) it.place it.function it.declared) in

@@ -22,9 +22,10 @@ use Rattle.lk_bag.specs.Change.{with_rows, updated, is_met, after_insert, after_
 use Rattle.lk_bag.specs.Legal.{AreSame, IsLegal, insert, update, delete, most_rows, names_in}
 use Rattle.lk_names.specs.Programs.{IsBound}
 use Rattle.lk_outside.specs.Store.{Changes, Puts}
-use Rattle.lk_sound.proofs.Members.{each_in, each_of_in, found_in}
+use Rattle.lk_types.proofs.Members.{each_in, each_of_in, found_in}
 use Rattle.lk_sound.specs.Tables.{AreTables, IsWriting, table_at}
 use Rattle.lk_sound.specs.Tables as sound
+use Rattle.lk_types.proofs.Parts.{same_some}
 use Rattle.lk_types.specs.Each.{Each, OneOf}
 use Rattle.lk_sem.specs.Histories.{AreFit, Follows, write_event}
 use Rattle.lk_sem.specs.Scans.{FitsDef, IsScanned}
@@ -37,9 +38,6 @@ use Rattle.lk_sem.specs.RowValues.{rows_in}
 use Rattle.lk_sem.proofs.RowsBack.{rows_back}
 use Rattle.lk_sem.proofs.Shuffles.{IsPermutation-filter}
 use Rattle.lk_sem.proofs.TableNames.{only_one, tables_apart}
-
-some_same : {A : Type 0} {x y : A} → Some x ≡ Some y → x ≡ y
-some_same e = cc
 
 -- ---- rows that fit
 
@@ -117,7 +115,7 @@ module _ (p : Program) (bound : IsBound p) (site : ℕ) (args : List Value) (blo
 
   pub update_fits : IsUpdate p site args block change → rows ≡ map new_row there → all_fit def rows ≡ true
   update_fits u are =
-      let same : u.def ≡ def = some_same (sym u.declared ∙ found) in
+      let same : u.def ≡ def = same_some (sym u.declared ∙ found) in
       subst (λ rs. all_fit def rs ≡ true) (sym are) (fits_map def new_row (λ row one. subst (λ (d : TableDef). row_fits d (new_row row) ≡ true) same (u.fit row (subst (λ (d : TableDef). row_fits d row ≡ true) (sym same) one))) there fit)
 
   pub delete_fits : rows ≡ filter stays there → all_fit def rows ≡ true
@@ -163,10 +161,10 @@ at_name x rows tables = ap (λ b. cond b rows (tables x)) ((bytes_eq-Decides x x
 module _ (p : Program) (bound : IsBound p) (site : ℕ) (args : List Value) (table : Word) (i : IsInsertion p site args table) (def : TableDef) (found : table_at p table.text ≡ Some def)
     (rows : List Row) (read : rows_in args ≡ Some rows) where
   same_def : i.def ≡ def
-  same_def = some_same (sym i.declared ∙ found)
+  same_def = same_some (sym i.declared ∙ found)
 
   same_rows : i.rows ≡ rows
-  same_rows = some_same (sym (rows_back i.rows) ∙ ap rows_in (sym i.are) ∙ read)
+  same_rows = same_some (sym (rows_back i.rows) ∙ ap rows_in (sym i.are) ∙ read)
 
   pub insertion_fits : all_fit def rows ≡ true
   insertion_fits = subst (λ rs. all_fit def rs ≡ true) same_rows (subst (λ (d : TableDef). all_fit d i.rows ≡ true) same_def i.fit)
@@ -228,20 +226,20 @@ room_of (Some tables) name there rows n same is few = let size : length (tables 
 
 pub is_insertion : (p : Program) (site : ℕ) (args : List Value) (block : Expr) (t : Word) (e : Expr) → block_at p site ≡ Some block → layer block ≡ Node-F.Insert t e → IsWriting p site args → IsInsertion p site args t
 is_insertion p site args block t e found is (sound.IsWriting.insert b t' e' def rows found' is' declared are fit) =
-    let same : b ≡ block = some_same (sym found' ∙ found) in
+    let same : b ≡ block = same_some (sym found' ∙ found) in
     let both : Node-F.Insert t' e' ≡ Node-F.Insert t e = sym is' ∙ ap layer same ∙ is in
     let words : t' ≡ t = cc in
     record { block = b; expr = e; def = def; rows = rows; found = found'; inserts = ap layer same ∙ is; declared = ap (λ (w : Word). table_at p w.text) (sym words) ∙ declared; are = are; fit = fit }
 is_insertion p site args block t e found is (sound.IsWriting.update b change def found' is' declared plain fit) =
-    let same : b ≡ block = some_same (sym found' ∙ found) in
+    let same : b ≡ block = same_some (sym found' ∙ found) in
     let both : Node-F.Update change ≡ Node-F.Insert t e = sym is' ∙ ap layer same ∙ is in absurd cc
 is_insertion p site args block t e found is (sound.IsWriting.delete b change def found' is' declared plain) =
-    let same : b ≡ block = some_same (sym found' ∙ found) in
+    let same : b ≡ block = same_some (sym found' ∙ found) in
     let both : Node-F.Delete change ≡ Node-F.Insert t e = sym is' ∙ ap layer same ∙ is in absurd cc
 
 pub is_update : (p : Program) (site : ℕ) (args : List Value) (block : Expr) (change : ChangeExpr) → block_at p site ≡ Some block → layer block ≡ Node-F.Update change → IsWriting p site args → IsUpdate p site args block change
 is_update p site args block change found is (sound.IsWriting.update b other def found' is' declared plain fit) =
-    let same : b ≡ block = some_same (sym found' ∙ found) in
+    let same : b ≡ block = same_some (sym found' ∙ found) in
     let both : Node-F.Update other ≡ Node-F.Update change = sym is' ∙ ap layer same ∙ is in
     let changes : other ≡ change = cc in
     record {
@@ -252,21 +250,21 @@ is_update p site args block change found is (sound.IsWriting.update b other def 
       fit = λ row one. subst (λ e. row_fits def (updated p (names_in e args) change row) ≡ true) same (subst (λ c. row_fits def (updated p (names_in b args) c row) ≡ true) changes (fit row one));
     }
 is_update p site args block change found is (sound.IsWriting.insert b t e def rows found' is' declared are fit) =
-    let same : b ≡ block = some_same (sym found' ∙ found) in
+    let same : b ≡ block = same_some (sym found' ∙ found) in
     let both : Node-F.Insert t e ≡ Node-F.Update change = sym is' ∙ ap layer same ∙ is in absurd cc
 is_update p site args block change found is (sound.IsWriting.delete b other def found' is' declared plain) =
-    let same : b ≡ block = some_same (sym found' ∙ found) in
+    let same : b ≡ block = same_some (sym found' ∙ found) in
     let both : Node-F.Delete other ≡ Node-F.Update change = sym is' ∙ ap layer same ∙ is in absurd cc
 
 pub is_deletion : (p : Program) (site : ℕ) (args : List Value) (block : Expr) (change : ChangeExpr) → block_at p site ≡ Some block → layer block ≡ Node-F.Delete change → IsWriting p site args → IsDeletion p site block change
 is_deletion p site args block change found is (sound.IsWriting.delete b other def found' is' declared plain) =
-    let same : b ≡ block = some_same (sym found' ∙ found) in
+    let same : b ≡ block = same_some (sym found' ∙ found) in
     let both : Node-F.Delete other ≡ Node-F.Delete change = sym is' ∙ ap layer same ∙ is in
     let changes : other ≡ change = cc in
     record { def = def; found = found; deletes = is; declared = ap (λ c. table_at p (out-ChangeExpr c).table.text) (sym changes) ∙ declared }
 is_deletion p site args block change found is (sound.IsWriting.insert b t e def rows found' is' declared are fit) =
-    let same : b ≡ block = some_same (sym found' ∙ found) in
+    let same : b ≡ block = same_some (sym found' ∙ found) in
     let both : Node-F.Insert t e ≡ Node-F.Delete change = sym is' ∙ ap layer same ∙ is in absurd cc
 is_deletion p site args block change found is (sound.IsWriting.update b other def found' is' declared plain fit) =
-    let same : b ≡ block = some_same (sym found' ∙ found) in
+    let same : b ≡ block = same_some (sym found' ∙ found) in
     let both : Node-F.Update other ≡ Node-F.Delete change = sym is' ∙ ap layer same ∙ is in absurd cc

@@ -18,6 +18,7 @@ use Rattle.lk_bag.specs.Legal.{AreSame, AreSorted, bag, keys_at, read}
 use Rattle.lk_names.specs.Programs.{IsBound}
 use Rattle.lk_sound.proofs.Names.{AreDistinct, IsAmong}
 use Rattle.lk_sound.specs.Tables.{AreTables, IsAnswered, IsReading}
+use Rattle.lk_types.proofs.Parts.{same_some}
 use Rattle.lk_types.specs.Each.{Each}
 use Rattle.lk_types.specs.Rows.{Label}
 use Rattle.lk_sem.specs.Histories.{HasFollowed, read_event}
@@ -76,12 +77,9 @@ agree_filled told tables (def ∷ defs) (t ∷ ts) are x (inr later) = ap (cond 
 
 -- ---- the answer
 
-some_same : {A : Type 0} {x y : A} → Some x ≡ Some y → x ≡ y
-some_same e = cc
-
 -- what begins there is the reading
 pub same_block : (p : Program) (site : ℕ) (args : List Value) (reading : IsReading p site args) (block : Expr) → block_at p site ≡ Some block → reading.block ≡ block
-same_block p site args reading block found = some_same (sym reading.found ∙ found)
+same_block p site args reading block found = same_some (sym reading.found ∙ found)
 
 module _ (p : Program) (bound : IsBound p) (told : Option Tables) (site : ℕ) (args : List Value) (reading : IsReading p site args) (ts : List TableRows) (are : AreScanned told (table_defs p) ts) where
   listed : AreTables p (rows_of ts)

@@ -1,4 +1,5 @@
 -- The rows in the value of rows are these rows; and no function stands in it.
+use Rattle.lk_sound.proofs.UpdatedRows.{base_itself}
 use Rattle.std.proofs.Common.{◌≡◌, Bool, false, ◌||◌, List, [], ◌∷◌, Some, map, refl, sym, ◌∙◌, ap, ap₂}
 use Rattle.std.specs.List.{list_any}
 use Rattle.lk_ast.proofs.PlainRows.{rows_plain}
@@ -10,14 +11,11 @@ use Rattle.lk_ast.specs.declared.table.Row.{Row}
 use Rattle.lk_ast.specs.declared.value.Field.{Field}
 use Rattle.lk_ast.specs.declared.value.Value.{Value}
 use Rattle.lk_ast.specs.declared.value.Value.TheVariants as value
-use Rattle.lk_operators.specs.Values.{base_in, fields_in, list_in}
+use Rattle.lk_operators.specs.Values.{fields_in, list_in}
 use Rattle.lk_sem.specs.RowValues.{cells_in, each_row, row_in, row_of_cells, row_of_fields, rows_of_list, rows_in, with_cell, with_row}
 
 abbrev fields_of : List Cell → List Field
 fields_of cells = map {A = Cell} (λ cell. record { label = cell.label; value = value.Base cell.value }) cells
-
-base_back : (b : Base) → base_in (value.Base b) ≡ Some b
-base_back b = simp (value.outs-Base)
 
 fields_back : (fs : List Field) → fields_in (value.Fields fs) ≡ Some fs
 fields_back fs = simp (value.outs-Fields)
@@ -27,7 +25,7 @@ list_back values = simp (value.outs-List)
 
 cells_back : (cells : List Cell) → cells_in (fields_of cells) ≡ Some cells
 cells_back [] = refl
-cells_back (cell ∷ cells) = ap₂ (with_cell cell.label) (base_back cell.value) (cells_back cells)
+cells_back (cell ∷ cells) = ap₂ (with_cell cell.label) (base_itself cell.value) (cells_back cells)
 
 row_back : (row : Row) → row_in (row_value row) ≡ Some row
 row_back row = ap row_of_fields (fields_back (fields_of row.cells)) ∙ ap row_of_cells (cells_back row.cells)

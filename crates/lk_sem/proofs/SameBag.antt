@@ -24,7 +24,7 @@ use Rattle.lk_names.specs.Programs.{IsBound}
 use Rattle.lk_operators.specs.Operators.{operated}
 use Rattle.lk_operators.specs.Values.{bool_in, truth, unit}
 use Rattle.lk_sound.proofs.Inside.{insides, by_insides}
-use Rattle.lk_sound.proofs.Members.{each_in, found_in}
+use Rattle.lk_types.proofs.Members.{each_in, found_in}
 use Rattle.lk_types.specs.Each.{Each}
 use Rattle.lk_types.specs.Rows.{Label}
 use Rattle.lk_sem.proofs.TablesSeen.{IsDeclared, SeesTables, blocks_see, functions_see, insides_see, table_seen}

@@ -22,6 +22,8 @@ use Rattle.lk_sound.specs.Values.{Fits}
 use Rattle.lk_sound.specs.Outcomes.{Allows, IsOutcome}
 use Rattle.lk_sound.specs.Tables.{ArePlain, IsAnswered, IsReading, IsWriting}
 use Rattle.lk_sound.specs.Tables as sound
+use Rattle.lk_types.proofs.Members.{each_both, each_front}
+use Rattle.lk_types.proofs.Parts.{same_some}
 use Rattle.lk_types.specs.Each.{Each}
 use Rattle.lk_types.specs.Rows.{EffectSet}
 use Rattle.lk_types.specs.declared.ground.Ground.{Ground}
@@ -38,9 +40,6 @@ use Rattle.lk_sem.proofs.RowsBack.{plain_rows}
 use Rattle.lk_sem.proofs.Unread.{IsUnread, Kept, back_keeps, kept_itself, state_keeps}
 use Rattle.lk_sem.proofs.Winding as winding
 
-some_same : {A : Type 0} {x y : A} → Some x ≡ Some y → x ≡ y
-some_same e = cc
-
 -- ---- entries and events
 
 module _ (P : Event → Type 0) where
@@ -54,14 +53,6 @@ module _ (P : Event → Type 0) where
   events_are : (log : List Entry) → Each Of log → Each P (events_of log)
   events_are [] all = tt
   events_are (entry ∷ log) all = (all.0, events_are log all.1)
-
-each_both : {A : Type 0} (P : A → Type 0) (xs ys : List A) → Each P xs → Each P ys → Each P (xs ++ ys)
-each_both P [] ys a b = b
-each_both P (x ∷ xs) ys a b = (a.0, each_both P xs ys a.1 b)
-
-each_front : {A : Type 0} (P : A → Type 0) (xs ys : List A) → Each P (xs ++ ys) → Each P xs
-each_front P [] ys all = tt
-each_front P (x ∷ xs) ys all = (all.0, each_front P xs ys all.1)
 
 each_last : {A : Type 0} (P : A → Type 0) (xs : List A) (x : A) → Each P (xs ++ x ∷ []) → P x
 each_last P [] x all = all.0
@@ -184,7 +175,7 @@ plain_outcome p i t effects r (Stops stop s) plain h = h
 -- the session of a program of that shape
 pub sound_session : (p : Program) → PlainLaw → SessionLaw → AreBoundAndApart p → IsShaped p → (main : FunDef) → Some main ≡ main_of p → (arg : List ℕ) (fuel : ℕ) → IsSound p (session p main arg) fuel
 sound_session p of_plain of_session apart shaped main is arg fuel =
-    let same : shaped.main ≡ main = some_same (sym shaped.is ∙ sym is) in
+    let same : shaped.main ≡ main = same_some (sym shaped.is ∙ sym is) in
     subst (λ f. IsSound p (session p f arg) fuel) same (record {
       instances = shaped.instances;
       effects = shaped.effects;

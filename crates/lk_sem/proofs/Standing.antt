@@ -17,6 +17,7 @@ use Rattle.lk_locals.specs.Names.{Names}
 use Rattle.lk_operators.specs.Values.{unit}
 use Rattle.lk_ast.specs.Rows.{rows_value}
 use Rattle.lk_sound.specs.Tables.{IsAnswered}
+use Rattle.lk_types.proofs.Members.{each_both}
 use Rattle.lk_types.specs.Each.{Each}
 use Rattle.lk_sem.specs.Frames.{returned}
 use Rattle.lk_sem.specs.Histories.{AreFit, HasFollowed, HasPast, KeepsOthers, read_event, write_event}
@@ -29,10 +30,6 @@ use Rattle.lk_sem.specs.declared.machine.Next.{Next}
 use Rattle.lk_sem.specs.declared.machine.Next.TheVariants as now
 use Rattle.lk_sem.proofs.Legality.{no_past, past_quietly, past_followed}
 use Rattle.lk_sem.proofs.Whole as whole
-
-each_both : {A : Type 0} (P : A → Type 0) (xs ys : List A) → Each P xs → Each P ys → Each P (xs ++ ys)
-each_both P [] ys a b = b
-each_both P (x ∷ xs) ys a b = (a.0, each_both P xs ys a.1 b)
 
 quiet_answered : (p : Program) (more : List Event) → Each IsQuiet more → Each (IsAnswered p) more
 quiet_answered p [] calm = tt

@@ -1,6 +1,6 @@
 -- In a program whose names are bound, what names a table in a body names one that the program declares. So it does in what acts on
 -- tables.
-use Rattle.std.proofs.Common.{◌≡◌, refl, sym, ap, subst, ◌∙◌, Bool, true, false, ◌||◌, ◌&&◌, not, List, [], ◌∷◌, ◌++◌, map, flat_map, Some, None, if◌then◌else◌, inl, inr}
+use Rattle.std.proofs.Common.{◌≡◌, refl, sym, ap, subst, ◌∙◌, Bool, true, false, ◌||◌, ◌&&◌, not, List, [], ◌∷◌, map, flat_map, None, inl, inr}
 use Rattle.std.proofs.lemmas.Bool.{and_parts, both_ways}
 use Rattle.std.proofs.lemmas.Cmp.{nat_list_cmp_total}
 use Rattle.std.proofs.lemmas.Map.Text.{is_eq-slice_cmp}
@@ -9,7 +9,7 @@ use Rattle.std.specs.Cmp.Lexicographic.{slice_cmp}
 use Rattle.std.specs.FinSet as set
 use Rattle.std.specs.Ordering.{nat_cmp, eq_by_cmp}
 use Rattle.lk_ast.specs.Functions.{functions_in, functions_of, main_of}
-use Rattle.lk_ast.specs.Layers.{Layer, layer}
+use Rattle.lk_ast.specs.Layers.{layer}
 use Rattle.lk_ast.specs.Tables.{tables_in, table_def, table_defs, tables_of}
 use Rattle.lk_ast.specs.declared.declaration.Decl.{Decl}
 use Rattle.lk_ast.specs.declared.declaration.Decl.TheVariants.{Table, Fun, Mutual}
@@ -20,21 +20,19 @@ use Rattle.lk_ast.specs.declared.expression.Expr.{Expr}
 use Rattle.lk_ast.specs.declared.expression.Node.TheOpen.{Node-F}
 use Rattle.lk_ast.specs.declared.place.Span.{Span}
 use Rattle.lk_ast.specs.declared.place.Word.{Word}
-use Rattle.lk_bag.proofs.Levels.{inside, itself, blocks_level}
-use Rattle.lk_bag.specs.Blocks.{acts_on_tables, blocks_in, blocks_of}
+use Rattle.lk_bag.specs.Blocks.{blocks_of}
 use Rattle.lk_names.specs.Expressions.{fault, global_fault, node_in, unless_bound}
-use Rattle.lk_names.specs.Faults.{Fault, first_of}
-use Rattle.lk_names.specs.Programs.{IsBound, no_globals, with_decl, names_of, sig_fault, function_fault, functions_fault, table_fault, decl_fault, decls_fault, names_fault, main_fault}
-use Rattle.lk_names.specs.Repeats.{twice_fault, words_fault}
-use Rattle.lk_names.specs.declared.error.NameError.TheVariants.{Unbound}
+use Rattle.lk_names.specs.Programs.{IsBound, no_globals, with_decl, function_fault, functions_fault, table_fault, decls_fault, names_fault, main_fault}
 use Rattle.lk_names.specs.declared.globals.Globals.{Globals}
 use Rattle.lk_scope.specs.Names.{Names, no_names, is_local, bind, bind_all}
+use Rattle.lk_sound.proofs.Apart.{function_parts}
+use Rattle.lk_sound.proofs.BlocksInside.{bodies_blocks}
 use Rattle.lk_sound.proofs.Faultless.{neither, IsFaultless, fault_level, inside_faultless, mapped}
-use Rattle.lk_sound.proofs.Inside.{insides, by_insides}
+use Rattle.lk_sound.proofs.Inside.{insides}
 use Rattle.lk_sound.proofs.Names.{IsAmong}
+use Rattle.lk_types.proofs.Members.{each_both}
 use Rattle.lk_types.specs.Each.{Each}
 use Rattle.lk_types.specs.Rows.{Label}
-use Rattle.lk_typing.proofs.Lists.{each_both}
 use Rattle.lk_sem.proofs.TableNames.{def_name}
 
 -- a table that the program declares
@@ -64,18 +62,11 @@ one_more p tables x here are y is = by_test (eq_by_cmp (slice_cmp nat_cmp) y x.t
     by_test true same there = subst (IsDeclared p) (sym ((bytes_eq-Decides y x.text).0 (sym (is_eq-slice_cmp y x.text) ∙ same))) here
     by_test false other there = are y there
 
-body_of : (declared : Names) (globals : Globals) (f : FunDef) → function_fault declared globals f ≡ None → IsFaultless globals f.body
-body_of declared globals f none =
-    let body : Fault = fault globals f.body (bind_all f.params no_names) in
-    let behind = (neither (sig_fault f.name f.sig) (first_of (twice_fault declared f.name) (first_of (words_fault f.params) body)) none).1 in
-    let both = neither (twice_fault declared f.name) (first_of (words_fault f.params) body) behind in
-    (bind_all f.params no_names, (neither (words_fault f.params) body both.1).1)
-
 bodies_of : (p : Program) (declared : Names) (globals : Globals) (fs : List FunDef) → AreDeclared p globals.tables → functions_fault declared globals fs ≡ None → Each (λ (f : FunDef). SeesTables p f.body) fs
 bodies_of p declared globals [] are none = tt
 bodies_of p declared globals (f ∷ fs) are none =
     let both = neither (function_fault declared globals f) (functions_fault (bind f.name declared) globals fs) none in
-    (record { globals = globals; declared = are; faultless = body_of declared globals f both.0 }, bodies_of p (bind f.name declared) globals fs are both.1)
+    (record { globals = globals; declared = are; faultless = (function_parts declared globals f both.0).body }, bodies_of p (bind f.name declared) globals fs are both.1)
 
 decls_see : (p : Program) (declared : Names) (globals : Globals) (decls : List Decl) → AreDeclared p globals.tables → Each (λ (t : TableDecl). IsDeclared p t.name.text) (flat_map tables_in decls) → decls_fault declared globals decls ≡ None
     → Each (λ (f : FunDef). SeesTables p f.body) (flat_map functions_in decls)
@@ -85,7 +76,7 @@ decls_see p declared globals (Table table ∷ decls) are all none =
     decls_see p (bind table.name declared) (with_decl (Table table) globals) decls (one_more p globals.tables table.name all.0 are) all.1 both.1
 decls_see p declared globals (Fun f ∷ decls) are all none =
     let both = neither (function_fault declared (with_decl (Fun f) globals) f) (decls_fault (bind f.name declared) (with_decl (Fun f) globals) decls) none in
-    (record { globals = with_decl (Fun f) globals; declared = are; faultless = body_of declared (with_decl (Fun f) globals) f both.0 }, decls_see p (bind f.name declared) (with_decl (Fun f) globals) decls are all both.1)
+    (record { globals = with_decl (Fun f) globals; declared = are; faultless = (function_parts declared (with_decl (Fun f) globals) f both.0).body }, decls_see p (bind f.name declared) (with_decl (Fun f) globals) decls are all both.1)
 decls_see p declared globals (Mutual fs ∷ decls) are all none =
     let behind : Names = bind_all (map (λ (f : FunDef). f.name) fs) declared in
     let both = neither (functions_fault declared (with_decl (Mutual fs) globals) fs) (decls_fault behind (with_decl (Mutual fs) globals) decls) none in
@@ -127,38 +118,5 @@ table_seen p e t is s =
 
 -- ---- what acts on tables
 
-same_insides : (l : Layer) → inside l ≡ insides l
-same_insides (Node-F.Lambda l) = refl
-same_insides (Node-F.Call g args) = refl
-same_insides (Node-F.Apply f args) = refl
-same_insides (Node-F.Record fields) = refl
-same_insides (Node-F.Extend fields e) = refl
-same_insides (Node-F.List items) = refl
-same_insides (Node-F.Switch d cases last) = refl
-same_insides (Node-F.Update change) = refl
-same_insides (Node-F.Delete change) = refl
-same_insides other = refl
-
-abbrev BlocksSee : Program → Expr → Type 0
-BlocksSee p e = SeesTables p e → Each (SeesTables p) (blocks_in e)
-
-all_see : (p : Program) (es : List Expr) → Each (BlocksSee p) es → Each (SeesTables p) es → Each (SeesTables p) (flat_map blocks_in es)
-all_see p [] all see = tt
-all_see p (e ∷ es) all see = each_both (SeesTables p) (blocks_in e) (flat_map blocks_in es) (all.0 see.0) (all_see p es all.1 see.1)
-
-itself_sees : (p : Program) (e : Expr) (b : Bool) → SeesTables p e → Each (SeesTables p) (itself b e)
-itself_sees p e true s = (s, tt)
-itself_sees p e false s = tt
-
-blocks_step : (p : Program) (e : Expr) → Each (BlocksSee p) (insides (layer e)) → BlocksSee p e
-blocks_step p e all s =
-    subst (Each (SeesTables p)) (sym (blocks_level e ∙ ap (λ es. itself (acts_on_tables (layer e)) e ++ flat_map blocks_in es) (same_insides (layer e))))
-    (each_both (SeesTables p) (itself (acts_on_tables (layer e)) e) (flat_map blocks_in (insides (layer e))) (itself_sees p e (acts_on_tables (layer e)) s) (all_see p (insides (layer e)) all (insides_see p e s)))
-
-functions_blocks : (p : Program) (fs : List FunDef) → Each (λ (f : FunDef). SeesTables p f.body) fs → Each (SeesTables p) (flat_map (λ (f : FunDef). blocks_in f.body) fs)
-functions_blocks p [] all = tt
-functions_blocks p (f ∷ fs) all =
-    each_both (SeesTables p) (blocks_in f.body) (flat_map (λ (f : FunDef). blocks_in f.body) fs) (by_insides (BlocksSee p) (blocks_step p) f.body all.0) (functions_blocks p fs all.1)
-
 pub blocks_see : (p : Program) → IsBound p → Each (SeesTables p) (blocks_of p)
-blocks_see p bound = functions_blocks p (functions_of p) (functions_see p bound)
+blocks_see p bound = bodies_blocks (SeesTables p) (insides_see p) (functions_of p) (functions_see p bound)

@@ -14,6 +14,7 @@ use Rattle.lk_evaluation.specs.Laws.{run_of}
 use Rattle.lk_evaluation.specs.Run.{Run, Entry, Out, Goes, Stops, Stop, and_then, step, logs, enter_with, Callee, Crossing, Within, Called, Returned}
 use Rattle.lk_evaluation.specs.Source.{source}
 use Rattle.lk_operators.specs.Values.{list_in}
+use Rattle.lk_types.proofs.Members.{each_both}
 use Rattle.lk_types.specs.Each.{Each}
 use Rattle.lk_sem.specs.Frames.{Frame, Part, Turn, Back, continued, handed_by, rest, resumed, returned, wound}
 use Rattle.lk_sem.specs.Machine as machine
@@ -28,10 +29,6 @@ IsUnread Enter = Unit {0}
 IsUnread Leave = Unit {0}
 IsUnread (Read e) = ⊥
 IsUnread (Write e) = Unit {0}
-
-each_both : {A : Type 0} (P : A → Type 0) (xs ys : List A) → Each P xs → Each P ys → Each P (xs ++ ys)
-each_both P [] ys a b = b
-each_both P (x ∷ xs) ys a b = (a.0, each_both P xs ys a.1 b)
 
 abbrev Silent : Entry → Type 0
 Silent entry = IsUnread entry.event

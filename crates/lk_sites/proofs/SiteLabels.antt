@@ -13,9 +13,8 @@ use Rattle.lk_ground.specs.declared.program.GroundProgram.{GroundProgram}
 use Rattle.lk_sites.proofs.Visiting.{insides_level, visit_level}
 use Rattle.lk_sites.specs.Sites.{Site, Tour, all, at_node, behind_node, entered, in_instance, in_instances, is_closed, site_at, sites_of, start, visit}
 use Rattle.lk_sound.proofs.Inside.{by_insides, insides}
-use Rattle.lk_sound.proofs.Members.{each_weaker}
+use Rattle.lk_types.proofs.Members.{each_weaker, each_both}
 use Rattle.lk_types.specs.Each.{Each}
-use Rattle.lk_typing.proofs.Lists.{each_both}
 
 -- ---- numbers
 

@@ -10,9 +10,10 @@ use Rattle.lk_ast.specs.declared.expression.Node.TheOpen.{Node-F}
 use Rattle.lk_ground.specs.Language.{function_of}
 use Rattle.lk_ground.specs.declared.program.GroundFun.{GroundFun}
 use Rattle.lk_ground.specs.declared.program.GroundProgram.{GroundProgram}
+use Rattle.lk_mono.proofs.PlacedLevels.{operator_insides}
 use Rattle.lk_mono.specs.Instanced.{AreInstancesOf, HasInstances, IsInstanceOf, nodes_in}
-use Rattle.lk_sites.proofs.Passing.{IsInside, Passes, PassesFirst, first_other, first_called, passes_all, passes_block, passes_first, passes_split, inside_nodes, inside_change}
-use Rattle.lk_sites.proofs.SiteTyping.{behind_other, cases_visited, entered_left, expr_visited, exprs_visited, form_blocks, left, operator_insides, operator_open, takes_none, takes_use, uses_function}
+use Rattle.lk_sites.proofs.Passing.{Passes, PassesFirst, first_other, first_called, passes_all, passes_block, passes_first, passes_split}
+use Rattle.lk_sites.proofs.SiteTyping.{behind_other, cases_visited, entered_left, expr_visited, exprs_visited, form_blocks, left, operator_open, takes_none, takes_use, uses_function}
 use Rattle.lk_sites.proofs.SitesFound.{all_keeps, at_itself, behind_has, instances_keep, keeps}
 use Rattle.lk_sites.proofs.Touring.{by_parts}
 use Rattle.lk_sites.proofs.Visiting.{front_and}
@@ -22,7 +23,8 @@ use Rattle.lk_sites.specs.SiteKinds.{is_site}
 use Rattle.lk_sites.specs.Sites.{Site, Tour, all, at_node, behind_node, behind_type, entered, in_instance, in_instances, is_closed, site_at, sites_of, start, visit}
 use Rattle.lk_sites.specs.Takes.{Takes}
 use Rattle.lk_sound.proofs.Inside.{bodies_of, insides}
-use Rattle.lk_sound.proofs.Members.{one_of_both}
+use Rattle.lk_types.proofs.Members.{one_of_both, each_front, each_back}
+use Rattle.lk_sound.proofs.InsideNodes.{IsInside, inside_nodes, inside_change}
 use Rattle.lk_sound.proofs.TextBlocks.{function_blocks, insides_blocks}
 use Rattle.lk_sound.specs.Instances.{Instances, IsFine}
 use Rattle.lk_sound.specs.Nodes.{Block, TypedNode, Use, compared_by, used_by, nodes_of, each_nodes, case_nodes, change_nodes}
@@ -30,7 +32,6 @@ use Rattle.lk_sound.specs.Points.{AreBlocksOf}
 use Rattle.lk_types.specs.Each.{Each, OneOf}
 use Rattle.lk_types.specs.Rows.{EffectSet}
 use Rattle.lk_types.specs.declared.ground.Ground.{Ground}
-use Rattle.lk_typing.proofs.Lists.{each_back, each_front}
 use Rattle.lk_typing.specs.Names.{Entry, Named}
 use Rattle.lk_typing.specs.Typing.{HasType, HaveTypes, HaveCases, plain, lambda, var, switch, switch_open, for_list, for_table, query, update, delete, none, more, no_cases, case_of}
 

@@ -8,9 +8,9 @@ use Rattle.lk_ground.specs.declared.program.GroundFun.{GroundFun}
 use Rattle.lk_ground.specs.declared.program.GroundProgram.{GroundProgram}
 use Rattle.lk_sites.proofs.Touring.{visit_keeps}
 use Rattle.lk_sites.specs.Sites.{Site, Tour, at_node, behind_node, entered, in_instance, in_instances, site_at, sites_of, start}
+use Rattle.lk_types.proofs.Members.{each_both}
 use Rattle.lk_types.specs.Each.{Each}
 use Rattle.lk_types.specs.declared.ground.Ground.{Ground}
-use Rattle.lk_typing.proofs.Lists.{each_both}
 
 drop_more : {A : Type 0} (n : ℕ) (xs : List A) → drop 1 (drop n xs) ≡ drop (suc n) xs
 drop_more zero xs = refl

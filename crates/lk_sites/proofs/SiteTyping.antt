@@ -1,4 +1,5 @@
 -- What a visit to a typed expression finds: typed queries, readings of tables, updates and deletions.
+use Rattle.lk_mono.proofs.PlacedLevels.{operator_insides}
 use Rattle.std.proofs.Common.{◌≡◌, ℕ, Bool, true, false, ◌||◌, List, [], ◌∷◌, ◌++◌, append-nil, map, Some, None, refl, sym, ◌∙◌, ap, subst}
 use Rattle.std.proofs.Math.Bool.{or-false, or-true}
 use Rattle.std.proofs.lemmas.Option.{none-some}
@@ -12,7 +13,7 @@ use Rattle.lk_ast.specs.declared.expression.ChangeExpr.{ChangeExpr, out-ChangeEx
 use Rattle.lk_ast.specs.declared.expression.Expr.{Expr}
 use Rattle.lk_ast.specs.declared.expression.Node.TheOpen.{Node-F}
 use Rattle.lk_bag.specs.Blocks.{acts_on_tables}
-use Rattle.lk_sites.proofs.Passing.{IsInside, Passes, PassesFirst, first_other, first_called, passes_first, passes_behind, passes_block, passes_split, inside_nodes, inside_change as inside_changes, no_nodes}
+use Rattle.lk_sites.proofs.Passing.{Passes, PassesFirst, first_other, first_called, passes_first, passes_behind, passes_block, passes_split, no_nodes}
 use Rattle.lk_sites.proofs.Visiting.{by_form, front_and, insides_level, visit_level}
 use Rattle.lk_sites.specs.Blocks.{IsBlock}
 use Rattle.lk_sites.specs.Pending.{Pending, pending}
@@ -21,14 +22,15 @@ use Rattle.lk_sites.specs.Sites.{Site, Tour, all, at_node, behind_node, behind_t
 use Rattle.lk_sites.specs.SitesInside.{within}
 use Rattle.lk_sites.specs.Takes.{Takes}
 use Rattle.lk_sound.proofs.Inside.{bodies_of, inside_change, insides}
+use Rattle.lk_sound.proofs.InsideNodes.{IsInside, inside_nodes, inside_change as inside_changes}
 use Rattle.lk_sound.proofs.TextBlocks.{IsBlockOf, insides_blocks, own_block}
 use Rattle.lk_sound.specs.Instances.{Instances, IsFine}
 use Rattle.lk_sound.specs.Nodes.{TypedNode, Use, compared_by, used_by, nodes_of, each_nodes, case_nodes, change_nodes}
 use Rattle.lk_sound.specs.Points.{AreBlocksOf}
+use Rattle.lk_types.proofs.Members.{each_front, each_back, each_both}
 use Rattle.lk_types.specs.Each.{Each}
 use Rattle.lk_types.specs.Rows.{Label, EffectSet}
 use Rattle.lk_types.specs.declared.ground.Ground.{Ground}
-use Rattle.lk_typing.proofs.Lists.{each_back, each_both, each_front}
 use Rattle.lk_typing.specs.Heads as operator
 use Rattle.lk_typing.specs.Heads.{Head, head, parts}
 use Rattle.lk_typing.specs.Names.{Entry, Named}
@@ -41,17 +43,6 @@ abbrev pub left : Tour → Pending
 left t = pending t.types t.calls
 
 -- ---- operators
-
-pub operator_insides : (l : Layer) (h : Head) → head label_of expr_of l ≡ Some h → insides l ≡ parts label_of expr_of l
-operator_insides (Node-F.Lambda l) h is = absurd (none-some h is)
-operator_insides (Node-F.Var x d rest) h is = absurd (none-some h is)
-operator_insides (Node-F.Switch d cases last) h is = absurd (none-some h is)
-operator_insides (Node-F.ForList x d body) h is = absurd (none-some h is)
-operator_insides (Node-F.ForTable x rows body) h is = absurd (none-some h is)
-operator_insides (Node-F.Query keys d) h is = absurd (none-some h is)
-operator_insides (Node-F.Update change) h is = absurd (none-some h is)
-operator_insides (Node-F.Delete change) h is = absurd (none-some h is)
-operator_insides other h is = refl
 
 pub operator_open : (l : Layer) (h : Head) → head label_of expr_of l ≡ Some h → is_closed l ≡ false
 operator_open (Node-F.Query keys d) h is = absurd (none-some h is)

@@ -14,14 +14,11 @@ use Rattle.lk_sites.specs.Law.{SitesFoundLaw, StandsOutside, outer_parts}
 use Rattle.lk_sites.specs.SiteKinds.{is_site}
 use Rattle.lk_sites.specs.Sites.{Site, Tour, all, at_node, behind_node, entered, in_instance, in_instances, is_closed, site_at, start, visit}
 use Rattle.lk_sound.proofs.Inside.{bodies_of, insides}
-use Rattle.lk_sound.proofs.Members.{one_in_back, one_in_front}
+use Rattle.lk_sound.proofs.QueryParts.{each_itself}
+use Rattle.lk_types.proofs.Members.{one_in_back, one_in_front}
 use Rattle.lk_types.specs.Each.{OneOf}
 
 -- ---- the parts of a node
-
-exprs_alone : (es : List Expr) → flat_map (λ (e : Expr). e ∷ []) es ≡ es
-exprs_alone [] = refl
-exprs_alone (e ∷ es) = ap (λ more. e ∷ more) (exprs_alone es)
 
 parts_alone : (parts : List PartExpr) → flat_map (λ (part : PartExpr). part.expr ∷ []) parts ≡ exprs_of parts
 parts_alone [] = refl
@@ -40,11 +37,11 @@ opened : (l : Layer) (d : Expr) → OneOf (λ other. other ≡ d) (outer_parts l
 opened (Node-F.Query keys body) d one = absurd one
 opened (Node-F.Update change) d one = absurd one
 opened (Node-F.Delete change) d one = absurd one
-opened (Node-F.Call g args) d one = record { open_node = refl; parts = exprs_alone args }
-opened (Node-F.Apply f args) d one = record { open_node = refl; parts = ap (λ es. f ∷ es) (exprs_alone args) }
+opened (Node-F.Call g args) d one = record { open_node = refl; parts = each_itself args }
+opened (Node-F.Apply f args) d one = record { open_node = refl; parts = ap (λ es. f ∷ es) (each_itself args) }
 opened (Node-F.Record fields) d one = record { open_node = refl; parts = parts_alone fields }
 opened (Node-F.Extend fields e) d one = record { open_node = refl; parts = ap (λ es. es ++ e ∷ []) (parts_alone fields) }
-opened (Node-F.List items) d one = record { open_node = refl; parts = exprs_alone items }
+opened (Node-F.List items) d one = record { open_node = refl; parts = each_itself items }
 opened (Node-F.Switch e cases None) d one = record { open_node = refl; parts = ap (λ es. e ∷ (es ++ [])) (cases_alone cases) }
 opened (Node-F.Switch e cases (Some last)) d one = record { open_node = refl; parts = ap (λ es. e ∷ (es ++ last.body ∷ [])) (cases_alone cases) }
 opened other d one = record { open_node = refl; parts = refl }

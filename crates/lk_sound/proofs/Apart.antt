@@ -1,14 +1,12 @@
 -- In a program whose names are bound the functions have names of their own, and so have the parameters of each function and of
 -- each lambda. The names that a lambda captures are each there once, in any program.
-use Rattle.std.proofs.Common.{◌≡◌, refl, sym, ap, subst, ◌∙◌, Bool, true, false, ◌&&◌, ◌||◌, T, List, [], ◌∷◌, ◌++◌, map, flat_map, Some, None, if◌then◌else◌, inl, inr}
-use Rattle.std.proofs.lemmas.Bool.{both_ways}
+use Rattle.std.proofs.Common.{◌≡◌, sym, subst, false, T, List, [], ◌∷◌, ◌++◌, map, flat_map, None, inl, inr}
 use Rattle.std.proofs.lemmas.Cmp.{nat_list_cmp_total}
 use Rattle.std.specs.Cmp.{tied_itself}
 use Rattle.std.specs.Cmp.Lexicographic.{slice_cmp}
 use Rattle.std.specs.FinMap as finite
 use Rattle.std.specs.FinMap.Entries.{is_sorted, below_all}
-use Rattle.std.specs.FinSet as set
-use Rattle.std.specs.Ordering.{nat_cmp, eq_by_cmp, is_eq, is_lt}
+use Rattle.std.specs.Ordering.{nat_cmp, is_lt}
 use Rattle.lk_ast.specs.Functions.{functions_in, functions_of, main_of}
 use Rattle.lk_ast.specs.declared.declaration.Decl.{Decl}
 use Rattle.lk_ast.specs.declared.declaration.Decl.TheVariants.{Table, Fun, Mutual}
@@ -22,75 +20,20 @@ use Rattle.lk_names.specs.Expressions.{fault}
 use Rattle.lk_names.specs.Faults.{Fault, first_of}
 use Rattle.lk_names.specs.Programs.{IsBound, no_globals, with_decl, names_of, sig_fault, function_fault, functions_fault, table_fault, decl_fault, decls_fault, names_fault, main_fault}
 use Rattle.lk_names.specs.Repeats.{twice_fault, alone, items_fault, words_fault}
-use Rattle.lk_names.specs.declared.error.NameError.TheVariants.{Twice}
 use Rattle.lk_names.specs.declared.globals.Globals.{Globals}
 use Rattle.lk_scope.specs.Names.{Names, no_names, is_local, bind, bind_all}
+use Rattle.lk_types.proofs.LabelMaps.{first_holds, second_holds}
 use Rattle.lk_types.specs.Each.{Each}
 use Rattle.lk_types.specs.Rows.{Label}
-use Rattle.lk_typing.proofs.Lists.{each_both}
 use Rattle.lk_typing.specs.Names.{texts}
-use Rattle.lk_sound.proofs.Faultless.{neither, HasParams, IsFaultless, all_params}
+use Rattle.lk_sound.proofs.Faultless.{neither, HasNoFault, HasParams, IsFaultless, all_params}
 use Rattle.lk_sound.proofs.Gathered.{gathered}
-use Rattle.lk_sound.proofs.Members.{each_in}
+use Rattle.lk_types.proofs.Members.{each_in, each_weaker, each_both}
 use Rattle.lk_sound.proofs.Names.{IsAmong, AreDistinct}
+use Rattle.lk_sound.proofs.NewNames.{AreNew, fewer_met, kept, new_distinct, once}
 use Rattle.lk_sound.specs.Within.{IsFunctionOf, IsLambdaOf}
 
--- ---- names that were not met before
-
--- none of them is one of those met, or stands twice
-abbrev AreNew : Names → List Label → Type 0
-AreNew met [] = Unit {0}
-AreNew met (x ∷ xs) = (is_local met x ≡ false) × AreNew (set.insert met x) xs
-
-right_true : (a b : Bool) → b ≡ true → (a || b) ≡ true
-right_true true b is = refl
-right_true false b is = is
-
-kept : (met : Names) (x y : Label) → is_local met y ≡ true → is_local (set.insert met x) y ≡ true
-kept met x y is = set.contains-insert nat_list_cmp_total met x y ∙ right_true (eq_by_cmp (slice_cmp nat_cmp) y x) (is_local met y) is
-
-put_in : (met : Names) (x : Label) → is_local (set.insert met x) x ≡ true
-put_in met x = set.contains-insert nat_list_cmp_total met x x ∙ ap (λ o. is_eq o || is_local met x) (tied_itself nat_list_cmp_total x)
-
--- one that was met is not among them
-not_among : (met : Names) (xs : List Label) (x : Label) → is_local met x ≡ true → AreNew met xs → IsAmong x xs → ⊥
-not_among met [] x is new among = among
-not_among met (y ∷ xs) x is new (inl same) = both_ways (is_local met x) (subst (λ z. is_local met z ≡ false) same new.0) is
-not_among met (y ∷ xs) x is new (inr later) = not_among (set.insert met y) xs x (kept met y x is) new.1 later
-
-new_distinct : (met : Names) (xs : List Label) → AreNew met xs → AreDistinct xs
-new_distinct met [] new = tt
-new_distinct met (x ∷ xs) new = (not_among (set.insert met x) xs x (put_in met x) new.1, new_distinct (set.insert met x) xs new.1)
-
--- these names are all met
-abbrev IsFewer : Names → Names → Type 0
-IsFewer fewer met = (y : Label) → is_local fewer y ≡ true → is_local met y ≡ true
-
-false_before : (a b : Bool) → (a ≡ true → b ≡ true) → b ≡ false → a ≡ false
-false_before true b so is = absurd (both_ways b is (so refl))
-false_before false b so is = refl
-
-or_more : (a b c : Bool) → (b ≡ true → c ≡ true) → (a || b) ≡ true → (a || c) ≡ true
-or_more true b c so is = refl
-or_more false b c so is = so is
-
-fewer_met : (fewer met : Names) (xs : List Label) → IsFewer fewer met → AreNew met xs → AreNew fewer xs
-fewer_met fewer met [] are new = tt
-fewer_met fewer met (x ∷ xs) are new = (
-  false_before (is_local fewer x) (is_local met x) (are x) new.0,
-  fewer_met (set.insert fewer x) (set.insert met x) xs
-      (λ y is. set.contains-insert nat_list_cmp_total met x y ∙ or_more (eq_by_cmp (slice_cmp nat_cmp) y x) (is_local fewer y) (is_local met y) (are y) (sym (set.contains-insert nat_list_cmp_total fewer x y) ∙ is))
-      new.1,
-)
-
 -- ---- lists without a fault
-
-once : (met : Names) (x : Word) → twice_fault met x ≡ None → is_local met x.text ≡ false
-once met x none = by_test (is_local met x.text) none
-  where
-    by_test : (b : Bool) → (if b then Some (Twice x.at) else None) ≡ None → b ≡ false
-    by_test true wrong = absurd cc
-    by_test false none = refl
 
 words_new : (met : Names) (words : List Word) → items_fault met (map alone words) ≡ None → AreNew met (texts words)
 words_new met [] none = tt
@@ -105,18 +48,27 @@ words_apart words none = new_distinct no_names (texts words) (words_new no_names
 
 -- no parameter is there twice, and the body has no fault
 abbrev IsFine : FunDef → Type 0
-IsFine f = (words_fault f.params ≡ None) × ((globals : Globals) × IsFaultless globals f.body)
+IsFine f = (words_fault f.params ≡ None) × HasNoFault f.body
 
 abbrev name_text : FunDef → Label
 name_text f = f.name.text
 
-function_parts : (declared : Names) (globals : Globals) (f : FunDef) → function_fault declared globals f ≡ None → (is_local declared f.name.text ≡ false) × IsFine f
+-- what a function without a fault has: a new name, parameters of names of their own, and a body without a fault
+pub record IsFaultlessFunction (declared : Names) (globals : Globals) (f : FunDef) : Type 0 where
+  pub new : is_local declared f.name.text ≡ false
+  pub params : words_fault f.params ≡ None
+  pub body : IsFaultless globals f.body
+
+pub function_parts : (declared : Names) (globals : Globals) (f : FunDef) → function_fault declared globals f ≡ None → IsFaultlessFunction declared globals f
 function_parts declared globals f none =
     let body : Fault = fault globals f.body (bind_all f.params no_names) in
     let behind = (neither (sig_fault f.name f.sig) (first_of (twice_fault declared f.name) (first_of (words_fault f.params) body)) none).1 in
     let both = neither (twice_fault declared f.name) (first_of (words_fault f.params) body) behind in
     let rest = neither (words_fault f.params) body both.1 in
-    (once declared f.name both.0, (rest.0, (globals, (bind_all f.params no_names, rest.1))))
+    record { new = once declared f.name both.0; params = rest.0; body = (bind_all f.params no_names, rest.1) }
+
+function_fine : (declared : Names) (globals : Globals) (f : FunDef) → function_fault declared globals f ≡ None → IsFine f
+function_fine declared globals f none = let parts = function_parts declared globals f none in (parts.params, (globals, parts.body))
 
 -- the functions of a block, and those behind it
 functions_new : (declared : Names) (globals : Globals) (fs others : List FunDef) → functions_fault declared globals fs ≡ None
@@ -124,13 +76,13 @@ functions_new : (declared : Names) (globals : Globals) (fs others : List FunDef)
 functions_new declared globals [] others none new = new
 functions_new declared globals (f ∷ fs) others none new =
     let both = neither (function_fault declared globals f) (functions_fault (bind f.name declared) globals fs) none in
-    ((function_parts declared globals f both.0).0, functions_new (bind f.name declared) globals fs others both.1 new)
+    ((function_parts declared globals f both.0).new, functions_new (bind f.name declared) globals fs others both.1 new)
 
 functions_fine : (declared : Names) (globals : Globals) (fs : List FunDef) → functions_fault declared globals fs ≡ None → Each IsFine fs
 functions_fine declared globals [] none = tt
 functions_fine declared globals (f ∷ fs) none =
     let both = neither (function_fault declared globals f) (functions_fault (bind f.name declared) globals fs) none in
-    ((function_parts declared globals f both.0).1, functions_fine (bind f.name declared) globals fs both.1)
+    (function_fine declared globals f both.0, functions_fine (bind f.name declared) globals fs both.1)
 
 -- ---- declarations
 
@@ -141,7 +93,7 @@ decls_new declared globals (Table table ∷ decls) none =
     fewer_met declared (bind table.name declared) (map name_text (flat_map functions_in decls)) (λ y is. kept declared table.name.text y is) (decls_new (bind table.name declared) (with_decl (Table table) globals) decls both.1)
 decls_new declared globals (Fun f ∷ decls) none =
     let both = neither (function_fault declared (with_decl (Fun f) globals) f) (decls_fault (bind f.name declared) (with_decl (Fun f) globals) decls) none in
-    ((function_parts declared (with_decl (Fun f) globals) f both.0).0, decls_new (bind f.name declared) (with_decl (Fun f) globals) decls both.1)
+    ((function_parts declared (with_decl (Fun f) globals) f both.0).new, decls_new (bind f.name declared) (with_decl (Fun f) globals) decls both.1)
 decls_new declared globals (Mutual fs ∷ decls) none =
     let behind : Names = bind_all (map (λ (f : FunDef). f.name) fs) declared in
     let both = neither (functions_fault declared (with_decl (Mutual fs) globals) fs) (decls_fault behind (with_decl (Mutual fs) globals) decls) none in
@@ -149,7 +101,7 @@ decls_new declared globals (Mutual fs ∷ decls) none =
 
 decl_fine : (declared : Names) (globals : Globals) (decl : Decl) → decl_fault declared globals decl ≡ None → Each IsFine (functions_in decl)
 decl_fine declared globals (Table table) none = tt
-decl_fine declared globals (Fun f) none = ((function_parts declared (with_decl (Fun f) globals) f none).1, tt)
+decl_fine declared globals (Fun f) none = (function_fine declared (with_decl (Fun f) globals) f none, tt)
 decl_fine declared globals (Mutual fs) none = functions_fine declared (with_decl (Mutual fs) globals) fs none
 
 decls_fine : (declared : Names) (globals : Globals) (decls : List Decl) → decls_fault declared globals decls ≡ None → Each IsFine (flat_map functions_in decls)
@@ -165,6 +117,10 @@ names_bound p bound = (neither (names_fault p) (main_fault (main_of p)) bound).0
 
 all_fine : (p : Program) → IsBound p → Each IsFine (functions_of p)
 all_fine p bound = decls_fine no_names no_globals p.decls (names_bound p bound)
+
+-- no body of a function has a fault
+pub bodies_faultless : (p : Program) → IsBound p → Each (λ (f : FunDef). HasNoFault f.body) (functions_of p)
+bodies_faultless p bound = each_weaker IsFine (λ (f : FunDef). HasNoFault f.body) (λ f fine. fine.1) (functions_of p) (all_fine p bound)
 
 -- no two functions have the same name
 pub functions_apart : (p : Program) → IsBound p → AreDistinct (map (λ (f : FunDef). f.name.text) (functions_of p))
@@ -187,26 +143,18 @@ lambda_params_apart p placed bound there =
 
 -- ---- captured names
 
-first_of_both : (a b : Bool) → T (a && b) → T a
-first_of_both true b both = tt
-first_of_both false b both = absurd both
-
-second_of_both : (a b : Bool) → T (a && b) → T b
-second_of_both true b both = both
-second_of_both false b both = absurd both
-
 -- nothing stands before itself
 not_below : (x y : Label) → y ≡ x → T (is_lt (slice_cmp nat_cmp x y)) → ⊥
 not_below x y same below = subst (λ o. T (is_lt o)) (tied_itself nat_list_cmp_total x) (subst (λ z. T (is_lt (slice_cmp nat_cmp x z))) same below)
 
 not_above : (x : Label) (es : List (Label × Unit {0})) → T (below_all (slice_cmp nat_cmp) x es) → IsAmong x (map (λ e. e.0) es) → ⊥
 not_above x [] below among = among
-not_above x (e ∷ es) below (inl same) = not_below x e.0 same (first_of_both _ _ below)
-not_above x (e ∷ es) below (inr later) = not_above x es (second_of_both _ _ below) later
+not_above x (e ∷ es) below (inl same) = not_below x e.0 same (first_holds _ _ below)
+not_above x (e ∷ es) below (inr later) = not_above x es (second_holds _ _ below) later
 
 sorted_apart : (es : List (Label × Unit {0})) → T (is_sorted (slice_cmp nat_cmp) es) → AreDistinct (map (λ e. e.0) es)
 sorted_apart [] sorted = tt
-sorted_apart (e ∷ es) sorted = (not_above e.0 es (first_of_both _ _ sorted), sorted_apart es (second_of_both _ _ sorted))
+sorted_apart (e ∷ es) sorted = (not_above e.0 es (first_holds _ _ sorted), sorted_apart es (second_holds _ _ sorted))
 
 -- words in byte order are each there once
 pub ordered_apart : (words : List Label) → AreDistinct (in_byte_order words)

@@ -1,7 +1,6 @@
 -- What a typed, flat query gives over tables whose rows fit has the query's type: by its typing, where calls give what they
 -- should, and these by the number of functions before the one that is called.
 use Rattle.std.proofs.Common.{◌≡◌, refl, sym, ap, subst, ◌∙◌, arith, ℕ, zero, suc, ◌+◌, ◌<◌, Bool, true, false, List, [], ◌∷◌, append-nil, map, find, length, Some, None, if◌then◌else◌, bytes_eq}
-use Rattle.std.proofs.lemmas.Bool.{eq-eqb}
 use Rattle.lk_ast.specs.Functions.{functions_of, is_named}
 use Rattle.lk_ast.specs.Layers.{layer}
 use Rattle.lk_ast.specs.Tables.{Tables, tables_of}
@@ -16,9 +15,10 @@ use Rattle.lk_locals.specs.Names.{Names, no_names, bind, bind_each, bind_all}
 use Rattle.lk_names.specs.Programs.{IsBound}
 use Rattle.lk_sound.proofs.Apart.{params_apart}
 use Rattle.lk_sound.proofs.Bindings.{bound_one, bound_each}
+use Rattle.lk_sound.proofs.Calls.{length_names, length_texts, bound_all, no_locals}
 use Rattle.lk_sound.proofs.FlatTypes.{unit_not_flat}
 use Rattle.lk_sound.proofs.Fitting.{as_many}
-use Rattle.lk_sound.proofs.Members.{each_in}
+use Rattle.lk_types.proofs.Members.{each_in, each_front, each_back}
 use Rattle.lk_sound.proofs.Names.{AreDistinct}
 use Rattle.lk_sound.proofs.QueryParts.{IsQueryNode, AreQueryNodes, part_types}
 use Rattle.lk_sound.proofs.QueryValues.{CallsFit, never_both, items_fit, each_items, operator_value}
@@ -34,7 +34,6 @@ use Rattle.lk_types.specs.Rows.{Label, EffectSet}
 use Rattle.lk_types.specs.declared.ground.Ground.{Ground}
 use Rattle.lk_types.specs.declared.ground.Ground.TheVariants as known
 use Rattle.lk_types.specs.declared.ty.Effect.TheVariants as effect
-use Rattle.lk_typing.proofs.Lists.{each_back, each_front}
 use Rattle.lk_typing.proofs.Samples.Types.{same_params, same_answer, same_effects}
 use Rattle.lk_typing.specs.Names.{Named, names_of, types_of, texts, Entry}
 use Rattle.lk_typing.specs.Types.{function_of}
@@ -87,21 +86,6 @@ module _ (p : Program) (i : Instances) (closed : AreClosed p i) (tables : Tables
         (parts_fit flag others own traps (each_back (IsQueryNode p i.helpers n) (nodes_of flag first) (each_nodes flag others) all) names fit)
 
 -- ---- calls
-
-pub length_names : (entries : Named Ground) → length (names_of entries) ≡ length (types_of entries)
-length_names [] = refl
-length_names (entry ∷ entries) = ap suc (length_names entries)
-
-pub length_texts : (words : List Word) → length (texts words) ≡ length words
-length_texts [] = refl
-length_texts (word ∷ words) = ap suc (length_texts words)
-
--- as many arguments as parameters
-pub bound_all : (names : Names) (params : List Word) (values : List Value) → length params ≡ length values → bind_all names params values ≡ Some (bind_each names (texts params) values)
-bound_all names params values is = ap (λ b. if b then Some (bind_each names (texts params) values) else None) (eq-eqb (length params) (length values) is)
-
-pub no_locals : (p : Program) (i : Instances) → AreLocals p i [] no_names
-no_locals p i x t is = absurd cc
 
 -- what stands in a helper calls helpers before it
 pub before_caller : (p : Program) (i : Instances) (caller : Use) (n : ℕ) (body : List TypedNode) → number_of p caller.name < suc n → Each (IsHelperNode p i.helpers caller) body → AreQueryNodes p i.helpers n body

@@ -5,10 +5,10 @@ use Rattle.lk_ast.specs.Functions.{functions_of, function_named, is_named}
 use Rattle.lk_ast.specs.declared.declaration.FunDef.{FunDef}
 use Rattle.lk_ast.specs.declared.declaration.Program.{Program}
 use Rattle.lk_names.specs.Programs.{IsBound}
+use Rattle.lk_types.proofs.Parts.{same_some}
 use Rattle.lk_types.specs.Each.{Each}
 use Rattle.lk_types.specs.Rows.{Label, EffectSet}
 use Rattle.lk_types.specs.declared.ground.Ground.{Ground}
-use Rattle.lk_typing.proofs.Values.{just}
 use Rattle.lk_typing.specs.Names.{Named, types_of, texts, names_of, Entry}
 use Rattle.lk_typing.specs.Types.{function_of}
 use Rattle.lk_sound.specs.Functions.{HasFunctionType}
@@ -17,7 +17,7 @@ use Rattle.lk_sound.specs.Nodes.{nodes_of}
 use Rattle.lk_sound.specs.Within.{IsFunctionOf}
 use Rattle.lk_sound.proofs.Apart.{functions_apart}
 use Rattle.lk_sound.proofs.Contexts.{found_named}
-use Rattle.lk_sound.proofs.Members.{each_in, found_in}
+use Rattle.lk_types.proofs.Members.{each_in, found_in}
 use Rattle.lk_sound.proofs.Points.{IsTyped}
 
 -- the function has the type, its body by the rules and with fine nodes
@@ -69,5 +69,5 @@ module _ (p : Program) (i : Instances) where
   listed_body bound closed f t declared listed =
       let found : IsUsed f.name.text t = used_there closed f.name.text t listed in
       let itself : function_named p f.name.text ≡ Some f = found_named (functions_of p) f (functions_apart p bound) declared in
-      let same : found.function ≡ f = just (sym found.named ∙ itself) in
+      let same : found.function ≡ f = same_some (sym found.named ∙ itself) in
       subst (λ g. HasFineBody p i g t) same found.has

@@ -41,11 +41,11 @@ kept_fit p i kept xs values are apart fit =
     (subst (λ locals. AreLocals p i locals (bind_each no_names (names_of kept) values)) (append-nil kept)
     (bound_each p i kept values [] no_names (subst AreDistinct (sym are) apart) fit (no_locals p i)))
 
-length_names : (entries : Named Ground) → length (names_of entries) ≡ length (types_of entries)
+pub length_names : (entries : Named Ground) → length (names_of entries) ≡ length (types_of entries)
 length_names [] = refl
 length_names (entry ∷ entries) = ap suc (length_names entries)
 
-length_texts : (words : List Word) → length (texts words) ≡ length words
+pub length_texts : (words : List Word) → length (texts words) ≡ length words
 length_texts [] = refl
 length_texts (word ∷ words) = ap suc (length_texts words)
 
@@ -53,7 +53,7 @@ equal_to_itself : (n m : ℕ) → n ≡ m → (n == m) ≡ true
 equal_to_itself n m is = grind (arith, nat_tests)
 
 -- as many arguments as parameters
-bound_all : (names : Names) (params : List Word) (values : List Value) → length params ≡ length values → bind_all names params values ≡ Some (bind_each names (texts params) values)
+pub bound_all : (names : Names) (params : List Word) (values : List Value) → length params ≡ length values → bind_all names params values ≡ Some (bind_each names (texts params) values)
 bound_all names params values is = ap (λ b. if b then Some (bind_each names (texts params) values) else None) (equal_to_itself (length params) (length values) is)
 
 -- What is called: a body with parameters of these types, over names with values that fit.

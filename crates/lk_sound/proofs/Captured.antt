@@ -1,15 +1,8 @@
 -- What a lambda captures are its free names, and what it keeps are their values: with the types of these its body has the type
 -- that it had where the lambda stands. So it is with queries and changes of tables, which capture names of flat types.
-use Rattle.std.proofs.Common.{◌≡◌, refl, sym, ap, ap₂, ◌∙◌, subst, ℕ, Bool, true, false, ◌||◌, cond, List, [], ◌∷◌, ◌++◌, map, inl, inr, Option, Some, None, is_some, IsSome}
-use Rattle.std.proofs.lemmas.Cmp.{nat_list_cmp_total}
-use Rattle.std.proofs.lemmas.Map.Text.{is_eq-slice_cmp}
-use Rattle.std.specs.Cmp.Lexicographic.{slice_cmp, bytes_decides}
-use Rattle.std.specs.FinMap as finite
-use Rattle.std.specs.FinMap.Entries.{is_some-find}
-use Rattle.std.specs.List.{list_any}
-use Rattle.std.specs.Ordering.{nat_cmp, eq_by_cmp}
+use Rattle.std.proofs.Common.{◌≡◌, refl, sym, ap, ap₂, ◌∙◌, subst, Bool, true, false, cond, List, [], ◌∷◌, ◌++◌, inl, inr, Option, Some, None, IsSome}
+use Rattle.std.specs.Cmp.Lexicographic.{bytes_decides}
 use Rattle.std.specs.Str.{bytes_eq}
-use Rattle.std.specs.declared.cmp.Ordering.{Ordering}
 use Rattle.lk_ast.specs.declared.declaration.Program.{Program}
 use Rattle.lk_ast.specs.declared.expression.LambdaExpr.{LambdaExpr}
 use Rattle.lk_ast.specs.declared.value.Value.{Value}
@@ -19,7 +12,7 @@ use Rattle.lk_locals.specs.Names as outer
 use Rattle.lk_locals.specs.Names.{Names, lookup, lookup_all, with_value, bind_each}
 use Rattle.lk_types.specs.Each.{Each}
 use Rattle.lk_scope.specs.Names as scope
-use Rattle.lk_scope.specs.Names.{no_names, is_local, bind_all}
+use Rattle.lk_scope.specs.Names.{no_names, bind_all}
 use Rattle.lk_types.specs.Rows.{Label, EffectSet}
 use Rattle.lk_types.specs.declared.ground.Ground.{Ground}
 use Rattle.lk_typing.specs.Names.{Named, named, names_of, types_of, texts, Entry}
@@ -29,6 +22,7 @@ use Rattle.lk_sound.proofs.Calls.{kept_fit}
 use Rattle.lk_sound.proofs.Free.{AreKnown, outside_known, known_in}
 use Rattle.lk_sound.proofs.FreeLevels.{lambda_level}
 use Rattle.lk_sound.proofs.Names.{IsAmong}
+use Rattle.lk_sound.proofs.OrderedWords.{ordered_holds, ordered_of}
 use Rattle.lk_sound.proofs.PlainValues.{all_plain}
 use Rattle.lk_sound.proofs.Points.{IsTyped}
 use Rattle.lk_sound.proofs.Retyped.{Agree, agree_inside, outermost, retyped, retyped_nodes}
@@ -37,54 +31,6 @@ use Rattle.lk_sound.specs.Nodes.{type_before, known_in as known_types}
 use Rattle.lk_sound.specs.Points.{AreLocals}
 use Rattle.lk_sound.specs.Tables.{ArePlain}
 use Rattle.lk_sound.specs.Values.{Fits, FitEach, none_left, one_more}
-
--- ---- words in byte order
-
-abbrev order : List ℕ → List ℕ → Ordering
-order = slice_cmp nat_cmp
-
--- whether it is one of the words
-abbrev is_among : List (List ℕ) → List ℕ → Bool
-is_among xs x = list_any (eq_by_cmp order x) xs
-
-among_of : (x : Label) (xs : List Label) → is_among xs x ≡ true → IsAmong x xs
-among_of x [] is = absurd cc
-among_of x (y ∷ xs) is = by_test (bytes_eq x y) refl (among_of x xs) (ap (λ b. b || is_among xs x) (sym (is_eq-slice_cmp x y)) ∙ is)
-  where
-    by_test : (b : Bool) → bytes_eq x y ≡ b → (is_among xs x ≡ true → IsAmong x xs) → (b || is_among xs x) ≡ true → IsAmong x (y ∷ xs)
-    by_test true same behind is = inl (sym ((bytes_decides x y).0 same))
-    by_test false other behind is = inr (behind is)
-
-among_is : (x : Label) (xs : List Label) → IsAmong x xs → is_among xs x ≡ true
-among_is x [] among = absurd among
-among_is x (y ∷ xs) (inl same) = ap (λ b. b || is_among xs x) (is_eq-slice_cmp x y ∙ ap (bytes_eq x) same ∙ itself) where
-  itself : bytes_eq x x ≡ true
-  itself = (bytes_decides x x).1 refl
-among_is x (y ∷ xs) (inr among) = ap (λ b. eq_by_cmp order x y || b) (among_is x xs among) ∙ or_true (eq_by_cmp order x y)
-  where
-    or_true : (b : Bool) → (b || true) ≡ true
-    or_true true = refl
-    or_true false = refl
-
-abbrev keyed : List (List ℕ) → List (List ℕ × Unit {0})
-keyed words = map (λ word. (word, tt {0})) words
-
-keys_keyed : (words : List (List ℕ)) → map (λ e. e.0) (keyed words) ≡ words
-keys_keyed [] = refl
-keys_keyed (word ∷ words) = ap (λ rest. word ∷ rest) (keys_keyed words)
-
--- in byte order they are the same words
-ordered_same : (x : Label) (words : List Label) → is_among (in_byte_order words) x ≡ is_among words x
-ordered_same x words =
-    sym (finite.contains_key-keys (finite.from_entries {R = order} (keyed words)) x) ∙ ap is_some (finite.get-from_entries nat_list_cmp_total (keyed words) x) ∙ is_some-find order x (keyed words) ∙ ap (λ xs. is_among xs x) (keys_keyed words)
-
--- each of the words is among them in byte order
-ordered_holds : (words : List Label) (x : Label) → IsAmong x words → IsAmong x (in_byte_order words)
-ordered_holds words x among = among_of x (in_byte_order words) (ordered_same x words ∙ among_is x words among)
-
--- and no other
-ordered_of : (words : List Label) (x : Label) → IsAmong x (in_byte_order words) → IsAmong x words
-ordered_of words x among = among_of x words (sym (ordered_same x words) ∙ among_is x (in_byte_order words) among)
 
 -- ---- values that are kept
 

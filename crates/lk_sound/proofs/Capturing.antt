@@ -8,10 +8,10 @@ use Rattle.lk_bag.specs.Blocks.{block_at}
 use Rattle.lk_bag.specs.Legal.{captured_by}
 use Rattle.lk_locals.specs.Names.{Names, lookup_all}
 use Rattle.lk_scope.specs.Names.{no_names}
+use Rattle.lk_types.proofs.Parts.{same_some}
 use Rattle.lk_types.specs.Each.{OneOf}
 use Rattle.lk_types.specs.Rows.{Label}
 use Rattle.lk_types.specs.declared.ground.Ground.{Ground}
-use Rattle.lk_typing.proofs.Values.{just}
 use Rattle.lk_typing.specs.Names.{Named, named}
 use Rattle.lk_sound.proofs.Free.{AreKnown}
 use Rattle.lk_sound.proofs.Names.{IsAmong}
@@ -35,7 +35,7 @@ module _ (p : Program) (i : Instances) (site : ℕ) (block : Expr) (found : bloc
   -- what begins there is that block
   of_block : (args : List Value) → (is_block (layer block) ≡ true → HasCaptured p i block args) → Captures p i site args
   of_block args captured other there is =
-      let same : block ≡ other = just (sym found ∙ there) in
+      let same : block ≡ other = same_some (sym found ∙ there) in
       subst (λ b. is_block (layer b) ≡ true → HasCaptured p i b args) same captured is
 
   -- it captures nothing if it is no query, no update and no deletion

@@ -1,6 +1,6 @@
 -- What a name of a function stands for in the bodies of a program: a function of that name, at a type that it has. So has each
 -- function the types that are instances of its scheme, and the function in which a session begins takes a text.
-use Rattle.std.proofs.Common.{◌≡◌, ◌⊎◌, inl, inr, ℕ, zero, suc, ◌==◌, Bool, true, false, ◌&&◌, cond, List, [], ◌∷◌, ◌++◌, map, flat_map, length, codes, Some, find, slice_get, bytes_eq, if◌then◌else◌, refl, sym, ap, subst, subst₂, ◌∙◌, arith}
+use Rattle.std.proofs.Common.{◌≡◌, ◌⊎◌, inl, inr, ℕ, zero, suc, ◌==◌, Bool, true, false, ◌&&◌, cond, List, [], ◌∷◌, ◌++◌, map, flat_map, length, codes, Some, find, slice_get, bytes_eq, refl, sym, ap, subst, subst₂, ◌∙◌, arith}
 use Rattle.std.proofs.lemmas.Bool.{and_parts}
 use Rattle.std.proofs.lemmas.Bool.Decides.{nat_tests}
 use Rattle.std.proofs.lemmas.List.{length-map}
@@ -11,6 +11,7 @@ use Rattle.lk_ast.specs.declared.declaration.Decl.{Decl}
 use Rattle.lk_ast.specs.declared.declaration.FunDef.{FunDef}
 use Rattle.lk_ast.specs.declared.declaration.Program.{Program}
 use Rattle.lk_ast.specs.declared.declaration.TableDecl.{TableDecl}
+use Rattle.lk_types.proofs.Parts.{same_some}
 use Rattle.lk_types.specs.Each.{Each, OneOf}
 use Rattle.lk_types.specs.Grounding.{Grounding}
 use Rattle.lk_types.specs.Rows.{Label}
@@ -18,13 +19,14 @@ use Rattle.lk_types.specs.Schemes.{IsInstance}
 use Rattle.lk_types.specs.declared.ground.Ground.{Ground}
 use Rattle.lk_types.specs.declared.ground.Ground.TheVariants as known
 use Rattle.lk_types.specs.declared.scheme.Scheme.{Scheme}
-use Rattle.lk_typing.proofs.Values.{just}
+use Rattle.lk_typing.proofs.SchemeCounts.{as_many_schemes}
 use Rattle.lk_typing.specs.Groups.{IsFunction, AreFunctions, IsGroup, is_mutual, own_entries, scheme_entries}
 use Rattle.lk_typing.specs.Names.{Named, named, types_of, Entry, One, Many, IsUse, MayBe}
-use Rattle.lk_typing.specs.Programs.{AreAt, AreInstances, Hold, HaveSchemes, entries}
+use Rattle.lk_typing.specs.Programs.{AreInstances, Hold, HaveSchemes, entries}
 use Rattle.lk_ast.specs.Tables.{tables_of}
 use Rattle.lk_typing.specs.Types.{function_of}
-use Rattle.lk_sound.proofs.Members.{one_in_front, one_in_back, one_of_both}
+use Rattle.lk_types.proofs.Members.{one_in_front, one_in_back, one_of_both, one_at}
+use Rattle.lk_sound.proofs.Beside.{IsBeside, paired, own_pairs, scheme_pairs, earlier_named}
 use Rattle.lk_sound.proofs.Names.{IsAmong, AreDistinct}
 use Rattle.lk_sound.specs.Functions.{AreSeen, IsContext, HasFunctionType}
 use Rattle.lk_sound.specs.Law.{MainLaw, InstanceLaw}
@@ -34,74 +36,13 @@ use Rattle.lk_sound.specs.Within.{IsFunctionOf}
 abbrev HasNamed : Program → Label → Ground → Type 0
 HasNamed p g t = (f : FunDef) × (f.name.text ≡ g) × HasFunctionType p f t
 
-one_at : {A : Type 0} (xs : List A) (i : ℕ) (x : A) → slice_get xs i ≡ Some x → OneOf (λ y. y ≡ x) xs
-one_at [] i x is = absurd (none-some x is)
-one_at (y ∷ xs) zero x is = inl (just is)
-one_at (y ∷ xs) (suc i) x is = inr (one_at xs i x is)
-
--- ---- what stands beside a function
-
-module _ {A B : Type 0} (put : A → B) where
-  -- functions with what is put for the first thing, and so on
-  abbrev pairs : List FunDef → List A → Named B
-  pairs [] xs = []
-  pairs (f ∷ fs) [] = []
-  pairs (f ∷ fs) (x ∷ xs) = (f.name.text, put x) ∷ pairs fs xs
-
-  -- it is put for the thing beside a function of that name
-  record IsBeside (fs : List FunDef) (xs : List A) (g : Label) (y : B) : Type 0 where
-    place : ℕ
-    function : FunDef
-    thing : A
-    declared : slice_get fs place ≡ Some function
-    beside : slice_get xs place ≡ Some thing
-    name : function.name.text ≡ g
-    is : put thing ≡ y
-
-  one_further : {fs : List FunDef} {xs : List A} {g : Label} {y : B} (f : FunDef) (x : A) (Other : Type 0) → IsBeside fs xs g y ⊎ Other → IsBeside (f ∷ fs) (x ∷ xs) g y ⊎ Other
-  one_further f x Other (inl it) = inl (record { place = suc it.place; function = it.function; thing = it.thing; declared = it.declared; beside = it.beside; name = it.name; is = it.is })
-  one_further f x Other (inr other) = inr other
-
-  -- a name that stands for something stands for what is put beside a function of that name, or for what it stands for behind them
-  paired : (fs : List FunDef) (xs : List A) (behind : Named B) (g : Label) (y : B) → named g (pairs fs xs ++ behind) ≡ Some y → IsBeside fs xs g y ⊎ (named g behind ≡ Some y)
-  paired [] xs behind g y is = inr is
-  paired (f ∷ fs) [] behind g y is = inr is
-  paired (f ∷ fs) (x ∷ xs) behind g y is = by_test (bytes_eq f.name.text g) refl is (paired fs xs behind g y)
-    where
-      by_test : (b : Bool) → bytes_eq f.name.text g ≡ b → (if b then Some (put x) else named g (pairs fs xs ++ behind)) ≡ Some y
-          → (named g (pairs fs xs ++ behind) ≡ Some y → IsBeside fs xs g y ⊎ (named g behind ≡ Some y)) → IsBeside (f ∷ fs) (x ∷ xs) g y ⊎ (named g behind ≡ Some y)
-      by_test true same is later = inl (record { place = zero; function = f; thing = x; declared = refl; beside = refl; name = (bytes_eq-Decides f.name.text g).0 same; is = just is })
-      by_test false other is later = one_further f x (named g behind ≡ Some y) (later is)
-
-own_pairs : {A : Type 0} (fs : List FunDef) (ts : List A) → own_entries fs ts ≡ pairs One fs ts
-own_pairs [] ts = refl
-own_pairs (f ∷ fs) [] = refl
-own_pairs (f ∷ fs) (t ∷ ts) = ap (λ rest. (f.name.text, One t) ∷ rest) (own_pairs fs ts)
-
-scheme_pairs : (fs : List FunDef) (schemes : List Scheme) → entries fs schemes ≡ pairs (λ scheme. scheme) fs schemes
-scheme_pairs [] schemes = refl
-scheme_pairs (f ∷ fs) [] = refl
-scheme_pairs (f ∷ fs) (scheme ∷ schemes) = ap (λ rest. (f.name.text, scheme) ∷ rest) (scheme_pairs fs schemes)
-
--- a name that stands for something among functions of earlier groups stands for its scheme
-earlier_named : (earlier : Named Scheme) (g : Label) (entry : Entry Ground) → named g (scheme_entries earlier) ≡ Some entry
-    → (scheme : Scheme) × (named g earlier ≡ Some scheme) × (Many scheme ≡ entry)
-earlier_named [] g entry is = absurd (none-some entry is)
-earlier_named (one ∷ earlier) g entry is = by_test (bytes_eq one.0 g) is (earlier_named earlier g entry)
-  where
-    by_test : (b : Bool) → (if b then Some (Many one.1) else named g (scheme_entries earlier)) ≡ Some entry
-        → (named g (scheme_entries earlier) ≡ Some entry → (scheme : Scheme) × (named g earlier ≡ Some scheme) × (Many scheme ≡ entry))
-        → (scheme : Scheme) × ((if b then Some one.1 else named g earlier) ≡ Some scheme) × (Many scheme ≡ entry)
-    by_test true is later = (one.1, refl, just is)
-    by_test false is later = later is
-
 -- ---- functions of a group
 
 module _ (functions : Named (Entry Ground)) (tables : List TableDecl) (in_mutual : Bool) where
   function_there : (fs : List FunDef) (ts nodes : List Ground) → AreFunctions functions tables in_mutual fs ts nodes
       → (i : ℕ) (f : FunDef) (t : Ground) → slice_get fs i ≡ Some f → slice_get ts i ≡ Some t → (own : List Ground) × IsFunction functions tables in_mutual f t own
   function_there _ _ _ AreFunctions.none i f t is at = absurd (none-some f is)
-  function_there _ _ _ (AreFunctions.more nodes rest typed later) zero f t is at = (nodes, subst₂ (λ f t. IsFunction functions tables in_mutual f t nodes) (just is) (just at) typed)
+  function_there _ _ _ (AreFunctions.more nodes rest typed later) zero f t is at = (nodes, subst₂ (λ f t. IsFunction functions tables in_mutual f t nodes) (same_some is) (same_some at) typed)
   function_there _ _ _ (AreFunctions.more nodes rest typed later) (suc i) f t is at = function_there _ _ _ later i f t is at
 
   type_there : (fs : List FunDef) (ts nodes : List Ground) → AreFunctions functions tables in_mutual fs ts nodes
@@ -109,24 +50,6 @@ module _ (functions : Named (Entry Ground)) (tables : List TableDecl) (in_mutual
   type_there _ _ _ AreFunctions.none i f is = absurd (none-some f is)
   type_there _ _ _ (AreFunctions.more {t = t} nodes rest typed later) zero f is = (t, refl)
   type_there _ _ _ (AreFunctions.more nodes rest typed later) (suc i) f is = type_there _ _ _ later i f is
-
-  as_many_types : (fs : List FunDef) (ts nodes : List Ground) → AreFunctions functions tables in_mutual fs ts nodes → length ts ≡ length fs
-  as_many_types _ _ _ AreFunctions.none = refl
-  as_many_types _ _ _ (AreFunctions.more nodes rest typed later) = ap (λ n. suc n) (as_many_types _ _ _ later)
-
-as_many_at : (σ : Grounding) (schemes : List Scheme) (ts : List Ground) → AreAt σ schemes ts → length schemes ≡ length ts
-as_many_at σ [] [] are = refl
-as_many_at σ [] (t ∷ ts) are = absurd are
-as_many_at σ (scheme ∷ schemes) [] are = absurd are
-as_many_at σ (scheme ∷ schemes) (t ∷ ts) are = ap (λ n. suc n) (as_many_at σ schemes ts are.1)
-
--- schemes that hold are as many as the functions
-as_many_schemes : (earlier : Named Scheme) (tables : List TableDecl) (decl : Decl) (schemes : List Scheme) → Hold earlier tables decl schemes → length schemes ≡ length (functions_in decl)
-as_many_schemes earlier tables decl schemes hold =
-    let some : (ts : List Ground) × AreInstances schemes ts = hold.some in
-    let typed : (nodes : List Ground) × IsGroup earlier tables decl some.0 nodes = hold.each some.0 some.1 in
-    as_many_at some.1.0 schemes some.0 some.1.1
-    ∙ as_many_types (own_entries (functions_in decl) some.0 ++ scheme_entries earlier) tables (is_mutual decl) (functions_in decl) some.0 typed.0 typed.1
 
 module _ (p : Program) where
   -- these declarations of the program stand behind functions with these schemes
@@ -303,7 +226,7 @@ found_main (other ∷ fs) f is = by_test (is_main other) refl is (found_main fs 
   where
     by_test : (b : Bool) → is_main other ≡ b → cond b (Some other) (find is_main fs) ≡ Some f → (find is_main fs ≡ Some f → OneOf (λ other. other ≡ f) fs × (is_main f ≡ true))
         → OneOf (λ other. other ≡ f) (other ∷ fs) × (is_main f ≡ true)
-    by_test true test is later = (inl (just is), ap is_main (sym (just is)) ∙ test)
+    by_test true test is later = (inl (same_some is), ap is_main (sym (same_some is)) ∙ test)
     by_test false test is later = let found : OneOf (λ other. other ≡ f) fs × (is_main f ≡ true) = later is in (inr found.0, found.1)
 
 one_number : (n : ℕ) → (n == 1) ≡ true → n ≡ 1

@@ -24,7 +24,7 @@ use Rattle.lk_sound.specs.Values.{Fits, none_left, one_more}
 use Rattle.lk_sound.proofs.Bodies.{HasFineBody, listed_body}
 use Rattle.lk_sound.proofs.Calls.{function_entered}
 use Rattle.lk_sound.proofs.Happening.{after_itself}
-use Rattle.lk_sound.proofs.Members.{found_in}
+use Rattle.lk_types.proofs.Members.{found_in}
 use Rattle.lk_sound.proofs.Nodes.{node_law}
 use Rattle.lk_sound.proofs.Performing.{Sound, node_sound}
 use Rattle.lk_sound.proofs.Shapes.{text_fits}

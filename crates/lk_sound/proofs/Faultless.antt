@@ -20,8 +20,8 @@ use Rattle.lk_names.specs.Repeats.{Item, twice_fault, items_fault, words_fault, 
 use Rattle.lk_names.specs.declared.globals.Globals.{Globals}
 use Rattle.lk_scope.specs.Names.{Names, no_names, bind, bind_all, bind_some}
 use Rattle.lk_scope.specs.Scoped.{In, all_in}
+use Rattle.lk_types.proofs.Members.{each_both}
 use Rattle.lk_types.specs.Each.{Each}
-use Rattle.lk_typing.proofs.Lists.{each_both}
 use Rattle.lk_sound.proofs.Gathered.{gather_each, entered, first_gathered, all_gathered}
 use Rattle.lk_sound.proofs.Inside.{insides, bodies_of, inside_change, by_insides}
 
@@ -200,3 +200,7 @@ module _ (globals : Globals) where
   -- no lambda in an expression without a fault has a parameter twice
   pub all_params : (e : Expr) → IsFaultless e → Each HasParams (gather e [])
   all_params = by_insides HasAllParams params_step
+
+-- where some tables and functions are seen, and under some local names
+abbrev pub HasNoFault : Expr → Type 0
+HasNoFault e = (globals : Globals) × IsFaultless globals e

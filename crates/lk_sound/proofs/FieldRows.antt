@@ -1,5 +1,5 @@
 -- Rows with fields before them, one by one: what such a row has under each label, and how it grows from the row behind.
-use Rattle.std.proofs.Common.{◌≡◌, ◌+◌, Bool, true, false, cond, ◌&&◌, T, inl, inr, refl, sym, ap, subst, ◌∙◌, List, [], ◌∷◌, ◌++◌, map, length, Option, Some, None, is_some, if◌then◌else◌, arith, bytes_eq}
+use Rattle.std.proofs.Common.{◌≡◌, ◌+◌, Bool, true, false, cond, T, inl, inr, refl, sym, ap, subst, ◌∙◌, List, [], ◌∷◌, ◌++◌, map, length, Option, Some, None, is_some, if◌then◌else◌, arith, bytes_eq}
 use Rattle.std.proofs.lemmas.Map.Text.{is_eq-slice_cmp}
 use Rattle.std.proofs.lemmas.Slice.Eq.{bytes_eq-Decides}
 use Rattle.std.specs.Cmp.{tied_itself, eq_by_cmp_equiv}
@@ -10,13 +10,14 @@ use Rattle.std.specs.Option.{option_or}
 use Rattle.std.specs.Ordering.{eq_by_cmp, is_eq, is_lt}
 use Rattle.std.specs.declared.cmp.Ordering.{Ordering}
 use Rattle.std.specs.declared.cmp.Ordering.TheVariants.{Less, Equal, Greater}
+use Rattle.lk_types.proofs.LabelMaps.{first_holds, second_holds}
+use Rattle.lk_types.proofs.Parts.{same_some}
 use Rattle.lk_types.proofs.Rows.{fields_swap}
 use Rattle.lk_types.specs.Each.{OneOf}
 use Rattle.lk_types.specs.Grounding.{Known, before_row}
 use Rattle.lk_types.specs.Rows.{Label, Row, label_order, no_fields, has_label, with_field, fields_of}
 use Rattle.lk_types.specs.declared.ground.Ground.{Ground}
 use Rattle.lk_types.specs.declared.ground.GroundField.{GroundField}
-use Rattle.lk_typing.proofs.Values.{just}
 use Rattle.lk_typing.specs.Names.{Named, named}
 use Rattle.lk_typing.specs.Types.{with_fields}
 
@@ -75,7 +76,7 @@ by_first f fields other row true has is rest = let wrong : None ≡ Some row = s
 by_first f fields other row false lacks is rest = grows lacks (rest (sym (before_there (as_known fields) (fin.insert other f.0 f.1)) ∙ is))
 
 pub grows_to : (fields : Named Ground) (other row : Row) → with_fields fields other ≡ Some row → Grows other fields row
-grows_to [] other row is = subst (Grows other []) (just is) stays
+grows_to [] other row is = subst (Grows other []) (same_some is) stays
 grows_to (f ∷ fields) other row is =
     by_first f fields other row (has_label other f.0) refl
     (sym (first_inside f.0 (Some f.1) (as_known fields) (Some other)) ∙ ap (with_field f.0 (Some f.1)) (before_there (as_known fields) other) ∙ is)
@@ -95,7 +96,7 @@ behind_first l t (Some rest) row is = by_test (has_label rest l) refl is
   where
     by_test : (b : Bool) → has_label rest l ≡ b → (if b then None else Some (fin.insert rest l t)) ≡ Some row → Behind l t (Some rest) row
     by_test true has is = let wrong : None ≡ Some row = is in cc
-    by_test false lacks is = record { rest = rest; there = refl; is = sym (just is) }
+    by_test false lacks is = record { rest = rest; there = refl; is = sym (same_some is) }
 
 -- the order of a row and the test of bytes say the same
 pub same_test : (q l : Label) → eq_by_cmp label_order q l ≡ bytes_eq l q
@@ -107,7 +108,7 @@ chosen false t o p = refl
 
 -- under a label it has what the first field with that label has, or else what the row behind all fields has
 pub get_with : (q : Label) (fields : Named Ground) (other row : Row) → with_fields fields other ≡ Some row → fin.get row q ≡ option_or (named q fields) (fin.get other q)
-get_with q [] other row is = ap (λ m. fin.get m q) (sym (just is))
+get_with q [] other row is = ap (λ m. fin.get m q) (sym (same_some is))
 get_with q (f ∷ fields) other row is =
     let behind : Behind f.0 f.1 (with_fields fields other) row = behind_first f.0 f.1 (with_fields fields other) row is in
     ap (λ m. fin.get m q) behind.is
@@ -123,15 +124,7 @@ get_first l t other row is =
 
 -- ---- fields of a row
 
-front : (a b : Bool) → T (a && b) → T a
-front true b p = tt
-front false b p = p
-
-back : (a b : Bool) → T (a && b) → T b
-back true b p = p
-back false b p = absurd p
-
-less : (o : Ordering) → T (is_lt o) → o ≡ Less
+pub less : (o : Ordering) → T (is_lt o) → o ≡ Less
 less Less p = refl
 less Equal p = absurd p
 less Greater p = absurd p
@@ -139,8 +132,8 @@ less Greater p = absurd p
 -- a field behind the first one of a list in order
 apart : (l : Label) (es : Named Ground) (g : GroundField) → T (below_all label_order l es) → OneOf (λ other. other ≡ g) (as_fields es) → label_order l g.label ≡ Less
 apart l [] g below one = absurd one
-apart l (e ∷ es) g below (inl is) = ap (λ (g : GroundField). label_order l g.label) (sym is) ∙ less _ (front _ _ below)
-apart l (e ∷ es) g below (inr one) = apart l es g (back _ _ below) one
+apart l (e ∷ es) g below (inl is) = ap (λ (g : GroundField). label_order l g.label) (sym is) ∙ less _ (first_holds _ _ below)
+apart l (e ∷ es) g below (inr one) = apart l es g (second_holds _ _ below) one
 
 not_tied : (q l : Label) → label_order l q ≡ Less → eq_by_cmp label_order q l ≡ false
 not_tied q l below = (eq_by_cmp_equiv nat_list_cmp_total).symm q l ∙ ap is_eq below
@@ -151,8 +144,8 @@ among_found (e ∷ es) g sorted (inl is) =
     subst (λ (g : GroundField). fin.find label_order g.label (e ∷ es) ≡ Some g.ty) is
     (ap (λ o. cond (is_eq o) (Some e.1) (fin.find label_order e.0 es)) (tied_itself nat_list_cmp_total e.0))
 among_found (e ∷ es) g sorted (inr one) =
-    ap (λ b. cond b (Some e.1) (fin.find label_order g.label es)) (not_tied g.label e.0 (apart e.0 es g (front _ _ sorted) one))
-    ∙ among_found es g (back _ _ sorted) one
+    ap (λ b. cond b (Some e.1) (fin.find label_order g.label es)) (not_tied g.label e.0 (apart e.0 es g (first_holds _ _ sorted) one))
+    ∙ among_found es g (second_holds _ _ sorted) one
 
 -- what is one of the fields is found under its label
 pub among_get : (row : Row) (g : GroundField) → OneOf (λ other. other ≡ g) (fields_of row) → fin.get row g.label ≡ Some g.ty
@@ -167,7 +160,7 @@ found_among q t (e ∷ es) is = by_test (eq_by_cmp label_order q e.0) refl is (f
         → OneOf (λ other. other ≡ record { label = q; ty = t }) (as_fields (e ∷ es))
     by_test true tied is rest =
         let label : e.0 ≡ q = (bytes_eq-Decides e.0 q).0 (sym (same_test q e.0) ∙ tied) in
-        let ty : e.1 ≡ t = just is in
+        let ty : e.1 ≡ t = same_some is in
         inl (λ i. record { label = label i; ty = ty i })
     by_test false other is rest = inr (rest is)
 
@@ -186,11 +179,11 @@ no_entries X = nothing (fin.entries fin.empty) (sym (fin.len-entries fin.empty) 
 
 missed : (l : Label) (es : Named Ground) → T (below_all label_order l es) → fin.find label_order l es ≡ None
 missed l [] below = refl
-missed l (e ∷ es) below = ap (λ o. cond (is_eq o) (Some e.1) (fin.find label_order l es)) (less _ (front _ _ below)) ∙ missed l es (back _ _ below)
+missed l (e ∷ es) below = ap (λ o. cond (is_eq o) (Some e.1) (fin.find label_order l es)) (less _ (first_holds _ _ below)) ∙ missed l es (second_holds _ _ below)
 
 put_first : (l : Label) (t : Ground) (es : Named Ground) → T (below_all label_order l es) → fin.put label_order l t es ≡ (l, t) ∷ es
 put_first l t [] below = refl
-put_first l t (e ∷ es) below = ap (λ o. by_order o ((l, t) ∷ e ∷ es) ((e.0, t) ∷ es) (e ∷ fin.put label_order l t es)) (less _ (front _ _ below))
+put_first l t (e ∷ es) below = ap (λ o. by_order o ((l, t) ∷ e ∷ es) ((e.0, t) ∷ es) (e ∷ fin.put label_order l t es)) (less _ (first_holds _ _ below))
 
 record Built (es : Named Ground) : Type 0 where
   row : Row
@@ -200,8 +193,8 @@ record Built (es : Named Ground) : Type 0 where
 built : (es : Named Ground) → T (fin.is_sorted label_order es) → Built es
 built [] sorted = record { row = no_fields; is = refl; has = no_entries Ground }
 built (e ∷ es) sorted =
-    let rest : Built es = built es (back _ _ sorted) in
-    let below : T (below_all label_order e.0 es) = front _ _ sorted in
+    let rest : Built es = built es (second_holds _ _ sorted) in
+    let below : T (below_all label_order e.0 es) = first_holds _ _ sorted in
     let none : fin.get rest.row e.0 ≡ None = fin.get-entries rest.row e.0 ∙ ap (fin.find label_order e.0) rest.has ∙ missed e.0 es below in
     record {
       row = fin.insert rest.row e.0 e.1;

@@ -13,11 +13,10 @@ use Rattle.lk_ast.specs.declared.value.Value.{Value}
 use Rattle.lk_operators.specs.Records as made
 use Rattle.lk_operators.specs.Records.{Entries, entries_of, fields_in_order, value_under}
 use Rattle.lk_operators.specs.Values as values
+use Rattle.lk_types.proofs.Parts.{same_some, mapped}
 use Rattle.lk_types.specs.Rows.{Label, Row, label_order, no_fields, fields_of}
 use Rattle.lk_types.specs.declared.ground.Ground.{Ground}
 use Rattle.lk_types.specs.declared.ground.GroundField.{GroundField}
-use Rattle.lk_typing.proofs.Inverses.{mapped_was}
-use Rattle.lk_typing.proofs.Values.{just}
 use Rattle.lk_typing.specs.Names.{Named}
 use Rattle.lk_typing.specs.Types as types
 use Rattle.lk_typing.specs.Typing.{label_of}
@@ -96,7 +95,7 @@ module _ (p : Program) (i : Instances) where
       by_test true same_label is behind = record {
         value = f.value;
         is = ap (λ b. option_map (λ (f : Field). f.value) (if b then Some f else find (λ f. bytes_eq f.label l) fs)) same_label;
-        fit = subst (Fits p i f.value) (just is) fit;
+        fit = subst (Fits p i f.value) (same_some is) fit;
       }
       by_test false other is behind =
           let found : UnderLabel l t fs = behind is in record {
@@ -123,12 +122,12 @@ module _ (p : Program) (i : Instances) where
   pub labelled_fit : (parts : List PartExpr) (ts : List Ground) (vs : List Value) (fields : Named Ground) (left : List Ground)
       → types.labelled (map label_of parts) ts ≡ Some (fields, left) → FitEach p i vs ts → AreLabelled parts vs fields left
   labelled_fit [] ts vs fields left is fits =
-      let same : ◌≡◌ {A = Named Ground × List Ground} ([], ts) (fields, left) = just is in
+      let same : ◌≡◌ {A = Named Ground × List Ground} ([], ts) (fields, left) = same_some is in
       subst (λ (x : Named Ground × List Ground). AreLabelled [] vs x.0 x.1) same (none_labelled vs ts fits)
   labelled_fit (part ∷ parts) [] vs fields left is fits = let wrong : ◌≡◌ {A = Option (Named Ground × List Ground)} None (Some (fields, left)) = is in cc
   labelled_fit (part ∷ parts) (t ∷ ts) vs fields left is (one_more {v = v} {values = more} fit fits) =
       let found : (x : Named Ground × List Ground) × (types.labelled (map label_of parts) ts ≡ Some x) × ((fields, left) ≡ ((label_of part, t) ∷ x.0, x.1)) =
-      mapped_was (λ (x : Named Ground × List Ground). ((label_of part, t) ∷ x.0, x.1)) (types.labelled (map label_of parts) ts) (fields, left) is in
+      mapped (λ (x : Named Ground × List Ground). ((label_of part, t) ∷ x.0, x.1)) (types.labelled (map label_of parts) ts) (fields, left) is in
       let rest : AreLabelled parts more found.0.0 found.0.1 = labelled_fit parts ts more found.0.0 found.0.1 found.1 fits in
       let rest_count : length more ≡ length parts + length found.0.1 = rest.count in
       subst (λ (x : Named Ground × List Ground). AreLabelled (part ∷ parts) (v ∷ more) x.0 x.1) (sym found.2)

@@ -1,5 +1,6 @@
 -- The place of a function or of a lambda finds it, where all of them begin at places of their own; and what a place finds is there.
 use Rattle.std.proofs.Common.{◌≡◌, inl, inr, refl, sym, ap, ◌∙◌, ℕ, true, false, ◌==◌, cond, List, [], ◌∷◌, ◌++◌, map, Option, Some, None, arith}
+use Rattle.std.proofs.lemmas.Bool.{eqb-true}
 use Rattle.std.specs.Prelude.{find}
 use Rattle.std.specs.Option.{option_map}
 use Rattle.std.proofs.lemmas.Bool.Decides.{nat_tests}
@@ -10,13 +11,10 @@ use Rattle.lk_ast.specs.declared.declaration.Program.{Program}
 use Rattle.lk_ast.specs.declared.expression.LambdaExpr.{LambdaExpr}
 use Rattle.lk_index.specs.Places.{PlacedLambda, lambdas_of, lambda_begins, lambda_at, function_at, IsNone, AreApart, ArePlaced}
 use Rattle.lk_types.specs.Each.{OneOf}
-use Rattle.lk_sound.proofs.Members.{found_in}
+use Rattle.lk_types.proofs.Members.{found_in}
 use Rattle.lk_sound.specs.Within.{IsFunctionOf, IsLambdaOf}
 
 -- ---- numbers
-
-same_number : (m n : ℕ) → (m == n) ≡ true → m ≡ n
-same_number m n e = grind (arith, nat_tests)
 
 number_same : (m n : ℕ) → m ≡ n → (m == n) ≡ true
 number_same m n e = grind (arith, nat_tests)
@@ -58,7 +56,7 @@ module _ {A : Type 0} (key : A → ℕ) where
 
   -- what a number finds is there, and has it
   found_there : (n : ℕ) (xs : List A) (x : A) → find (λ y. key y == n) xs ≡ Some x → OneOf (λ y. y ≡ x) xs × (key x ≡ n)
-  found_there n xs x e = let there : OneOf (λ y. y ≡ x) xs × ((key x == n) ≡ true) = found_in (λ y. key y == n) xs x e in (there.0, same_number (key x) n there.1)
+  found_there n xs x e = let there : OneOf (λ y. y ≡ x) xs × ((key x == n) ≡ true) = found_in (λ y. key y == n) xs x e in (there.0, eqb-true (key x) n there.1)
 
 -- the number of one behind others finds none of these
 none_found : {A B : Type 0} (key : A → ℕ) (other : B → ℕ) (xs : List A) (ys : List B) (y : B)

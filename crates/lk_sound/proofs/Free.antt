@@ -16,7 +16,7 @@ use Rattle.lk_typing.specs.Names.{Named, named, Entry}
 use Rattle.lk_typing.specs.Rules.{Rule}
 use Rattle.lk_typing.specs.Types.{record_of, variant_of}
 use Rattle.lk_typing.specs.Typing.{HasType, HaveTypes, HaveCases, IsChange, plain, lambda, var, switch, switch_open, for_list, for_table, query, update, delete, none, more, no_cases, case_of, changed}
-use Rattle.lk_sound.proofs.Members.{one_of_both}
+use Rattle.lk_types.proofs.Members.{one_of_both}
 use Rattle.lk_sound.proofs.Standing.{named_behind, Binds, binds_one, binds_held, binds_all}
 use Rattle.lk_sound.proofs.FreeLevels.{case_level, change_level, free_all, free_cases, own_uses, free_plain, free_lambda_form, free_var, free_switch, free_switch_open, free_for_list, free_for_table, free_query, free_update, free_delete}
 use Rattle.lk_sound.proofs.Names.{IsAmong}

@@ -15,9 +15,8 @@ use Rattle.lk_ast.specs.declared.expression.PartExpr.{PartExpr}
 use Rattle.lk_index.specs.Places.{PlacedLambda, Lambdas, Gather, gather_all, each_with, node_in, gather, gather_node, gather_part, gather_lambda, gather_case, gather_last, gather_change}
 use Rattle.lk_index.proofs.Paras.{expr_level, part_level, lambda_level, case_level, last_level, change_level, node_level}
 use Rattle.lk_types.specs.Each.{Each, OneOf}
-use Rattle.lk_typing.proofs.Lists.{each_front, each_back}
 use Rattle.lk_sound.proofs.Inside.{insides, bodies_of, by_insides}
-use Rattle.lk_sound.proofs.Members.{one_of_both, one_in_front, one_in_back}
+use Rattle.lk_types.proofs.Members.{one_of_both, one_in_front, one_in_back, each_front, each_back}
 
 -- expressions one after another
 abbrev pub gather_each : List Expr → Gather

@@ -6,9 +6,9 @@ use Rattle.lk_ast.specs.declared.event.Event.{Event}
 use Rattle.lk_evaluation.specs.Evaluation.{handed}
 use Rattle.lk_evaluation.specs.Run.{Run, Entry, Out, Goes, Stops, and_then, step, logs, Crossing}
 use Rattle.lk_evaluation.specs.Laws.{run_of, Extends}
+use Rattle.lk_types.proofs.Members.{each_front, each_back, each_both}
 use Rattle.lk_types.specs.Each.{Each}
 use Rattle.lk_types.specs.Rows.{EffectSet}
-use Rattle.lk_typing.proofs.Lists.{each_front, each_back, each_both}
 use Rattle.lk_sound.specs.Instances.{Instances}
 use Rattle.lk_sound.specs.Law.{AreAnswered}
 use Rattle.lk_sound.specs.Outcomes.{Allows, Happens, IsOutcome}

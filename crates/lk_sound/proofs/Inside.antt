@@ -8,10 +8,10 @@ use Rattle.lk_ast.specs.declared.expression.ChangeExpr.{ChangeExpr, out-ChangeEx
 use Rattle.lk_ast.specs.declared.expression.Expr.{Expr}
 use Rattle.lk_ast.specs.declared.expression.LastCase.{LastCase}
 use Rattle.lk_ast.specs.declared.expression.Node.TheOpen.{Node-F}
+use Rattle.lk_types.proofs.Members.{each_both}
 use Rattle.lk_types.specs.Each.{Each}
 use Rattle.lk_typing.specs.Heads.{Head, head, parts}
 use Rattle.lk_typing.specs.Typing.{label_of, expr_of, parts_of}
-use Rattle.lk_typing.proofs.Lists.{each_both}
 use Rattle.lk_typing.proofs.Trees.{Tree, Trees, CaseTrees, LastTree, ChangeTree, every_tree}
 
 abbrev pub bodies_of : List Case → List Expr

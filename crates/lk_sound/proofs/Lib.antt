@@ -1,7 +1,9 @@
 pub mod Apart
 pub mod Bags
+pub mod Beside
 pub mod Bindings
 pub mod Blocks
+pub mod BlocksInside
 pub mod Bodies
 pub mod Calls
 pub mod Captured
@@ -20,13 +22,15 @@ pub mod FreeUnder
 pub mod Gathered
 pub mod Happening
 pub mod Inside
-pub mod Members
+pub mod InsideNodes
 pub mod Names
 pub mod Naming
+pub mod NewNames
 pub mod Nodes
 pub mod Operations
 pub mod OperatorNodes
 pub mod Operators
+pub mod OrderedWords
 pub mod Performing
 pub mod PlainValues
 pub mod Points

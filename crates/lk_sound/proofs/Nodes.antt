@@ -8,10 +8,10 @@ use Rattle.lk_ast.specs.declared.expression.Node.TheOpen.{Node-F}
 use Rattle.lk_ast.specs.declared.place.Word.{Word}
 use Rattle.lk_ast.specs.declared.table.BaseKind.TheVariants as kind
 use Rattle.lk_evaluation.specs.Source.{Point}
+use Rattle.lk_types.proofs.Members.{each_front, each_back}
 use Rattle.lk_types.specs.Each.{Each}
 use Rattle.lk_types.specs.Rows.{EffectSet}
 use Rattle.lk_types.specs.declared.ground.Ground.{Ground}
-use Rattle.lk_typing.proofs.Lists.{each_front, each_back}
 use Rattle.lk_typing.specs.Heads as operator
 use Rattle.lk_typing.specs.Heads.{Head, head, parts}
 use Rattle.lk_typing.specs.Names.{Named, Entry}

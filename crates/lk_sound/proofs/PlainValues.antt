@@ -1,5 +1,6 @@
 -- No function stands in a value of a type in which none stands; so what a query captures has none.
 use Rattle.std.proofs.Common.{◌≡◌, Bool, true, false, ◌||◌, List, [], ◌∷◌, inl, inr, refl, sym, ap, ◌∙◌}
+use Rattle.std.proofs.lemmas.Bool.{or_from}
 use Rattle.std.specs.List.{list_any}
 use Rattle.lk_ast.proofs.PlainLevels.{of_base, of_list, of_fields, of_tag}
 use Rattle.lk_ast.specs.Plain.{holds_function}
@@ -20,10 +21,6 @@ use Rattle.lk_types.specs.declared.ground.Ground.TheVariants as known
 use Rattle.lk_types.specs.declared.ground.GroundField.{GroundField}
 use Rattle.lk_types.specs.declared.ty.Effect.{Effect}
 use Rattle.lk_typing.specs.Names.{types_of}
-
-neither : (a b : Bool) → a ≡ false → b ≡ false → (a || b) ≡ false
-neither false b one other = other
-neither true b one other = absurd cc
 
 first_not : (a b : Bool) → (a || b) ≡ false → a ≡ false
 first_not false b none = refl
@@ -57,15 +54,15 @@ module _ (p : Program) (i : Instances) where
 
     each_plain : (values : List Value) (t : Ground) → AllFit p i values t → has_function t ≡ false → list_any holds_function values ≡ false
     each_plain [] t AllFit.none none = refl
-    each_plain (v ∷ values) t (AllFit.more fit fits) none = neither (holds_function v) _ (plain v t fit none) (each_plain values t fits none)
+    each_plain (v ∷ values) t (AllFit.more fit fits) none = or_from (holds_function v) _ (plain v t fit none) (each_plain values t fits none)
 
     fields_plain : (fs : List Field) (gs : List GroundField) → FieldsFit p i fs gs → list_any (λ g. has_function g.ty) gs ≡ false → list_any (λ f. holds_function f.value) fs ≡ false
     fields_plain [] [] FieldsFit.no_field none = refl
-    fields_plain (f ∷ fs) (g ∷ gs) (FieldsFit.field same fit fits) none = neither (holds_function f.value) _ (plain f.value g.ty fit (first_not (has_function g.ty) _ none)) (fields_plain fs gs fits (second_not (has_function g.ty) _ none))
+    fields_plain (f ∷ fs) (g ∷ gs) (FieldsFit.field same fit fits) none = or_from (holds_function f.value) _ (plain f.value g.ty fit (first_not (has_function g.ty) _ none)) (fields_plain fs gs fits (second_not (has_function g.ty) _ none))
 
   -- values of flat types
   pub all_plain : (args : List Value) (ts : List Ground) → FitEach p i args ts → Each (λ t. is_flat t ≡ true) ts → ArePlain args
   all_plain [] [] none_left flat = refl
-  all_plain (v ∷ args) (t ∷ ts) (one_more fit fits) (flat, others) = neither (holds_function v) _ (plain v t fit (flat_plain t flat)) (all_plain args ts fits others)
+  all_plain (v ∷ args) (t ∷ ts) (one_more fit fits) (flat, others) = or_from (holds_function v) _ (plain v t fit (flat_plain t flat)) (all_plain args ts fits others)
   all_plain [] (t ∷ ts) fit flat = elim fit [ ]
   all_plain (v ∷ args) [] fit flat = elim fit [ ]

@@ -8,10 +8,10 @@ use Rattle.lk_ast.specs.declared.value.Value.{Value}
 use Rattle.lk_evaluation.specs.Source.{Point, under, act}
 use Rattle.lk_evaluation.specs.Syntax.{parts_of}
 use Rattle.lk_locals.specs.Names.{Names}
+use Rattle.lk_types.proofs.Members.{each_front, each_back}
 use Rattle.lk_types.specs.Each.{Each}
 use Rattle.lk_types.specs.Rows.{EffectSet}
 use Rattle.lk_types.specs.declared.ground.Ground.{Ground}
-use Rattle.lk_typing.proofs.Lists.{each_front, each_back}
 use Rattle.lk_typing.specs.Names.{Named, Entry}
 use Rattle.lk_ast.specs.Tables.{tables_of}
 use Rattle.lk_typing.specs.Typing.{HasType, HaveTypes, HaveCases, IsHeld, none as no_part, more as part_more, no_cases, case_of}

@@ -10,17 +10,17 @@ use Rattle.lk_bag.proofs.Given.{operands}
 use Rattle.lk_ground_types.specs.Shapes.{is_query_type}
 use Rattle.lk_sound.specs.Instances.{IsListed, number_of}
 use Rattle.lk_sound.specs.Nodes.{TypedNode, Use, may_compare, nodes_of, each_nodes}
+use Rattle.lk_types.proofs.Members.{each_front, each_back}
 use Rattle.lk_types.specs.Each.{Each}
 use Rattle.lk_types.specs.Rows.{EffectSet}
 use Rattle.lk_types.specs.declared.ground.Ground.{Ground}
-use Rattle.lk_typing.proofs.Lists.{each_back, each_front}
 use Rattle.lk_typing.specs.Heads.{head, parts}
 use Rattle.lk_typing.specs.Names.{Entry, Named}
 use Rattle.lk_typing.specs.Typing.{HasType, HaveTypes, label_of, expr_of, plain, lambda, var, switch, switch_open, for_list, for_table, query, update, delete, none, more}
 
 -- ---- the parts of operators
 
-each_itself : (es : List Expr) → flat_map (λ (e : Expr). e ∷ []) es ≡ es
+pub each_itself : (es : List Expr) → flat_map (λ (e : Expr). e ∷ []) es ≡ es
 each_itself [] = refl
 each_itself (e ∷ es) = ap (λ rest. e ∷ rest) (each_itself es)
 

@@ -20,7 +20,7 @@ use Rattle.lk_operators.specs.declared.outcome.Outcome.{Outcome}
 use Rattle.lk_operators.specs.declared.outcome.Outcome.TheVariants as outcome
 use Rattle.lk_sound.proofs.FlatTypes.{function_not_flat, unit_not_flat}
 use Rattle.lk_sound.proofs.Fitting.{all_fit_both}
-use Rattle.lk_sound.proofs.Members.{each_in}
+use Rattle.lk_types.proofs.Members.{each_in}
 use Rattle.lk_sound.proofs.Operators as operators
 use Rattle.lk_sound.proofs.QueryParts.{operands_are, IsEarly}
 use Rattle.lk_sound.proofs.Results.{IsResult}

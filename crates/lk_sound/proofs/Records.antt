@@ -14,11 +14,11 @@ use Rattle.lk_operators.specs.Records as made
 use Rattle.lk_operators.specs.Records.{entries_of, fields_in_order, value_under}
 use Rattle.lk_operators.specs.Values.{fields as record_value, fields_in, tag_in}
 use Rattle.lk_operators.specs.declared.outcome.Outcome.TheVariants as outcome
+use Rattle.lk_types.proofs.Parts.{same_some}
 use Rattle.lk_types.specs.Each.{OneOf}
 use Rattle.lk_types.specs.Rows.{Label, Row, EffectSet, label_order, no_fields, fields_of}
 use Rattle.lk_types.specs.declared.ground.Ground.{Ground}
 use Rattle.lk_types.specs.declared.ground.GroundField.{GroundField}
-use Rattle.lk_typing.proofs.Values.{just}
 use Rattle.lk_typing.specs.Names.{Named, named}
 use Rattle.lk_typing.specs.Types.{record_of, variant_of, with_fields, labelled}
 use Rattle.lk_typing.specs.Typing.{label_of}
@@ -126,7 +126,7 @@ module _ (p : Program) (i : Instances) where
   tag_by : (tags : Named Ground) (other row : Row) (v : Value) (tagged_so : IsTagged p i v (fields_of row)) (o : Option Ground) → named tagged_so.g.label tags ≡ o
       → option_or o (fin.get other tagged_so.g.label) ≡ Some tagged_so.g.ty → IsCase tags v ⊎ IsOther tags other v
   tag_by tags other row v t (Some a) there is =
-      inl (record { label = t.g.label; held = t.held; ty = a; shows = ap tag_in t.is ∙ tag_shown t.g.label t.held; there = there; fit = subst (Fits p i t.held) (sym (just is)) t.fit })
+      inl (record { label = t.g.label; held = t.held; ty = a; shows = ap tag_in t.is ∙ tag_shown t.g.label t.held; there = there; fit = subst (Fits p i t.held) (sym (same_some is)) t.fit })
   tag_by tags other row v t None there is =
       inr (record {
         label = t.g.label;

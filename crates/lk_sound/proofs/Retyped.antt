@@ -21,7 +21,7 @@ use Rattle.lk_typing.specs.Rules.{Rule}
 use Rattle.lk_typing.specs.Types.{record_of, variant_of}
 use Rattle.lk_typing.specs.Typing.{HasType, HaveTypes, HaveCases, IsChange, plain, lambda, var, switch, switch_open, for_list, for_table, query, update, delete, none, more, no_cases, case_of, changed, parts_of}
 use Rattle.lk_sound.specs.Nodes.{other_part, other_node, block_node, parts_of as parts_in, type_before, known_in, used_by, compared_by, nodes_of, each_nodes, case_nodes, change_nodes}
-use Rattle.lk_sound.proofs.Members.{one_in_front, one_in_back}
+use Rattle.lk_types.proofs.Members.{one_in_front, one_in_back}
 use Rattle.lk_sound.proofs.Standing.{named_behind, Binds, binds_one, binds_held, binds_all}
 use Rattle.lk_sound.proofs.FreeUnder.{AreAlso, free_also, change_also}
 use Rattle.lk_sound.proofs.FreeLevels.{case_level, change_level, free_all, free_cases, own_uses, free_plain, free_lambda_form, free_var, free_switch, free_switch_open, free_for_list, free_for_table, free_query, free_update, free_delete}

@@ -11,8 +11,8 @@ use Rattle.lk_ast.specs.declared.expression.Node.TheOpen.{Node-F}
 use Rattle.lk_ast.specs.declared.place.Word.{Word}
 use Rattle.lk_evaluation.specs.Syntax.{parts_of}
 use Rattle.lk_index.specs.Places.{PlacedLambda}
+use Rattle.lk_types.proofs.Members.{each_front, each_back}
 use Rattle.lk_types.specs.Each.{Each}
-use Rattle.lk_typing.proofs.Lists.{each_front, each_back}
 use Rattle.lk_sound.proofs.Inside.{insides, bodies_of, last_body}
 use Rattle.lk_sound.proofs.TextBlocks.{insides_blocks, function_blocks, lambda_blocks}
 use Rattle.lk_sound.proofs.Within.{insides_within, function_within, lambda_within}

@@ -29,7 +29,7 @@ use Rattle.lk_sound.proofs.Points as points
 use Rattle.lk_sound.proofs.Records.{IsCase, IsOther, tag_found, tag_split}
 use Rattle.lk_sound.proofs.Shapes.{unit_of_fits}
 use Rattle.lk_sound.proofs.Stands.{StandsIn, cases_stands, last_stands}
-use Rattle.lk_sound.proofs.Members.{each_in}
+use Rattle.lk_types.proofs.Members.{each_in}
 
 module _ (p : Program) (i : Instances) (functions : Named (Entry Ground)) (effects : EffectSet) (locals : Named Ground) where
   -- the case that has this tag, and its body

@@ -1,7 +1,6 @@
 -- Nodes that read and change tables: readings give rows over all tables that fit, and what is answered fits; changes leave rows
 -- that fit.
 use Rattle.std.proofs.Common.{◌≡◌, refl, sym, ap, ap₂, ◌∙◌, subst, ℕ, Bool, true, false, ◌&&◌, ◌||◌, List, [], ◌∷◌, map, Some}
-use Rattle.std.specs.Prelude.{unwrap_or}
 use Rattle.lk_ast.specs.Layers.{Layer, layer}
 use Rattle.lk_ast.specs.Rows.{row_value, rows_value}
 use Rattle.lk_ast.specs.Tables.{Tables, tables_of, all_fit, row_fits}
@@ -26,6 +25,7 @@ use Rattle.lk_index.specs.Free.{free, free_change, captured_change, captured_que
 use Rattle.lk_locals.specs.Names.{no_names, bind_each}
 use Rattle.lk_names.specs.Programs.{IsBound}
 use Rattle.lk_scope.specs.Names as scope
+use Rattle.lk_types.proofs.Parts.{same_some}
 use Rattle.lk_types.specs.Each.{Each}
 use Rattle.lk_types.specs.Rows.{Label, EffectSet}
 use Rattle.lk_types.specs.Rows as rows
@@ -34,10 +34,10 @@ use Rattle.lk_types.specs.declared.ground.Ground.TheOpen.{Ground-F}
 use Rattle.lk_types.specs.declared.ground.Ground.TheVariants as known
 use Rattle.lk_types.specs.declared.ground.GroundField.{GroundField}
 use Rattle.lk_types.specs.declared.ty.Effect.TheVariants as effect
-use Rattle.lk_typing.proofs.Values.{just}
 use Rattle.lk_typing.specs.Names.{Named, Entry, HasRows}
 use Rattle.lk_typing.specs.Types.{record_of, unit, only_scan}
 use Rattle.lk_typing.specs.Typing.{HasType, IsChange, changed}
+use Rattle.lk_sound.proofs.QueryValues.{items_fit}
 use Rattle.lk_sound.specs.Acts.{IsAct, IsNode}
 use Rattle.lk_sound.specs.Instances.{Instances, AreClosed, IsFine, IsFlatPart}
 use Rattle.lk_sound.specs.Nodes.{parts_of as parts_in, block_node, other_part, known_in, nodes_of, change_nodes}
@@ -51,7 +51,7 @@ use Rattle.lk_sound.proofs.Free.{known_in as names_known, change_known}
 use Rattle.lk_sound.proofs.Points as points
 use Rattle.lk_sound.proofs.Points.{IsTyped}
 use Rattle.lk_sound.proofs.Retyped.{outermost, retyped, retyped_nodes, retyped_change, retyped_change_nodes}
-use Rattle.lk_sound.proofs.Shapes.{fits_list, list_of_fits, list_fits}
+use Rattle.lk_sound.proofs.Shapes.{fits_list, list_fits}
 use Rattle.lk_sound.proofs.Stands.{StandsIn}
 use Rattle.lk_sound.proofs.TableRows.{table_found, rows_of_table, flat_rows, all_fit_permuted}
 use Rattle.lk_sound.proofs.TextBlocks.{own_block, block_found}
@@ -83,13 +83,9 @@ module _ (p : Program) (i : Instances) where
   answered : (block : Expr) (site : ℕ) (args : List Value) (a : Ground) → block_at p site ≡ Some block → ((tables : Tables) → AreTables p tables → AllFit p i (bag p tables block args) a)
       → (answer : List Row) → IsAnswered p (Read (record { site = site; args = args; answer = answer })) → Fits p i (rows_value answer) (known.List a)
   answered block site args a found fit answer (other, there, listed, are, permuted) =
-      let same : other ≡ block = just (sym there ∙ found) in
+      let same : other ≡ block = same_some (sym there ∙ found) in
       let all : AllFit p i (bag p listed other args) a = subst (λ b. AllFit p i (bag p listed b args) a) (sym same) (fit listed are) in
       list_fits p i (map row_value answer) a (all_fit_permuted p i a (bag p listed other args) (map row_value answer) all permuted)
-
-  -- what a list gives
-  items_fit : (v : Value) (a : Ground) → Fits p i v (known.List a) → AllFit p i (items v) a
-  items_fit v a fits = let found = list_of_fits p i v a fits in subst (λ o. AllFit p i (unwrap_or o []) a) (sym found.1) found.2
 
 abbrev query_level : Ground-F Ground GroundField → Bool
 query_level l = (base_level l || row_level l) || rows_level l

@@ -36,6 +36,7 @@ use Rattle.lk_sound.proofs.Shapes.{IsRecord, fits_fields, int_fits, truth_fits, 
 use Rattle.lk_sound.specs.Instances.{Instances}
 use Rattle.lk_sound.specs.Tables.{AreTables, table_at}
 use Rattle.lk_sound.specs.Values.{Fits, AllFit, FieldsFit, none, more, no_field, field}
+use Rattle.lk_types.proofs.Parts.{same_some}
 use Rattle.lk_types.specs.Each.{Each}
 use Rattle.lk_types.specs.Rows as rows
 use Rattle.lk_types.specs.Rows.{Label, label_order, no_fields, has_label, with_field, fields_of}
@@ -43,7 +44,6 @@ use Rattle.lk_types.specs.declared.ground.Ground.{Ground, out-Ground}
 use Rattle.lk_types.specs.declared.ground.Ground.TheOpen.{Ground-F}
 use Rattle.lk_types.specs.declared.ground.Ground.TheVariants as known
 use Rattle.lk_types.specs.declared.ground.GroundField.{GroundField}
-use Rattle.lk_typing.proofs.Values.{just}
 use Rattle.lk_typing.specs.Names.{Named, HasRows, IsRowOf, column, proper, row_known}
 use Rattle.lk_typing.specs.Types.{base, record_of, with_fields}
 
@@ -79,11 +79,11 @@ behind_first l t (Some rest) row is = by_test (has_label rest l) is
   where
     by_test : (b : Bool) → (if b then None else Some (fin.insert rest l t)) ≡ Some row → Behind l t (Some rest) row
     by_test true is = let wrong : None ≡ Some row = is in cc
-    by_test false is = record { rest = rest; there = refl; is = sym (just is) }
+    by_test false is = record { rest = rest; there = refl; is = sym (same_some is) }
 
 -- the row that the columns make has their types, in the order of the table's definition
 columns_row : (columns : List ColumnDecl) (row : rows.Row) → with_fields (map column columns) no_fields ≡ Some row → fin.entries row ≡ as_types (fin.entries (kinds columns))
-columns_row [] row is = ap fin.entries (sym (just is)) ∙ no_entries Ground ∙ sym (ap as_types (no_entries BaseKind))
+columns_row [] row is = ap fin.entries (sym (same_some is)) ∙ no_entries Ground ∙ sym (ap as_types (no_entries BaseKind))
 columns_row (c ∷ columns) row is =
     let behind : Behind c.label.text (base c.kind) (with_fields (map column columns) no_fields) row = behind_first c.label.text (base c.kind) (with_fields (map column columns) no_fields) row is in
     ap fin.entries behind.is
@@ -114,7 +114,7 @@ found_def x (t ∷ tables) table is = by_test (bytes_eq t.name.text x) is (found
     by_test : (b : Bool) → (if b then Some t else find (λ (t : TableDecl). bytes_eq t.name.text x) tables) ≡ Some table
         → (find (λ (t : TableDecl). bytes_eq t.name.text x) tables ≡ Some table → find (λ (def : TableDef). bytes_eq def.name x) (map table_def tables) ≡ Some (table_def table))
         → (if b then Some (table_def t) else find (λ (def : TableDef). bytes_eq def.name x) (map table_def tables)) ≡ Some (table_def table)
-    by_test true is later = ap (λ (t : TableDecl). Some (table_def t)) (just is)
+    by_test true is later = ap (λ (t : TableDecl). Some (table_def t)) (same_some is)
     by_test false is later = later is
 
 -- what holds of each element holds of the one that is found, and it passes the test
@@ -123,10 +123,10 @@ found_holds P test [] x is all = let wrong : None ≡ Some x = is in cc
 found_holds P test (y ∷ xs) x is all = by_test (test y) refl is (λ later. found_holds P test xs x later all.1)
   where
     by_test : (b : Bool) → test y ≡ b → (if b then Some y else find test xs) ≡ Some x → (find test xs ≡ Some x → P x × (test x ≡ true)) → P x × (test x ≡ true)
-    by_test true passes is later = subst (λ z. P z × (test z ≡ true)) (just is) (all.0, passes)
+    by_test true passes is later = subst (λ z. P z × (test z ≡ true)) (same_some is) (all.0, passes)
     by_test false fails is later = later is
 
-bytes_itself : (x : Label) → bytes_eq x x ≡ true
+pub bytes_itself : (x : Label) → bytes_eq x x ≡ true
 bytes_itself x = (bytes_eq-Decides x x).1 refl
 
 -- cells as the fields of a record

@@ -1,47 +1,25 @@
 -- Where all queries, readings and changes of tables in an expression are some of the program, so are those of the expressions in it;
 -- and the bodies of its functions and of its lambdas are such expressions. The place where one begins finds it.
-use Rattle.std.proofs.Common.{◌≡◌, ◌⊎◌, inl, inr, true, List, [], ◌∷◌, ◌++◌, flat_map, Some, refl, sym, ap, ◌∙◌, subst}
+use Rattle.std.proofs.Common.{◌≡◌, ◌⊎◌, inl, inr, true, List, [], ◌∷◌, ◌++◌, flat_map, Some, sym, subst}
 use Rattle.lk_ast.specs.Functions.{functions_of}
-use Rattle.lk_ast.specs.Layers.{Layer, layer}
+use Rattle.lk_ast.specs.Layers.{layer}
 use Rattle.lk_ast.specs.declared.declaration.FunDef.{FunDef}
 use Rattle.lk_ast.specs.declared.declaration.Program.{Program}
 use Rattle.lk_ast.specs.declared.expression.Expr.{Expr}
-use Rattle.lk_ast.specs.declared.expression.Node.TheOpen.{Node-F}
-use Rattle.lk_bag.proofs.Levels.{inside, itself, blocks_level}
+use Rattle.lk_bag.proofs.Levels.{itself}
 use Rattle.lk_bag.specs.Blocks.{acts_on_tables, blocks_in, blocks_of, block_at, AreBlocksApart}
 use Rattle.lk_index.specs.Places.{PlacedLambda, Lambdas}
 use Rattle.lk_types.specs.Each.{Each, OneOf}
-use Rattle.lk_typing.proofs.Lists.{each_front, each_back}
+use Rattle.lk_sound.proofs.BlocksInside.{blocks_inside}
 use Rattle.lk_sound.proofs.Found.{apart_found}
 use Rattle.lk_sound.proofs.Gathered.{gather_each, entered, all_gathered, one_of_each}
 use Rattle.lk_sound.proofs.Inside.{insides, by_insides}
-use Rattle.lk_sound.proofs.Members.{each_of_in, one_of_both, one_in_front, one_in_back}
+use Rattle.lk_types.proofs.Members.{each_of_in, one_of_both, one_in_front, one_in_back, each_front, each_back, each_in_flat}
 use Rattle.lk_sound.proofs.Within.{IsIn, fun_bodies, own_inside, lambda_there}
 use Rattle.lk_sound.specs.Points.{AreBlocksOf}
 use Rattle.lk_sound.specs.Within.{IsFunctionOf, IsLambdaOf}
 
--- ---- one level
-
-same_insides : (l : Layer) → inside l ≡ insides l
-same_insides (Node-F.Lambda l) = refl
-same_insides (Node-F.Call g args) = refl
-same_insides (Node-F.Apply f args) = refl
-same_insides (Node-F.Record fields) = refl
-same_insides (Node-F.Extend fields e) = refl
-same_insides (Node-F.List items) = refl
-same_insides (Node-F.Switch d cases last) = refl
-same_insides (Node-F.Update change) = refl
-same_insides (Node-F.Delete change) = refl
-same_insides other = refl
-
--- what acts on tables in an expression: itself, where it does, and what does so in those right inside it
-blocks_inside : (e : Expr) → blocks_in e ≡ itself (acts_on_tables (layer e)) e ++ flat_map blocks_in (insides (layer e))
-blocks_inside e = blocks_level e ∙ ap (λ es. itself (acts_on_tables (layer e)) e ++ flat_map blocks_in es) (same_insides (layer e))
-
 module _ {A B : Type 0} (P : B → Type 0) (f : A → List B) where
-  each_of_all : (xs : List A) → Each P (flat_map f xs) → Each (λ x. Each P (f x)) xs
-  each_of_all [] all = tt
-  each_of_all (x ∷ xs) all = (each_front P (f x) (flat_map f xs) all, each_of_all xs (each_back P (f x) (flat_map f xs) all))
 
   one_of_all : (xs : List A) → OneOf (λ x. OneOf P (f x)) xs → OneOf P (flat_map f xs)
   one_of_all [] one = one
@@ -57,7 +35,7 @@ module _ (p : Program) (e : Expr) (blocks : AreBlocksOf p e) where
   parted = subst (Each (IsBlockOf p)) (blocks_inside e) blocks
 
   pub insides_blocks : Each (AreBlocksOf p) (insides (layer e))
-  insides_blocks = each_of_all (IsBlockOf p) blocks_in (insides (layer e)) (each_back (IsBlockOf p) (itself (acts_on_tables (layer e)) e) (flat_map blocks_in (insides (layer e))) parted)
+  insides_blocks = each_in_flat (IsBlockOf p) blocks_in (insides (layer e)) (each_back (IsBlockOf p) (itself (acts_on_tables (layer e)) e) (flat_map blocks_in (insides (layer e))) parted)
 
   -- the expression itself, where it acts on tables
   pub own_block : acts_on_tables (layer e) ≡ true → IsBlockOf p e

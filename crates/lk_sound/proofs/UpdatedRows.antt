@@ -34,27 +34,26 @@ use Rattle.lk_sound.specs.Nodes as nodes
 use Rattle.lk_sound.specs.Points.{AreLocals}
 use Rattle.lk_sound.specs.Tables.{table_at}
 use Rattle.lk_sound.specs.Values.{Fits, FitEach, FieldsFit, no_field, field, one_more}
+use Rattle.lk_types.proofs.Parts.{same_some, mapped}
 use Rattle.lk_types.specs.Each.{Each, OneOf}
 use Rattle.lk_types.specs.Rows as rows
 use Rattle.lk_types.specs.Rows.{Label, fields_of, no_effects}
 use Rattle.lk_types.specs.declared.ground.Ground.{Ground}
 use Rattle.lk_types.specs.declared.ground.GroundField.{GroundField}
-use Rattle.lk_typing.proofs.Inverses.{mapped_was}
 use Rattle.lk_typing.proofs.Samples.Types.{same_row}
-use Rattle.lk_typing.proofs.Values.{just}
 use Rattle.lk_typing.specs.Names.{Named, Entry}
 use Rattle.lk_typing.specs.Types.{record_of, labelled}
 use Rattle.lk_typing.specs.Typing.{IsChange, HasField, labels_of, changed}
 
 -- ---- rows are what their values say
 
-base_itself : (b : Base) → base_in (value.Base b) ≡ Some b
+pub base_itself : (b : Base) → base_in (value.Base b) ≡ Some b
 base_itself b = simp (value.outs-Base)
 
 base_by : (v : Value) (l : Value-F Value Field FunValue) → out-Value v ≡ l → (b : Base) → base_in v ≡ Some b → v ≡ value.Base b
 base_by v (Value-F.Base c) out b is =
     let same : v ≡ value.Base c = sym (roll-out-Value v) ∙ ap roll-Value out ∙ value.rolls-Base c in
-    same ∙ ap value.Base (just (sym (base_itself c) ∙ sym (ap base_in same) ∙ is))
+    same ∙ ap value.Base (same_some (sym (base_itself c) ∙ sym (ap base_in same) ∙ is))
 base_by v (Value-F.List values) out b is =
     let same : v ≡ value.List values = sym (roll-out-Value v) ∙ ap roll-Value out ∙ value.rolls-List values in
     let none : base_in (value.List values) ≡ None = simp (value.outs-List) in
@@ -85,13 +84,13 @@ cells_again (cell ∷ cells) = λ j. record { label = cell.label; value = unwrap
 
 same_cells : (r s : Row) → row_value r ≡ row_value s → r ≡ s
 same_cells r s is =
-    let fields : cell_fields r.cells ≡ cell_fields s.cells = just (sym (fields_shown (cell_fields r.cells)) ∙ ap fields_in is ∙ fields_shown (cell_fields s.cells)) in
+    let fields : cell_fields r.cells ≡ cell_fields s.cells = same_some (sym (fields_shown (cell_fields r.cells)) ∙ ap fields_in is ∙ fields_shown (cell_fields s.cells)) in
     let cells : r.cells ≡ s.cells = sym (cells_again r.cells) ∙ ap cells_back fields ∙ cells_again s.cells in
     λ j. record { cells = cells j }
 
 -- ---- what is set
 
-no_rows : (defs : List TableDef) → Each (λ (def : TableDef). all_fit def [] ≡ true) defs
+pub no_rows : (defs : List TableDef) → Each (λ (def : TableDef). all_fit def [] ≡ true) defs
 no_rows [] = tt
 no_rows (def ∷ defs) = (refl, no_rows defs)
 
@@ -109,20 +108,20 @@ module _ (p : Program) (i : Instances) where
   set_found row give (set ∷ sets) [] fields left are fits has l part is = elim fits [ ]
   set_found row give (set ∷ sets) (t ∷ ts) fields left are (one_more fit fits) has l part is =
       let found : (x : Named Ground × List Ground) × (labelled (labels_of sets) ts ≡ Some x) × ((fields, left) ≡ ((set.label.text, t) ∷ x.0, x.1)) =
-      mapped_was (λ (x : Named Ground × List Ground). ((set.label.text, t) ∷ x.0, x.1)) (labelled (labels_of sets) ts) (fields, left) are in
+      mapped (λ (x : Named Ground × List Ground). ((set.label.text, t) ∷ x.0, x.1)) (labelled (labels_of sets) ts) (fields, left) are in
       let each : Each (λ (set : Label × Ground). HasField (record_of row) set.0 set.1) ((set.label.text, t) ∷ found.0.0) =
       subst (λ (x : Named Ground × List Ground). Each (λ (set : Label × Ground). HasField (record_of row) set.0 set.1) x.0) found.2 has in
       by_test (bytes_eq set.label.text l) (record { type = t; has = each.0; fits = fit }) is (set_found row give sets ts found.0.0 found.0.1 found.1 fits each.1 l part)
     where
       by_test : (b : Bool) → IsSet row give set → (if b then Some set else find (λ (part : PartExpr). bytes_eq part.label.text l) sets) ≡ Some part
           → (find (λ (part : PartExpr). bytes_eq part.label.text l) sets ≡ Some part → IsSet row give part) → IsSet row give part
-      by_test true one is later = subst (λ part. IsSet row give part) (just is) one
+      by_test true one is later = subst (λ part. IsSet row give part) (same_some is) one
       by_test false one is later = later is
 
   -- the value of a column that is set: of two fields of one label in a row each has the same type
   field_type : (row : rows.Row) (l : Label) (a : Ground) (g : GroundField) → HasField (record_of row) l a → OneOf (λ other. other ≡ g) (fields_of row) → l ≡ g.label → a ≡ g.ty
   field_type row l a g (other, whole, same, made) among is =
-      just (sym (get_first l a other whole made) ∙ ap (λ (r : rows.Row). fin.get r l) (sym (same_row row whole same)) ∙ ap (fin.get row) is ∙ among_get row g among)
+      same_some (sym (get_first l a other whole made) ∙ ap (λ (r : rows.Row). fin.get r l) (sym (same_row row whole same)) ∙ ap (fin.get row) is ∙ among_get row g among)
 
   -- a base value in place of another
   set_fits : (v : Value) (old : Base) (t : Ground) → Fits p i v t → Fits p i (value.Base old) t → Fits p i (value.Base (unwrap_or (base_in v) old)) t
@@ -149,7 +148,7 @@ module _ (p : Program) (i : Instances) where
     where
       by_test : (b : Bool) → bytes_eq set.label.text l ≡ b → (if b then Some set else find (λ (part : PartExpr). bytes_eq part.label.text l) sets) ≡ Some part
           → (find (λ (part : PartExpr). bytes_eq part.label.text l) sets ≡ Some part → part.label.text ≡ l) → part.label.text ≡ l
-      by_test true passes is later = subst (λ (x : PartExpr). x.label.text ≡ l) (just is) (same_bytes set.label.text l passes)
+      by_test true passes is later = subst (λ (x : PartExpr). x.label.text ≡ l) (same_some is) (same_bytes set.label.text l passes)
       by_test false fails is later = later is
 
   -- ---- the whole row
@@ -188,7 +187,7 @@ module _ (p : Program) (i : Instances) where
           inner = fits_fields p i (row_value row) (fields_of type) was
 
           same : inner.fs ≡ cell_fields row.cells
-          same = just (sym (fields_shown inner.fs) ∙ sym (ap fields_in inner.is) ∙ fields_shown (cell_fields row.cells))
+          same = same_some (sym (fields_shown inner.fs) ∙ sym (ap fields_in inner.is) ∙ fields_shown (cell_fields row.cells))
 
           new_fields : FieldsFit p i (cell_fields (map set_cell row.cells)) (fields_of type)
           new_fields = cells_kept set_cell (fields_of type) (fields_of type) row.cells (subst (λ fs. FieldsFit p i fs (fields_of type)) same inner.fit) (λ g one. one) (λ cell g among label old. (refl, cell_kept cell g among label old))
@@ -208,7 +207,7 @@ pub updated_fits : (p : Program) (i : Instances) → IsBound p → AreClosed p i
 unfolding nodes_of
 updated_fits p i bound closed functions locals change _ (changed type sets ts cond rest has holds values named fields) flat names fit def at row fits =
     let found = table_found p i (out-ChangeExpr change).table.text type has in
-    let same : found.0 ≡ def = just (sym found.1 ∙ at) in
+    let same : found.0 ≡ def = same_some (sym found.1 ∙ at) in
     let was : Fits p i (row_value row) (record_of type) = found.2 row (subst (λ d. row_fits d row ≡ true) (sym same) fits) in
     let given : FitEach p i (map (λ e. gives p (λ name. []) e (bind (out-ChangeExpr change).name.text (row_value row) names)) (exprs_of (out-ChangeExpr change).sets)) ts =
     bags_fit p i bound closed (λ name. []) (no_rows (table_defs p)) functions (((out-ChangeExpr change).name.text, record_of type) ∷ locals) no_effects (exprs_of (out-ChangeExpr change).sets) ts rest values refl refl

@@ -10,10 +10,9 @@ use Rattle.lk_ast.specs.declared.expression.LambdaExpr.{LambdaExpr}
 use Rattle.lk_ast.specs.declared.expression.Node.TheOpen.{Node-F}
 use Rattle.lk_index.specs.Places.{PlacedLambda, Lambdas, gather, gather_all, each_with}
 use Rattle.lk_types.specs.Each.{Each, OneOf}
-use Rattle.lk_typing.proofs.Lists.{each_front, each_back}
 use Rattle.lk_sound.proofs.Gathered.{gather_each, entered, all_gathered, each_of_each, one_of_each, each_of_one}
 use Rattle.lk_sound.proofs.Inside.{insides, by_insides}
-use Rattle.lk_sound.proofs.Members.{each_of_in, one_of_both, one_in_back}
+use Rattle.lk_types.proofs.Members.{each_of_in, one_of_both, one_in_back, each_front, each_back}
 use Rattle.lk_sound.specs.Within.{IsFunctionOf, IsLambdaOf, IsWithin}
 
 -- ---- what is right inside

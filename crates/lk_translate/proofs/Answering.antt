@@ -29,8 +29,8 @@ use Rattle.lk_sql.specs.Meaning.{all_rows, no_rows}
 use Rattle.lk_translate.proofs.Ordering.{sorted_same}
 use Rattle.lk_translate.proofs.Reading.{HasFields, labels_of_answer, query_fields, reading_fields}
 use Rattle.lk_translate.specs.Law.{AnswerLaw, AnswersLegally}
+use Rattle.lk_types.proofs.Parts.{same_some}
 use Rattle.lk_types.specs.Each.{Each}
-use Rattle.lk_typing.proofs.Values.{just}
 
 -- a query at a site: its keys are those of the text, and what it reads are records with some fields
 record IsReading (p : Program) (i : Instances) (site : Site) (query : Query) : Type 0 where
@@ -58,7 +58,7 @@ module _ (p : Program) (bound : IsBound p) (g : GroundProgram) (has : HasInstanc
 
   -- what is found is this query
   found_is : (made : Inlined) → Some made ≡ Some (inlined.Query query) → made ≡ inlined.Query query
-  found_is made at = just at
+  found_is made at = same_some at
 
   reading : (l : Layer) → layer site.block ≡ l → inlined_by p g.helpers site l ≡ Some (inlined.Query query) → IsReading p i site query
   reading (Node-F.Query keys body) is at =

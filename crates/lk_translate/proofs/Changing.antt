@@ -1,4 +1,5 @@
 -- The SQL of a change makes of rows what the program makes of them.
+use Rattle.lk_types.proofs.Parts.{same_some}
 use Rattle.std.proofs.Common.{◌≡◌, refl, sym, ap, ◌∙◌, subst, Bool, true, false, Some}
 use Rattle.lk_ast.specs.Layers.{Layer, layer}
 use Rattle.lk_ast.specs.Tables.{row_fits}
@@ -22,7 +23,6 @@ use Rattle.lk_sites.specs.Sites.{Site}
 use Rattle.lk_sound.specs.Tables.{table_at}
 use Rattle.lk_translate.proofs.Columns.{has_columns}
 use Rattle.lk_translate.specs.Law.{ChangeLaw, ChangesLegally, ChangesTo, ChangesWhere}
-use Rattle.lk_typing.proofs.Values.{just}
 
 -- the change of what is inlined, if it is one
 abbrev change_or : InlinedChange → Inlined → InlinedChange
@@ -42,7 +42,7 @@ module _ (law : norm.ChangeOverLaw) (p : Program) (g : GroundProgram) (site : Si
   -- its labels are those of the table that the text names
   labels_by : (l : Layer) (of : ChangeExpr) → layer site.block ≡ l → inlined_by p g.helpers site l ≡ Some (change_at p g.helpers site of) → change.labels ≡ table_labels (table_at p (out-ChangeExpr of).table.text)
   labels_by l of is made =
-      let same : change_at p g.helpers site of ≡ inlined.Change change = just (sym made ∙ ap (inlined_by p g.helpers site) (sym is) ∙ at) in
+      let same : change_at p g.helpers site of ≡ inlined.Change change = same_some (sym made ∙ ap (inlined_by p g.helpers site) (sym is) ∙ at) in
       sym (ap (λ found. (change_or change found).labels) same)
 
   row_has : (of : ChangeExpr) → change.labels ≡ table_labels (table_at p (out-ChangeExpr of).table.text) → (def : TableDef) → table_at p (out-ChangeExpr of).table.text ≡ Some def → (row : Row) → row_fits def row ≡ true

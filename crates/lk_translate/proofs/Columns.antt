@@ -1,25 +1,22 @@
 -- Rows that a table may hold have its columns, none of them twice.
-use Rattle.std.proofs.Common.{◌≡◌, refl, sym, ap, ap₂, subst, Bool, true, false, ◌&&◌, List, [], ◌∷◌, map, find, Some, None, bytes_eq, if◌then◌else◌}
+use Rattle.std.proofs.Common.{◌≡◌, refl, sym, ap, subst, Bool, true, false, List, [], ◌∷◌, map, find, Some, None, bytes_eq, if◌then◌else◌}
 use Rattle.std.specs.FinMap as fin
-use Rattle.lk_ast.specs.Tables.{cells_fit, is_of_kind, kinds, row_fits, table_def, tables_of}
+use Rattle.lk_ast.specs.Tables.{kinds, row_fits, table_def, tables_of}
 use Rattle.lk_ast.specs.declared.declaration.Program.{Program}
 use Rattle.lk_ast.specs.declared.declaration.TableDecl.{TableDecl}
 use Rattle.lk_ast.specs.declared.table.BaseKind.{BaseKind}
-use Rattle.lk_ast.specs.declared.table.Cell.{Cell}
-use Rattle.lk_ast.specs.declared.table.Column.{Column}
 use Rattle.lk_ast.specs.declared.table.Row.{Row}
 use Rattle.lk_ast.specs.declared.table.TableDef.{TableDef}
 use Rattle.lk_bodies.specs.Shapes.{labels}
+use Rattle.lk_inline.proofs.BlockValues.{fit_labels}
 use Rattle.lk_inline.proofs.LabelOrder.{distinct_test}
 use Rattle.lk_inline.proofs.PutFields.{entry_labels, sorted_distinct}
 use Rattle.lk_inline.specs.Stands.{AreDistinct}
 use Rattle.lk_norm.specs.Law.{HasColumns}
-use Rattle.lk_sound.proofs.Bindings.{same_bytes}
-use Rattle.lk_sound.proofs.FlatTypes.{first_holds, second_holds}
 use Rattle.lk_sound.proofs.TableRows.{as_columns}
 use Rattle.lk_sound.specs.Tables.{table_at}
+use Rattle.lk_types.proofs.Parts.{same_some}
 use Rattle.lk_types.specs.Rows.{Label}
-use Rattle.lk_typing.proofs.Values.{just}
 
 -- ---- tables of a program
 
@@ -36,18 +33,10 @@ found_distinct x (table ∷ tables) def is = by_test (bytes_eq (table_def table)
   where
     by_test : (b : Bool) → (if b then Some (table_def table) else find (λ (def : TableDef). bytes_eq def.name x) (map table_def tables)) ≡ Some def
         → (find (λ (def : TableDef). bytes_eq def.name x) (map table_def tables) ≡ Some def → AreDistinct (labels def.columns)) → AreDistinct (labels def.columns)
-    by_test true is behind = subst (λ (def : TableDef). AreDistinct (labels def.columns)) (just is) (table_distinct table)
+    by_test true is behind = subst (λ (def : TableDef). AreDistinct (labels def.columns)) (same_some is) (table_distinct table)
     by_test false is behind = behind is
 
 -- ---- rows
 
-cells_have : (columns : List Column) (cells : List Cell) → cells_fit columns cells ≡ true → map (λ (cell : Cell). cell.label) cells ≡ labels columns
-cells_have [] [] fit = refl
-cells_have [] (cell ∷ cells) fit = absurd cc
-cells_have (column ∷ columns) [] fit = absurd cc
-cells_have (column ∷ columns) (cell ∷ cells) fit =
-    let both : (bytes_eq column.label cell.label && is_of_kind column.kind cell.value) ≡ true = first_holds (bytes_eq column.label cell.label && is_of_kind column.kind cell.value) _ fit in
-    ap₂ (λ l ls. l ∷ ls) (sym (same_bytes column.label cell.label (first_holds _ _ both))) (cells_have columns cells (second_holds (bytes_eq column.label cell.label && is_of_kind column.kind cell.value) _ fit))
-
 pub has_columns : (p : Program) (x : Label) (def : TableDef) → table_at p x ≡ Some def → (row : Row) → row_fits def row ≡ true → HasColumns (labels def.columns) row
-has_columns p x def at row fits = (cells_have def.columns row.cells fits, distinct_test (labels def.columns) (found_distinct x (tables_of p) def at))
+has_columns p x def at row fits = (fit_labels def.columns row.cells fits, distinct_test (labels def.columns) (found_distinct x (tables_of p) def at))

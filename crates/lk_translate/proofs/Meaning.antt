@@ -1,5 +1,5 @@
 -- All that is translated of a program means what stands at the sites.
-use Rattle.std.proofs.Common.{◌≡◌, ℕ, zero, suc, refl, sym, ap, subst, inl, inr, List, [], ◌∷◌, Option, Some, None, drop, map, option_map, slice_get}
+use Rattle.std.proofs.Common.{◌≡◌, ℕ, zero, suc, refl, sym, ap, subst, inl, inr, List, [], ◌∷◌, Option, Some, None, drop, map, option_map}
 use Rattle.lk_ast.specs.declared.declaration.Program.{Program}
 use Rattle.lk_ground.specs.declared.program.GroundFun.{GroundFun}
 use Rattle.lk_ground.specs.declared.program.GroundProgram.{GroundProgram}
@@ -15,9 +15,10 @@ use Rattle.lk_translate.specs.Law.{AnswerLaw, ChangeLaw, GoodLaw, IsLegal, IsMea
 use Rattle.lk_translate.specs.Translation.{code_of, inlined_code, translated_at}
 use Rattle.lk_translate.specs.declared.translated.Code.{Code}
 use Rattle.lk_translate.specs.declared.translated.Translated.{Translated}
+use Rattle.lk_types.proofs.Members.{each_at}
+use Rattle.lk_types.proofs.Parts.{same_some}
 use Rattle.lk_types.specs.Each.{Each, OneOf}
 use Rattle.lk_types.specs.declared.ground.Ground.{Ground}
-use Rattle.lk_typing.proofs.Values.{just}
 
 -- ---- what holds of the types of each function holds of those from a site on
 
@@ -25,11 +26,6 @@ each_from : {A : Type 0} (Q : A → Type 0) (n : ℕ) (xs : List A) → Each Q x
 each_from Q zero xs all = all
 each_from Q (suc n) [] all = tt
 each_from Q (suc n) (x ∷ xs) all = each_from Q n xs all.1
-
-each_at : {A : Type 0} (Q : A → Type 0) (xs : List A) (n : ℕ) (x : A) → slice_get xs n ≡ Some x → Each Q xs → Q x
-each_at Q [] n x is all = let wrong : None ≡ Some x = is in absurd cc
-each_at Q (y ∷ xs) zero x is all = subst Q (just is) all.0
-each_at Q (y ∷ xs) (suc n) x is all = each_at Q xs n x is all.1
 
 types_at : (Q : Ground → Type 0) (p : Program) (g : GroundProgram) (has : HasInstances p g) (site : Site) → IsSiteOf p g has site → Each (λ (f : GroundFun). Each Q f.types) g.funs → Each Q site.types
 types_at Q p g has site is all = subst (Each Q) (sym is.types) (each_from Q is.nodes is.function.types (each_at (λ (f : GroundFun). Each Q f.types) g.funs site.fun is.function is.there all))
@@ -51,7 +47,7 @@ module _ (answers : AnswerLaw) (changes : ChangeLaw) (good : GoodLaw) (p : Progr
       by_found : (o : Option Inlined) → inlined_at p g.helpers site ≡ o → Some one ≡ option_map (at_site site) (option_map inlined_code o) → IsMeant p g one
       by_found None at made = let wrong : Some one ≡ None = made in absurd cc
       by_found (Some found) at made =
-          let same : one ≡ at_site site (inlined_code found) = just made in
+          let same : one ≡ at_site site (inlined_code found) = same_some made in
           record {
             site = site;
             listed = listed;

@@ -1,6 +1,6 @@
 -- The rows of a reading fit its type, so that all rows of an answer have the same labels.
 use Rattle.std.proofs.Common.{◌≡◌, refl, sym, ap, ◌∙◌, subst, true, List, [], ◌∷◌, Some, None, drop, length, map}
-use Rattle.std.specs.Prelude.{IsPermutation, unwrap_or}
+use Rattle.std.specs.Prelude.{IsPermutation}
 use Rattle.lk_ast.specs.Functions.{functions_of}
 use Rattle.lk_ast.specs.Layers.{Layer, layer}
 use Rattle.lk_ast.specs.Rows.{row_value}
@@ -43,7 +43,8 @@ use Rattle.lk_sound.proofs.Bags.{all_early, bag_fits}
 use Rattle.lk_sound.proofs.Calls.{kept_fit}
 use Rattle.lk_sound.proofs.FlatTypes.{IsFlatRow, flat_row_is}
 use Rattle.lk_sound.proofs.Names.{AreDistinct}
-use Rattle.lk_sound.proofs.Shapes.{IsRecord, fits_fields, list_of_fits}
+use Rattle.lk_sound.proofs.QueryValues.{items_fit}
+use Rattle.lk_sound.proofs.Shapes.{IsRecord, fits_fields}
 use Rattle.lk_sound.proofs.TableRows.{all_fit_permuted, cell_fields, rows_of_table}
 use Rattle.lk_sound.specs.Instances.{Instances}
 use Rattle.lk_sound.specs.Nodes.{nodes_of}
@@ -93,10 +94,6 @@ module _ (p : Program) (i : Instances) where
   rows_have : (gs : List GroundField) (rs : List Row) → AllFit p i (map row_value rs) (known.Fields gs) → HaveLabels (field_labels gs) rs
   rows_have gs [] none = tt
   rows_have gs (r ∷ rs) (more fits all) = (row_fits_labels gs r fits, rows_have gs rs all)
-
-  -- what a list gives
-  items_fit : (v : Value) (a : Ground) → Fits p i v (known.List a) → AllFit p i (items v) a
-  items_fit v a fits = let found = list_of_fits p i v a fits in subst (λ o. AllFit p i (unwrap_or o []) a) (sym found.1) found.2
 
 -- ---- readings
 

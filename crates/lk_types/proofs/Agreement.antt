@@ -2,6 +2,7 @@
 use Rattle.std.proofs.Common.{◌≡◌, List, [], ◌∷◌, ◌++◌, map, refl, ap, ap₂, sym, subst, ◌∙◌, Option}
 use Rattle.std.specs.List.{cons_option}
 use Rattle.std.specs.Option.{option_map}
+use Rattle.lk_types.proofs.Members.{each_front, each_back}
 use Rattle.lk_types.specs.Each.{Each}
 use Rattle.lk_types.specs.Grounding.{Grounding, Known, under, row_under, field_under, ty_level, row_level, field_level, before_row, row_tail, effect_tail, before_effects, all_of, function_of}
 use Rattle.lk_types.specs.Rows.{Row, fields_of}
@@ -24,39 +25,31 @@ AgreeAt σ τ (variable.Plain n) = σ.plain n ≡ τ.plain n
 AgreeAt σ τ (variable.Row n) = σ.rows n ≡ τ.rows n
 AgreeAt σ τ (variable.Effects n) = σ.effects n ≡ τ.effects n
 
-pub each_front : {A : Type 0} (P : A → Type 0) (xs ys : List A) → Each P (xs ++ ys) → Each P xs
-each_front P [] ys all = tt
-each_front P (x ∷ xs) ys all = (all.0, each_front P xs ys all.1)
-
-pub each_back : {A : Type 0} (P : A → Type 0) (xs ys : List A) → Each P (xs ++ ys) → Each P ys
-each_back P [] ys all = all
-each_back P (x ∷ xs) ys all = each_back P xs ys all.1
-
 -- ---- one level
 
-under_rolled : (σ : Grounding) (x : Ty-F Ty TyField TyRow) → under σ (roll-Ty x) ≡ ty_level σ (map-Ty Ty TyField TyRow (Option Ground) Known (Option Row) (under σ) (field_under σ) (row_under σ) x)
+pub under_rolled : (σ : Grounding) (x : Ty-F Ty TyField TyRow) → under σ (roll-Ty x) ≡ ty_level σ (map-Ty Ty TyField TyRow (Option Ground) Known (Option Row) (under σ) (field_under σ) (row_under σ) x)
 unfolding under field_under row_under
 under_rolled σ x = fold-roll-Ty (Option Ground) Known (Option Row) (ty_level σ) (field_level σ) (row_level σ) x
 
-under_rolled_row : (σ : Grounding) (x : TyRow-F Ty TyField TyRow) → row_under σ (roll-TyRow x) ≡ before_row (map (field_under σ) x.fields) (row_tail σ x.tail)
+pub under_rolled_row : (σ : Grounding) (x : TyRow-F Ty TyField TyRow) → row_under σ (roll-TyRow x) ≡ before_row (map (field_under σ) x.fields) (row_tail σ x.tail)
 unfolding under field_under row_under
 under_rolled_row σ x = fold-roll-TyRow (Option Ground) Known (Option Row) (ty_level σ) (field_level σ) (row_level σ) x
 
-under_rolled_field : (σ : Grounding) (x : TyField-F Ty TyField TyRow) → field_under σ (roll-TyField x) ≡ (x.label, under σ x.ty)
+pub under_rolled_field : (σ : Grounding) (x : TyField-F Ty TyField TyRow) → field_under σ (roll-TyField x) ≡ (x.label, under σ x.ty)
 unfolding under field_under row_under
 under_rolled_field σ x = fold-roll-TyField (Option Ground) Known (Option Row) (ty_level σ) (field_level σ) (row_level σ) x
 
-rolled : (x : Ty-F Ty TyField TyRow) → variables_of (roll-Ty x) ≡ ty_variables (map-Ty Ty TyField TyRow (List Variable) (List Variable) (List Variable) variables_of variables_of_field variables_of_row x)
+pub variables_rolled : (x : Ty-F Ty TyField TyRow) → variables_of (roll-Ty x) ≡ ty_variables (map-Ty Ty TyField TyRow (List Variable) (List Variable) (List Variable) variables_of variables_of_field variables_of_row x)
 unfolding variables_of variables_of_field variables_of_row
-rolled x = fold-roll-Ty (List Variable) (List Variable) (List Variable) ty_variables field_variables row_variables x
+variables_rolled x = fold-roll-Ty (List Variable) (List Variable) (List Variable) ty_variables field_variables row_variables x
 
-rolled_row : (x : TyRow-F Ty TyField TyRow) → variables_of_row (roll-TyRow x) ≡ before_tail (joined (map variables_of_field x.fields)) variable.Row x.tail
+pub variables_rolled_row : (x : TyRow-F Ty TyField TyRow) → variables_of_row (roll-TyRow x) ≡ before_tail (joined (map variables_of_field x.fields)) variable.Row x.tail
 unfolding variables_of variables_of_field variables_of_row
-rolled_row x = fold-roll-TyRow (List Variable) (List Variable) (List Variable) ty_variables field_variables row_variables x
+variables_rolled_row x = fold-roll-TyRow (List Variable) (List Variable) (List Variable) ty_variables field_variables row_variables x
 
-rolled_field : (x : TyField-F Ty TyField TyRow) → variables_of_field (roll-TyField x) ≡ variables_of x.ty
+pub variables_rolled_field : (x : TyField-F Ty TyField TyRow) → variables_of_field (roll-TyField x) ≡ variables_of x.ty
 unfolding variables_of variables_of_field variables_of_row
-rolled_field x = fold-roll-TyField (List Variable) (List Variable) (List Variable) ty_variables field_variables row_variables x
+variables_rolled_field x = fold-roll-TyField (List Variable) (List Variable) (List Variable) ty_variables field_variables row_variables x
 
 module _ (σ τ : Grounding) where
   abbrev Agree : List Variable → Type 0
@@ -119,19 +112,19 @@ module _ (σ τ : Grounding) where
   level_agrees (Ty-F.Var n) all = ap (λ t. Option.Some t) all.0
 
   ty_agrees : (y : Ty-F Such SuchField SuchRow) → TyAgrees (roll-Ty (plain_level y))
-  ty_agrees y all = under_rolled σ _ ∙ level_agrees y (subst Agree (rolled (plain_level y)) all) ∙ sym (under_rolled τ (plain_level y))
+  ty_agrees y all = under_rolled σ _ ∙ level_agrees y (subst Agree (variables_rolled (plain_level y)) all) ∙ sym (under_rolled τ (plain_level y))
 
   row_agrees : (y : TyRow-F Such SuchField SuchRow) → RowAgrees (roll-TyRow (record { fields = map (λ f. f.0) y.fields; tail = y.tail }))
   row_agrees y all =
       let fields : List Variable = joined (map variables_of_field (map (λ f. f.0) y.fields)) in
       let tail : List Variable = cons_option (tail_variable variable.Row y.tail) [] in
-      let both : Agree (fields ++ tail) = subst Agree (rolled_row _) all in
+      let both : Agree (fields ++ tail) = subst Agree (variables_rolled_row _) all in
       under_rolled_row σ _
       ∙ ap₂ before_row (fields_agree y.fields (each_front (AgreeAt σ τ) fields tail both)) (row_tail_agrees y.tail (each_back (AgreeAt σ τ) fields tail both))
       ∙ sym (under_rolled_row τ _)
 
   field_agrees : (y : TyField-F Such SuchField SuchRow) → FieldAgrees (roll-TyField (record { label = y.label; ty = y.ty.0 }))
-  field_agrees y all = under_rolled_field σ _ ∙ ap (λ t. (y.label, t)) (y.ty.1 (subst Agree (rolled_field _) all)) ∙ sym (under_rolled_field τ _)
+  field_agrees y all = under_rolled_field σ _ ∙ ap (λ t. (y.label, t)) (y.ty.1 (subst Agree (variables_rolled_field _) all)) ∙ sym (under_rolled_field τ _)
 
   pub agrees : (t : Ty) → Agree (variables_of t) → under σ t ≡ under τ t
   agrees = ind-Ty TyAgrees FieldAgrees RowAgrees

@@ -1,12 +1,10 @@
 -- The map from variables to numbers, and the list of variables that it stands for.
 use Rattle.std.proofs.Common.{arith, ◌≡◌, ℕ, suc, ◌+◌, Bool, true, false, not, cond, List, [], ◌∷◌, ◌++◌, length, refl, sym, ap, subst, ◌∙◌, Option, Some, None, is_some, if◌then◌else◌, ◌||◌}
-use Rattle.std.proofs.lemmas.Bool.{eqb-true, eq-eqb}
-use Rattle.std.proofs.lemmas.Bool.Decides.{nat_tests}
 use Rattle.std.specs.BTreeMap.{get, is_at, btree_map_len}
 use Rattle.std.specs.List.{position_from, position_or_len, list_any}
 use Rattle.std.specs.Map.{lookup}
 use Rattle.std.specs.Option.{unwrap_or, option_or}
-use Rattle.std.specs.Ordering.{is_eq}
+use Rattle.lk_types.proofs.SameVariable.{agrees, test_is, same_is, same_self, same_turned}
 use Rattle.lk_types.specs.Names.{number, name}
 use Rattle.lk_types.specs.TypeText.{number_in, name_of, type_text, written}
 use Rattle.lk_types.specs.Variables.{same_variable, with_variable, firsts, variables_of}
@@ -14,55 +12,10 @@ use Rattle.lk_types.specs.contracts.ty.VariableOrd.TheImpl.{cmp-value}
 use Rattle.lk_types.specs.declared.names.Names.{Names}
 use Rattle.lk_types.specs.declared.ty.Ty.{Ty}
 use Rattle.lk_types.specs.declared.ty.Variable.{Variable}
-use Rattle.lk_types.specs.declared.ty.Variable.TheVariants as variable
 
 pub record IsNumbered (names : Names) (seen : List Variable) : Type 0 where
   pub count : length names.numbers.entries ≡ length seen
   pub at : (x : Variable) → lookup (same_variable x) names.numbers.entries ≡ position_from (same_variable x) 1 seen
-
--- ---- the same variable
-
-agrees : (x y : Variable) → is_eq (cmp-value.it x y) ≡ same_variable x y
-agrees (variable.Plain m) (variable.Plain n) = grind (arith, nat_tests)
-agrees (variable.Plain m) (variable.Row n) = refl
-agrees (variable.Plain m) (variable.Effects n) = refl
-agrees (variable.Row m) (variable.Plain n) = refl
-agrees (variable.Row m) (variable.Row n) = grind (arith, nat_tests)
-agrees (variable.Row m) (variable.Effects n) = refl
-agrees (variable.Effects m) (variable.Plain n) = refl
-agrees (variable.Effects m) (variable.Row n) = refl
-agrees (variable.Effects m) (variable.Effects n) = grind (arith, nat_tests)
-
--- the test by which the map looks for a variable
-test_is : (x : Variable) → is_at (cmp-value.it x) ≡ same_variable x
-test_is x i y = agrees x y i
-
-same_is : (x y : Variable) → same_variable x y ≡ true → x ≡ y
-same_is (variable.Plain m) (variable.Plain n) same = ap variable.Plain (eqb-true m n same)
-same_is (variable.Row m) (variable.Row n) same = ap variable.Row (eqb-true m n same)
-same_is (variable.Effects m) (variable.Effects n) same = ap variable.Effects (eqb-true m n same)
-same_is (variable.Plain m) (variable.Row n) same = cc
-same_is (variable.Plain m) (variable.Effects n) same = cc
-same_is (variable.Row m) (variable.Plain n) same = cc
-same_is (variable.Row m) (variable.Effects n) same = cc
-same_is (variable.Effects m) (variable.Plain n) same = cc
-same_is (variable.Effects m) (variable.Row n) same = cc
-
-same_self : (x : Variable) → same_variable x x ≡ true
-same_self (variable.Plain m) = eq-eqb m m refl
-same_self (variable.Row m) = eq-eqb m m refl
-same_self (variable.Effects m) = eq-eqb m m refl
-
-same_turned : (x y : Variable) → same_variable x y ≡ same_variable y x
-same_turned (variable.Plain m) (variable.Plain n) = grind (arith, nat_tests)
-same_turned (variable.Row m) (variable.Row n) = grind (arith, nat_tests)
-same_turned (variable.Effects m) (variable.Effects n) = grind (arith, nat_tests)
-same_turned (variable.Plain m) (variable.Row n) = refl
-same_turned (variable.Plain m) (variable.Effects n) = refl
-same_turned (variable.Row m) (variable.Plain n) = refl
-same_turned (variable.Row m) (variable.Effects n) = refl
-same_turned (variable.Effects m) (variable.Plain n) = refl
-same_turned (variable.Effects m) (variable.Row n) = refl
 
 -- ---- places in lists
 

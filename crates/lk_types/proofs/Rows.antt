@@ -1,5 +1,6 @@
 -- Rows with fields before them: no label twice, and the order of fields says nothing.
 use Rattle.std.proofs.Common.{◌≡◌, Bool, true, false, cond, ◌||◌, refl, sym, ap, ◌∙◌, Option, Some, None, is_some, if◌then◌else◌}
+use Rattle.std.proofs.lemmas.Bool.{or_from, or_right}
 use Rattle.std.proofs.lemmas.Cmp.{nat_list_cmp_total}
 use Rattle.std.specs.Cmp.{eq_by_cmp_equiv}
 use Rattle.std.specs.FinMap as fin
@@ -64,20 +65,13 @@ some_both : (l m : Label) (t u : Ground) (row : Row) → (same_label l m || has_
 unfolding with_both
 some_both l m t u row missing = ap (λ b. if b then None else Some (fin.insert (fin.insert row m u) l t)) (found row m u l ∙ missing)
 
-or_there : (a b : Bool) → b ≡ true → (a || b) ≡ true
-or_there true b p = refl
-or_there false b p = p
-
-or_missing : (a b : Bool) → a ≡ false → b ≡ false → (a || b) ≡ false
-or_missing a b p q = ap (λ z. z || b) p ∙ q
-
 or_same : (a b : Bool) → a ≡ true → (a || b) ≡ true
 or_same a b p = ap (λ z. z || b) p
 
 both_swap : (l m : Label) (t u : Ground) (row : Row) → has_label row l ≡ false → has_label row m ≡ false → (same : Bool) → same_label l m ≡ same → with_both l m t u row ≡ with_both m l u t row
 both_swap l m t u row p q true is = none_both l m t u row (or_same _ _ is) ∙ sym (none_both m l u t row (or_same _ _ (same_turned m l ∙ is)))
 both_swap l m t u row p q false is =
-    some_both l m t u row (or_missing _ _ is p) ∙ ap Some (inserted l m t u row is) ∙ sym (some_both m l u t row (or_missing _ _ (same_turned m l ∙ is) q))
+    some_both l m t u row (or_from _ _ is p) ∙ ap Some (inserted l m t u row is) ∙ sym (some_both m l u t row (or_from _ _ (same_turned m l ∙ is) q))
 
 pub fields_swap : (l m : Label) (t u : Option Ground) (row : Option Row) → with_field l t (with_field m u row) ≡ with_field m u (with_field l t row)
 unfolding with_both
@@ -90,6 +84,6 @@ fields_swap l m (Some t) (Some u) (Some row) = by_tests (has_label row l) (has_l
     by_tests : (a b : Bool) → has_label row l ≡ a → has_label row m ≡ b
         → with_field l (Some t) (if b then None else Some (fin.insert row m u)) ≡ with_field m (Some u) (if a then None else Some (fin.insert row l t))
     by_tests true true p q = refl
-    by_tests true false p q = none_both l m t u row (or_there _ _ p)
-    by_tests false true p q = sym (none_both m l u t row (or_there _ _ q))
+    by_tests true false p q = none_both l m t u row (or_right _ _ p)
+    by_tests false true p q = sym (none_both m l u t row (or_right _ _ q))
     by_tests false false p q = both_swap l m t u row p q _ refl

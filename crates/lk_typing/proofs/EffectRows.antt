@@ -1,6 +1,9 @@
 -- Rows of effects: a set can be seen from the list of its effects, and what it means that functions have an effect.
 use Rattle.std.proofs.Common.{◌≡◌, ℕ, Bool, true, false, cond, ◌||◌, List, [], ◌∷◌, ◌++◌, refl, sym, ap, ◌∙◌, Option, Some, None, if◌then◌else◌}
+use Rattle.std.proofs.lemmas.Bool.{or_parts}
 use Rattle.std.specs.List.{filter, list_any}
+use Rattle.lk_types.proofs.Parts.{same_some}
+use Rattle.lk_types.proofs.SameEffect.{effect_self, for_each_effect}
 use Rattle.lk_types.proofs.Unfold.{under_function}
 use Rattle.lk_types.specs.Grounding as grounding
 use Rattle.lk_types.specs.Grounding.{Grounding, under, effects_under, before_effects}
@@ -16,7 +19,7 @@ use Rattle.lk_types.specs.declared.ty.Effects.{Effects}
 use Rattle.lk_types.specs.declared.ty.RowTail.TheVariants.{Var}
 use Rattle.lk_types.specs.declared.ty.Ty.TheVariants as ty
 use Rattle.lk_typing.proofs.Meaning.{HasEffects}
-use Rattle.lk_typing.proofs.Values.{just, function_is, under_unit}
+use Rattle.lk_typing.proofs.Values.{function_is, under_unit}
 use Rattle.lk_typing.specs.Types.{unit, function_of}
 use Rattle.lk_typing.specs.Unknowns as unknown
 
@@ -25,13 +28,6 @@ use Rattle.lk_typing.specs.Unknowns as unknown
 abbrev is_among : Effect → List Effect → Bool
 is_among e es = list_any (same_effect e) es
 
-either_false : (b c : Bool) → (b || c) ≡ false → (b ≡ false) × (c ≡ false)
-either_false true c is = (is, by_wrong c is)
-  where
-    by_wrong : (c : Bool) → true ≡ false → c ≡ false
-    by_wrong c wrong = cc
-either_false false c is = (refl, is)
-
 -- one effect more among those of a set, or not
 module _ (e : Effect) (es : List Effect) where
   passed : (b : Bool) (x : Effect) → same_effect e x ≡ false → is_among e (cond b (x ∷ es) es) ≡ is_among e es
@@ -39,21 +35,21 @@ module _ (e : Effect) (es : List Effect) where
   passed false x other = refl
 
   met_here : (b : Bool) → same_effect e e ≡ true → is_among e es ≡ false → is_among e (cond b (e ∷ es) es) ≡ b
-  met_here true itself none = ap (λ c. c || is_among e es) itself
-  met_here false itself none = none
+  met_here true effect_self none = ap (λ c. c || is_among e es) effect_self
+  met_here false effect_self none = none
 
 module _ (s : EffectSet) (e : Effect) where
   none_left : (es : List Effect) → is_among e es ≡ false → is_among e (filter s es) ≡ false
   none_left [] none = refl
   none_left (x ∷ es) none =
-      let apart : (same_effect e x ≡ false) × (is_among e es ≡ false) = either_false (same_effect e x) (is_among e es) none in
+      let apart : (same_effect e x ≡ false) × (is_among e es ≡ false) = or_parts (same_effect e x) (is_among e es) none in
       passed e (filter s es) (s x) x apart.0 ∙ none_left es apart.1
 
   found : (es rest : List Effect) → same_effect e e ≡ true → is_among e es ≡ false → is_among e rest ≡ false → is_among e (filter s (es ++ e ∷ rest)) ≡ s e
-  found [] rest itself none after = met_here e (filter s rest) (s e) itself (none_left rest after)
-  found (x ∷ es) rest itself none after =
-      let apart : (same_effect e x ≡ false) × (is_among e es ≡ false) = either_false (same_effect e x) (is_among e es) none in
-      passed e (filter s (es ++ e ∷ rest)) (s x) x apart.0 ∙ found es rest itself apart.1 after
+  found [] rest effect_self none after = met_here e (filter s rest) (s e) effect_self (none_left rest after)
+  found (x ∷ es) rest effect_self none after =
+      let apart : (same_effect e x ≡ false) × (is_among e es ≡ false) = or_parts (same_effect e x) (is_among e es) none in
+      passed e (filter s (es ++ e ∷ rest)) (s x) x apart.0 ∙ found es rest effect_self apart.1 after
 
 -- an effect is in the set just where it is in the list
 pub in_list : (s : EffectSet) (e : Effect) → is_among e (effects_of s) ≡ s e
@@ -64,15 +60,6 @@ in_list s Rec = found s Rec (Local ∷ Move ∷ Print ∷ []) (Scan ∷ Trap ∷
 in_list s Scan = found s Scan (Local ∷ Move ∷ Print ∷ Rec ∷ []) (Trap ∷ Write ∷ []) refl refl refl
 in_list s Trap = found s Trap (Local ∷ Move ∷ Print ∷ Rec ∷ Scan ∷ []) (Write ∷ []) refl refl refl
 in_list s Write = found s Write (Local ∷ Move ∷ Print ∷ Rec ∷ Scan ∷ Trap ∷ []) [] refl refl refl
-
-pub itself : (e : Effect) → same_effect e e ≡ true
-itself Local = refl
-itself Move = refl
-itself Print = refl
-itself Rec = refl
-itself Scan = refl
-itself Trap = refl
-itself Write = refl
 
 -- ---- functions with the same effects
 
@@ -90,26 +77,17 @@ same_set s u e is = sym (in_list s e) ∙ ap (is_among e) (sym (ap effects_in (k
 abbrev pub without : Effect → EffectSet → EffectSet
 without e s x = if same_effect e x then false else s x
 
-pub for_each : (P : Effect → Type 0) → P Local → P Move → P Print → P Rec → P Scan → P Trap → P Write → (x : Effect) → P x
-for_each P a b c d e f g Local = a
-for_each P a b c d e f g Move = b
-for_each P a b c d e f g Print = c
-for_each P a b c d e f g Rec = d
-for_each P a b c d e f g Scan = e
-for_each P a b c d e f g Trap = f
-for_each P a b c d e f g Write = g
-
 wrong : {A : Type 0} → false ≡ true → A
 wrong is = cc
 
 there_too : (s : EffectSet) (e : Effect) → s e ≡ true → (x : Effect) → same_effect e x ≡ true → s x ≡ true
-there_too s Local there = for_each (λ x. same_effect Local x ≡ true → s x ≡ true) (λ is. there) wrong wrong wrong wrong wrong wrong
-there_too s Move there = for_each (λ x. same_effect Move x ≡ true → s x ≡ true) wrong (λ is. there) wrong wrong wrong wrong wrong
-there_too s Print there = for_each (λ x. same_effect Print x ≡ true → s x ≡ true) wrong wrong (λ is. there) wrong wrong wrong wrong
-there_too s Rec there = for_each (λ x. same_effect Rec x ≡ true → s x ≡ true) wrong wrong wrong (λ is. there) wrong wrong wrong
-there_too s Scan there = for_each (λ x. same_effect Scan x ≡ true → s x ≡ true) wrong wrong wrong wrong (λ is. there) wrong wrong
-there_too s Trap there = for_each (λ x. same_effect Trap x ≡ true → s x ≡ true) wrong wrong wrong wrong wrong (λ is. there) wrong
-there_too s Write there = for_each (λ x. same_effect Write x ≡ true → s x ≡ true) wrong wrong wrong wrong wrong wrong (λ is. there)
+there_too s Local there = for_each_effect (λ x. same_effect Local x ≡ true → s x ≡ true) (λ is. there) wrong wrong wrong wrong wrong wrong
+there_too s Move there = for_each_effect (λ x. same_effect Move x ≡ true → s x ≡ true) wrong (λ is. there) wrong wrong wrong wrong wrong
+there_too s Print there = for_each_effect (λ x. same_effect Print x ≡ true → s x ≡ true) wrong wrong (λ is. there) wrong wrong wrong wrong
+there_too s Rec there = for_each_effect (λ x. same_effect Rec x ≡ true → s x ≡ true) wrong wrong wrong (λ is. there) wrong wrong wrong
+there_too s Scan there = for_each_effect (λ x. same_effect Scan x ≡ true → s x ≡ true) wrong wrong wrong wrong (λ is. there) wrong wrong
+there_too s Trap there = for_each_effect (λ x. same_effect Trap x ≡ true → s x ≡ true) wrong wrong wrong wrong wrong (λ is. there) wrong
+there_too s Write there = for_each_effect (λ x. same_effect Write x ≡ true → s x ≡ true) wrong wrong wrong wrong wrong wrong (λ is. there)
 
 -- taken away and put back
 put_back : (s : EffectSet) (e : Effect) → s e ≡ true → (x : Effect) → (same_effect e x || without e s x) ≡ s x
@@ -123,7 +101,7 @@ with_other : (e : Effect) (u : EffectSet) → u e ≡ false → with_effect e (S
 with_other e u missing = ap (λ b. if b then None else Some (λ x. same_effect e x || u x)) missing
 
 gone : (e : Effect) (s : EffectSet) → without e s e ≡ false
-gone e s = ap (λ b. if b then false else s e) (itself e)
+gone e s = ap (λ b. if b then false else s e) (effect_self e)
 
 pub with_back : (e : Effect) (s : EffectSet) → s e ≡ true → with_effect e (Some (without e s)) ≡ Some s
 with_back e s there = with_other e (without e s) (gone e s) ∙ ap (λ u. Some u) (λ i x. put_back s e there x i)
@@ -133,7 +111,7 @@ with_it e u v some = by_test (u e) refl
   where
     by_test : (b : Bool) → u e ≡ b → v e ≡ true
     by_test true there = let none : None ≡ Some v = sym (ap (λ b. if b then None else Some (λ x. same_effect e x || u x)) there) ∙ some in cc
-    by_test false missing = ap (λ w. w e) (just (sym some ∙ with_other e u missing)) ∙ ap (λ b. b || u e) (itself e)
+    by_test false missing = ap (λ w. w e) (same_some (sym some ∙ with_other e u missing)) ∙ ap (λ b. b || u e) (effect_self e)
 
 module _ (σ : Grounding) (effects : Effects) (s : EffectSet) (e : Effect) (n : ℕ) (is : HasEffects σ effects s) where
   left : under σ (ty.Fun [] effects unknown.unit) ≡ Some (function_of [] s unit)
@@ -153,7 +131,7 @@ module _ (σ : Grounding) (effects : Effects) (s : EffectSet) (e : Effect) (n : 
     where
       by_value : (o : Option EffectSet) → with_effect e (Some (σ.effects n)) ≡ o → s e ≡ true
       by_value None none = let never : None ≡ Some equal.0 = sym (no_right none) ∙ equal.2 in cc
-      by_value (Some u) some = same_set s u e (just (sym left ∙ (equal.1 ∙ sym equal.2 ∙ right u some))) ∙ with_it e (σ.effects n) u some
+      by_value (Some u) some = same_set s u e (same_some (sym left ∙ (equal.1 ∙ sym equal.2 ∙ right u some))) ∙ with_it e (σ.effects n) u some
 
   pub has_complete : s e ≡ true → σ.effects n ≡ without e s → IsMet σ (unknown.has effects e n)
   has_complete there stands = (function_of [] s unit, left, right s (ap (λ u. with_effect e (Some u)) stands ∙ with_back e s there))

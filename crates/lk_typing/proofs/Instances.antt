@@ -4,10 +4,10 @@ use Rattle.std.proofs.Math.Nat.{le-max_left, le-max_right}
 use Rattle.std.specs.FinMap as fin
 use Rattle.std.specs.Option.{option_map}
 use Rattle.std.specs.Prelude.{bytes_eq, IsSome}
-use Rattle.lk_types.proofs.Agreement.{AgreeAt, agrees}
+use Rattle.lk_types.proofs.Agreement.{AgreeAt, agrees, under_rolled, under_rolled_row, under_rolled_field}
 use Rattle.lk_types.proofs.Unfold.{under_int, under_bool, under_text, under_list, under_fields, under_tags, under_function, under_variable, under_field}
 use Rattle.lk_types.specs.Each.{Each}
-use Rattle.lk_types.specs.Grounding.{Grounding, under, Known, row_under, field_under, ty_level, row_level, field_level, before_row, row_tail, effect_tail, before_effects, all_of, function_of}
+use Rattle.lk_types.specs.Grounding.{Grounding, under, Known, row_under, field_under, ty_level, before_row, row_tail, effect_tail, before_effects, all_of, function_of}
 use Rattle.lk_types.specs.Rows.{Label, Row, has_label, with_field, fields_of}
 use Rattle.lk_types.specs.Schemes.{IsLacking, IsInstance}
 use Rattle.lk_types.specs.Solutions.{IsMet}
@@ -26,6 +26,7 @@ use Rattle.lk_types.specs.declared.ty.TyRow.{TyRow, roll-TyRow}
 use Rattle.lk_types.specs.declared.ty.Variable.{Variable}
 use Rattle.lk_types.specs.declared.ty.Variable.TheVariants as variable
 use Rattle.lk_typing.proofs.Meaning.{seen, entry_seen, Names, Functions, Letter, Stand, OwnMet}
+use Rattle.lk_typing.proofs.Nodes.{there_is}
 use Rattle.lk_typing.specs.Equations.{own, lacks, used}
 use Rattle.lk_typing.specs.Names.{Named, named, Entry, One, Many, IsUse, MayBe}
 use Rattle.lk_typing.specs.Renamed.{number_of, beyond, width, tail_renamed, ty_renamed, row_renamed, field_renamed, renamed, renamed_row, renamed_field}
@@ -72,18 +73,6 @@ abbrev pub moved : ℕ → Grounding → Grounding
 moved n σ = record { plain = λ v. σ.plain (n + v); rows = λ v. σ.rows (n + v); effects = λ v. σ.effects (n + v) }
 
 -- one level
-
-pub under_rolled : (σ : Grounding) (x : Ty-F Ty TyField TyRow) → under σ (roll-Ty x) ≡ ty_level σ (map-Ty Ty TyField TyRow (Option Ground) Known (Option Row) (under σ) (field_under σ) (row_under σ) x)
-unfolding under field_under row_under
-under_rolled σ x = fold-roll-Ty (Option Ground) Known (Option Row) (ty_level σ) (field_level σ) (row_level σ) x
-
-pub under_rolled_row : (σ : Grounding) (x : TyRow-F Ty TyField TyRow) → row_under σ (roll-TyRow x) ≡ before_row (map (field_under σ) x.fields) (row_tail σ x.tail)
-unfolding under field_under row_under
-under_rolled_row σ x = fold-roll-TyRow (Option Ground) Known (Option Row) (ty_level σ) (field_level σ) (row_level σ) x
-
-pub under_rolled_field : (σ : Grounding) (x : TyField-F Ty TyField TyRow) → field_under σ (roll-TyField x) ≡ (x.label, under σ x.ty)
-unfolding under field_under row_under
-under_rolled_field σ x = fold-roll-TyField (Option Ground) Known (Option Row) (ty_level σ) (field_level σ) (row_level σ) x
 
 module _ (n : ℕ) where
   pub rolled : (x : Ty-F Ty TyField TyRow) → renamed n (roll-Ty x) ≡ ty_renamed n (map-Ty Ty TyField TyRow Ty TyField TyRow (renamed n) (renamed_field n) (renamed_row n) x)
@@ -239,16 +228,11 @@ each_lacks_complete : (σ : Grounding) (n : ℕ) (all : List Lack) → Each (IsL
 each_lacks_complete σ n [] lacking = tt
 each_lacks_complete σ n (lack ∷ all) lacking = (lacks_complete σ n lack lacking.0, each_lacks_complete σ n all lacking.1)
 
--- an option with something in it
-pub there : {A : Type 0} (o : Option A) → IsSome o → (a : A) × (o ≡ Some a)
-there None some = cc
-there (Some a) some = (a, refl)
-
 -- an instance of a scheme with new variables becomes an instance of it
 instance_sound : (σ : Grounding) (n : ℕ) (scheme : Scheme) → Each (IsMet σ) (map (lacks n) scheme.lacks) → IsSome (under σ (renamed n scheme.body))
     → (t : Ground) × (under σ (renamed n scheme.body) ≡ Some t) × IsInstance (moved n σ) scheme t
 instance_sound σ n scheme met some =
-    let found : (t : Ground) × (under σ (renamed n scheme.body) ≡ Some t) = there _ some in
+    let found : (t : Ground) × (under σ (renamed n scheme.body) ≡ Some t) = there_is _ some in
     (found.0, found.1, record { body = sym (under_renamed n σ scheme.body) ∙ found.1; lacks = each_lacks_sound σ n scheme.lacks met })
 
 -- a function where it is used gets a type at which it may be used by the rules

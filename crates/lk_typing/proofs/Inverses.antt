@@ -1,6 +1,7 @@
 -- What types were, from what they became: lists of types, rows and functions.
 use Rattle.std.proofs.Common.{◌≡◌, List, [], ◌∷◌, map, refl, sym, ap, ap₂, ◌∙◌, Option, Some, None}
 use Rattle.std.specs.Option.{option_map}
+use Rattle.lk_types.proofs.Parts.{same_some, mapped as mapped_was}
 use Rattle.lk_types.proofs.Unfold.{under_function, under_fields, under_tags}
 use Rattle.lk_types.specs.Grounding as grounding
 use Rattle.lk_types.specs.Grounding.{Grounding, Known, under, row_under, effects_under, before_row, all_of, row_tail}
@@ -11,7 +12,7 @@ use Rattle.lk_types.specs.declared.ty.RowTail.{RowTail}
 use Rattle.lk_types.specs.declared.ty.Ty.{Ty}
 use Rattle.lk_types.specs.declared.ty.Ty.TheVariants as ty
 use Rattle.lk_typing.proofs.Meaning.{seen, HasEffects}
-use Rattle.lk_typing.proofs.Values.{just, row_seen}
+use Rattle.lk_typing.proofs.Values.{row_seen}
 use Rattle.lk_typing.specs.Law.{Become}
 use Rattle.lk_typing.specs.Names.{Named}
 use Rattle.lk_typing.specs.Types.{record_of, variant_of, function_of, with_fields}
@@ -44,14 +45,14 @@ pub same_there : {A : Type 0} (xs ys : List A) → map (λ x. Some x) xs ≡ map
 same_there [] [] is = refl
 same_there [] (y ∷ ys) is = none_more is
 same_there (x ∷ xs) [] is = more_none is
-same_there (x ∷ xs) (y ∷ ys) is = ap₂ (λ a as'. a ∷ as') (just (first_same is)) (same_there xs ys (rest_same is))
+same_there (x ∷ xs) (y ∷ ys) is = ap₂ (λ a as'. a ∷ as') (same_some (first_same is)) (same_there xs ys (rest_same is))
 
 mapped : {A : Type 0} (a : A) (o : Option (List A)) (ts : List A) → option_map (λ more. a ∷ more) o ≡ Some ts → (rest : List A) × (o ≡ Some rest) × (ts ≡ a ∷ rest)
 mapped a None ts is = let wrong : None ≡ Some ts = is in cc
-mapped a (Some rest) ts is = (rest, refl, just (sym is))
+mapped a (Some rest) ts is = (rest, refl, same_some (sym is))
 
 pub all_there : {A : Type 0} (os : List (Option A)) (ts : List A) → all_of os ≡ Some ts → os ≡ map (λ t. Some t) ts
-all_there [] ts is = ap (map (λ t. Some t)) (just is)
+all_there [] ts is = ap (map (λ t. Some t)) (same_some is)
 all_there (None ∷ os) ts is = let wrong : None ≡ Some ts = is in cc
 all_there {A} (Some a ∷ os) ts is =
     let found : (rest : List A) × (all_of os ≡ Some rest) × (ts ≡ a ∷ rest) = mapped a (all_of os) ts is in
@@ -71,11 +72,6 @@ before_was (f ∷ fs) tail row is =
     let one : (a : Ground) × (rest : Row) × (f.1 ≡ Some a) × (before_row fs tail ≡ Some rest) = one_before f.0 f.1 (before_row fs tail) row is in
     let more : (known_fields : Named Ground) × (fs ≡ seen (λ t. Some t) known_fields) = before_was fs tail one.1 one.3 in
     ((f.0, one.0) ∷ more.0, ap₂ (λ o r. (f.0, o) ∷ r) one.2 more.1)
-
--- a form of a value that is there is there
-pub mapped_was : {A B : Type 0} (f : A → B) (o : Option A) (b : B) → option_map f o ≡ Some b → (a : A) × (o ≡ Some a) × (b ≡ f a)
-mapped_was f None b is = let wrong : None ≡ Some b = is in cc
-mapped_was f (Some a) b is = (a, refl, just (sym is))
 
 -- fields that become these, before a row
 pub record WereFields (σ : Grounding) (fields : Named Ty) (tail : RowTail) (row : Row) : Type 0 where
@@ -116,7 +112,7 @@ was_function : (params : Option (List Ground)) (effects : Option EffectSet) (ans
 was_function None effects answer g is = let wrong : None ≡ Some g = is in cc
 was_function (Some ts) None answer g is = let wrong : None ≡ Some g = is in cc
 was_function (Some ts) (Some s) None g is = let wrong : None ≡ Some g = is in cc
-was_function (Some ts) (Some s) (Some a) g is = record { ts = ts; s = s; a = a; params_there = refl; effects_there = refl; answer_there = refl; is = just (sym is) }
+was_function (Some ts) (Some s) (Some a) g is = record { ts = ts; s = s; a = a; params_there = refl; effects_there = refl; answer_there = refl; is = same_some (sym is) }
 
 pub record FunctionParts (σ : Grounding) (types : List Ty) (effects : Effects) (t : Ty) (g : Ground) : Type 0 where
   pub ts : List Ground

@@ -11,6 +11,7 @@ pub mod Meaning
 pub mod Nodes
 pub mod Operators
 pub mod Samples
+pub mod SchemeCounts
 pub mod Scopes
 pub mod Sound
 pub mod Trees

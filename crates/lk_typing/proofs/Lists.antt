@@ -1,25 +1,11 @@
 -- Lists: what holds of each element, and what letters stand for variables one after another.
 use Rattle.std.proofs.Common.{◌≡◌, ℕ, ◌+◌, List, [], ◌∷◌, ◌++◌, map, length, refl, sym, subst, ap, ap₂, ◌∙◌, Some}
 use native.Mathlib.Omega.{arith}
-use Rattle.lk_types.specs.Each.{Each}
 use Rattle.lk_types.specs.Grounding.{Grounding, under}
 use Rattle.lk_types.specs.declared.ground.Ground.{Ground}
 use Rattle.lk_types.specs.declared.ty.Ty.{Ty}
 use Rattle.lk_typing.proofs.Meaning.{Letter, Stand}
 use Rattle.lk_typing.specs.Law.{Become}
-
-module _ {A : Type 0} (P : A → Type 0) where
-  pub each_front : (xs ys : List A) → Each P (xs ++ ys) → Each P xs
-  each_front [] ys all = tt
-  each_front (x ∷ xs) ys all = (all.0, each_front xs ys all.1)
-
-  pub each_back : (xs ys : List A) → Each P (xs ++ ys) → Each P ys
-  each_back [] ys all = all
-  each_back (x ∷ xs) ys all = each_back xs ys all.1
-
-  pub each_both : (xs ys : List A) → Each P xs → Each P ys → Each P (xs ++ ys)
-  each_both [] ys front back = back
-  each_both (x ∷ xs) ys front back = (front.0, each_both xs ys front.1 back)
 
 pub length_append : {A : Type 0} (xs ys : List A) → length (xs ++ ys) ≡ length xs + length ys
 length_append [] ys = omega arith

@@ -2,6 +2,7 @@
 use Rattle.std.proofs.Common.{◌≡◌, ℕ, ◌+◌, Bool, true, false, List, [], ◌∷◌, ◌++◌, length, refl, sym, subst, ap, ap₂, ◌∙◌, Option, Some, None, IsSome, is_some}
 use native.Mathlib.Omega.{arith}
 use Rattle.lk_ast.specs.declared.place.Span.{Span}
+use Rattle.lk_types.proofs.Members.{each_front, each_back, each_both}
 use Rattle.lk_types.specs.Each.{Each}
 use Rattle.lk_types.specs.Grounding.{Grounding, under}
 use Rattle.lk_types.specs.Rows.{EffectSet}
@@ -13,7 +14,7 @@ use Rattle.lk_types.specs.declared.ty.Effects.{Effects}
 use Rattle.lk_types.specs.declared.ty.Ty.{Ty}
 use Rattle.lk_types.specs.declared.ty.Ty.TheVariants as ty
 use Rattle.lk_typing.proofs.EffectRows.{without, has_sound, has_complete}
-use Rattle.lk_typing.proofs.Lists.{each_front, each_back, each_both, length_append, stand_front, stand_back, become_more, become_both}
+use Rattle.lk_typing.proofs.Lists.{length_append, stand_front, stand_back, become_more, become_both}
 use Rattle.lk_typing.proofs.Meaning.{Letter, plain, effects, Stand, Names, HasEffects, Met, OwnMet}
 use Rattle.lk_typing.proofs.Values.{variable_is}
 use Rattle.lk_typing.specs.Equations.{Own}
@@ -24,9 +25,9 @@ use Rattle.lk_typing.specs.Typing.{HasIf}
 use Rattle.lk_typing.specs.Walk.{Walked, Told, has_if, ended, all_types}
 use Rattle.lk_typing.specs.declared.step.Step.{Step}
 
-pub there : {A : Type 0} (o : Option A) → IsSome o → (a : A) × (o ≡ Some a)
-there None some = cc
-there (Some a) some = (a, refl)
+pub there_is : {A : Type 0} (o : Option A) → IsSome o → (a : A) × (o ≡ Some a)
+there_is None some = cc
+there_is (Some a) some = (a, refl)
 
 -- what stands for the variables of a node: these letters, and the node's type behind them
 abbrev pub with_node : List Letter → Ground → List Letter
@@ -91,12 +92,12 @@ pub one_more : (σ : Grounding) (names : Named Ty) (known_names : Named Ground) 
     → under σ t ≡ Some a → Names σ names known_names → Names σ ((x, t) ∷ names) ((x, a) ∷ known_names)
 one_more σ names known_names x t a is all = record { same = ap₂ (λ o rest. (x, o) ∷ rest) is all.same }
 
--- what is said in between holds, and the numbers end there
+-- what is said in between holds, and the numbers end there_is
 pub record ToldMet (σ : Grounding) (told : Told) (last : ℕ) : Type 0 where
   pub next : told.next ≡ last
   pub equations : Each (IsMet σ) told.equations
 
--- ---- that there is an effect, if something holds
+-- ---- that there_is is an effect, if something holds
 
 -- what stands for the others then
 pub letters_if : Bool → Effect → EffectSet → List Letter

@@ -3,24 +3,18 @@ use Rattle.std.proofs.Common.{◌≡◌, ℕ, List, [], ◌∷◌, map, refl, sy
 use Rattle.std.specs.Option.{option_map}
 use Rattle.lk_ast.specs.declared.declaration.ColumnDecl.{ColumnDecl}
 use Rattle.lk_ast.specs.declared.declaration.TableDecl.{TableDecl}
+use Rattle.lk_types.proofs.Parts.{same_some}
 use Rattle.lk_types.specs.Grounding.{Grounding, under}
 use Rattle.lk_types.specs.Rows.{Label}
 use Rattle.lk_types.specs.declared.ground.Ground.{Ground}
 use Rattle.lk_types.specs.declared.ty.RowTail.TheVariants.{Closed, Var}
 use Rattle.lk_types.specs.declared.ty.Ty.{Ty}
 use Rattle.lk_typing.proofs.Meaning.{seen}
-use Rattle.lk_typing.proofs.Values.{just, under_record, under_base}
+use Rattle.lk_typing.proofs.Values.{under_record, under_base}
 use Rattle.lk_typing.specs.Law.{Become}
 use Rattle.lk_typing.specs.Names.{column, row_known}
 use Rattle.lk_typing.specs.Types.{record_of, labelled}
 use Rattle.lk_typing.specs.Unknowns as unknown
-
--- ---- options
-
--- what was mapped to something was something
-pub mapped : {A B : Type 0} (f : A → B) (o : Option A) (b : B) → option_map f o ≡ Some b → (a : A) × (o ≡ Some a) × (b ≡ f a)
-mapped f None b is = cc
-mapped f (Some a) b is = (a, refl, just (sym is))
 
 -- ---- the rows of a table
 
@@ -41,7 +35,7 @@ module _ (σ : Grounding) where
       known_same (t ∷ ts) (u ∷ us) is =
           let first : Some t ≡ Some u = cc in
           let more : map (λ t. Some t) ts ≡ map (λ t. Some t) us = cc in
-          ap₂ (λ a as'. a ∷ as') (just first) (known_same ts us more)
+          ap₂ (λ a as'. a ∷ as') (same_some first) (known_same ts us more)
 
   -- what a first type and those behind it become
   pub known_first : (P : List Ground → Type 0) (a : Ty) (more : List Ty) (ts : List Ground) → Become σ (a ∷ more) ts

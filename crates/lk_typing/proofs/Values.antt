@@ -1,8 +1,9 @@
 -- What the types of the equations become, and what an equation says of it.
 use Rattle.std.proofs.Common.{◌≡◌, ℕ, List, [], ◌∷◌, map, refl, sym, ap, ap₂, ◌∙◌, Option, Some, None}
-use Rattle.std.specs.Option.{option_map, unwrap_or}
+use Rattle.std.specs.Option.{option_map}
 use Rattle.lk_ast.specs.declared.table.BaseKind.{BaseKind}
 use Rattle.lk_ast.specs.declared.table.BaseKind.TheVariants as kind
+use Rattle.lk_types.proofs.Parts.{same_some, row_as_fields}
 use Rattle.lk_types.proofs.Unfold.{under_int, under_bool, under_text, under_list, under_fields, under_tags, under_function, under_variable, under_field}
 use Rattle.lk_types.specs.Grounding as grounding
 use Rattle.lk_types.specs.Grounding.{Grounding, Known, under, row_under, field_under, effects_under, before_row, before_effects, all_of, row_tail, effect_tail}
@@ -14,32 +15,22 @@ use Rattle.lk_types.specs.declared.ty.Effects.{Effects}
 use Rattle.lk_types.specs.declared.ty.RowTail.{RowTail}
 use Rattle.lk_types.specs.declared.ty.RowTail.TheVariants.{Closed}
 use Rattle.lk_types.specs.declared.ty.Ty.{Ty}
-use Rattle.lk_types.specs.declared.ty.Ty.TheFolds.{the_lemmas}
 use Rattle.lk_types.specs.declared.ty.Ty.TheVariants as ty
-use Rattle.lk_types.specs.declared.ty.TyField.{TyField}
-use Rattle.lk_types.specs.declared.ty.TyRow.{roll-TyRow}
 use Rattle.lk_typing.proofs.Meaning.{seen, HasEffects}
 use Rattle.lk_typing.specs.Law.{Become}
 use Rattle.lk_typing.specs.Names.{Named}
 use Rattle.lk_typing.specs.Types.{base, record_of, variant_of, unit, function_of, with_fields}
 use Rattle.lk_typing.specs.Unknowns as unknown
 
-pub just : {A : Type 0} {a b : A} → Some a ≡ Some b → a ≡ b
-just {A} {a} is = ap (λ o. unwrap_or o a) is
-
 -- ---- what types become
 
 module _ (σ : Grounding) where
-  rolled : (fields : List TyField) (tail : RowTail) → row_under σ (roll-TyRow (record { fields = fields; tail = tail })) ≡ before_row (map (field_under σ) fields) (row_tail σ tail)
-  unfolding row_under field_under
-  rolled fields tail = search the_lemmas
-
   fields_seen : (fields : Named Ty) → map (field_under σ) (map unknown.field fields) ≡ seen (under σ) fields
   fields_seen [] = refl
   fields_seen (f ∷ fs) = ap₂ (λ a as'. a ∷ as') (under_field σ (unknown.field f)) (fields_seen fs)
 
   pub row_seen : (fields : Named Ty) (tail : RowTail) → row_under σ (unknown.row fields tail) ≡ before_row (seen (under σ) fields) (row_tail σ tail)
-  row_seen fields tail = rolled (map unknown.field fields) tail ∙ ap (λ known_fields. before_row known_fields (row_tail σ tail)) (fields_seen fields)
+  row_seen fields tail = row_as_fields σ (map unknown.field fields) tail ∙ ap (λ known_fields. before_row known_fields (row_tail σ tail)) (fields_seen fields)
 
   -- a record whose fields become these
   pub under_record : (fields : Named Ty) (known_fields : Named Ground) (tail : RowTail) → seen (under σ) fields ≡ seen (λ t. Some t) known_fields
@@ -85,7 +76,7 @@ module _ (σ : Grounding) where
     where
       by_value : (o : Option Ground) → under σ t ≡ o → (a : Ground) × (under σ t ≡ Some a) × (g ≡ known.List a)
       by_value None none = let wrong : None ≡ Some g = sym (under_list σ t ∙ ap (option_map known.List) none) ∙ is in cc
-      by_value (Some a) some = (a, some, just (sym is ∙ (under_list σ t ∙ ap (option_map known.List) some)))
+      by_value (Some a) some = (a, some, same_some (sym is ∙ (under_list σ t ∙ ap (option_map known.List) some)))
 
 -- ---- equations
 
@@ -95,7 +86,7 @@ module _ (σ : Grounding) (left right : Ty) where
 
   -- both sides become the same
   pub met : (a : Ground) → under σ left ≡ Some a → IsMet σ (unknown.same left right) → under σ right ≡ Some a
-  met a is equal = equal.2 ∙ ap (λ t. Some t) (just (sym equal.1 ∙ is))
+  met a is equal = equal.2 ∙ ap (λ t. Some t) (same_some (sym equal.1 ∙ is))
 
   pub met_back : (a : Ground) → under σ right ≡ Some a → IsMet σ (unknown.same left right) → under σ left ≡ Some a
-  met_back a is equal = equal.1 ∙ ap (λ t. Some t) (just (sym equal.2 ∙ is))
+  met_back a is equal = equal.1 ∙ ap (λ t. Some t) (same_some (sym equal.2 ∙ is))

@@ -18,7 +18,7 @@ use Rattle.lk_types.specs.declared.ty.Variable.{Variable}
 use Rattle.lk_types.specs.declared.ty.Variable.TheVariants as variable
 use Rattle.lk_arena.proofs.RowAlgebra.{bool_cases}
 use Rattle.lk_unify.proofs.Instances.{PutsAt}
-use Rattle.lk_unify.proofs.SameVariable.{same_is}
+use Rattle.lk_types.proofs.SameVariable.{same_is}
 use Rattle.lk_unify.specs.Loading.{node_for}
 use Rattle.lk_arena.specs.Openings.{only_tail, only_effects_tail, row_type, effects_type}
 use Rattle.lk_unify.specs.Reading.{type_in, row_in, effects_in, value_or, opening_by, image_of, number_of, binding_by, subst_by}

@@ -6,6 +6,7 @@ use Rattle.std.specs.List.{filter}
 use Rattle.std.specs.Ordering.{eq_by_cmp}
 use Rattle.std.specs.Prelude.{is_some, cond}
 use Rattle.std.specs.Str.{bytes_eq}
+use Rattle.lk_types.proofs.LabelMaps.{labels_tie, labels_differ}
 use Rattle.lk_types.specs.Each.{OneOf}
 use Rattle.lk_types.specs.Rows.{Label, EffectSet, label_order}
 use Rattle.lk_types.specs.TypeText.{effect_word}
@@ -14,7 +15,6 @@ use Rattle.lk_types.specs.declared.ty.Effect.TheVariants.{Local, Move, Print, Re
 use Rattle.lk_types.specs.declared.ty.RowTail.{RowTail}
 use Rattle.lk_types.specs.declared.ty.Ty.{Ty}
 use Rattle.lk_arena.proofs.RowAlgebra.{RowFields, one_more, bool_cases, same_rows, label_cases}
-use Rattle.lk_arena.proofs.Sizes.{ties, no_ties}
 use Rattle.lk_arena.specs.Kinds.{IsEffectName}
 use Rattle.lk_arena.specs.Openings.{OpenRow, only_tail, unit_type}
 use Rattle.lk_unify.specs.Reading.{effects_in}
@@ -23,10 +23,10 @@ use Rattle.lk_arena.specs.Values.{effect_row}
 tie_cases : (a b : Label) → ((eq_by_cmp label_order a b ≡ true) × (a ≡ b)) ⊎ ((eq_by_cmp label_order a b ≡ false) × (a ≡ b → ⊥))
 tie_cases a b =
     ⊎_elim
-    (λ (e : (bytes_eq a b ≡ true) × (a ≡ b)). inl (ties a b e.1, e.1))
+    (λ (e : (bytes_eq a b ≡ true) × (a ≡ b)). inl (labels_tie a b e.1, e.1))
     (λ (e : bytes_eq a b ≡ false).
     let n : a ≡ b → ⊥ = λ same. (let t : false ≡ true = sym e ∙ (bytes_decides a b).1 same in cc) in
-    inr (no_ties a b n, n))
+    inr (labels_differ a b n, n))
     (label_cases a b)
 
 hit : (m : RowFields) (k : Label) (t : Ty) (l : Label) → eq_by_cmp label_order l k ≡ true → fin.get (fin.insert m k t) l ≡ Some t
@@ -69,14 +69,14 @@ get-none s [] l n = fin.get-empty label_order l
 get-none s (e ∷ es) l n =
     ⊎_elim
     (λ (h : s e ≡ true).
-    ap (λ m. fin.get m l) (taken s e es h) ∙ miss (row_of s es) (effect_word e) unit_type l (no_ties l (effect_word e) (n e h)) ∙ get-none s es l n)
+    ap (λ m. fin.get m l) (taken s e es h) ∙ miss (row_of s es) (effect_word e) unit_type l (labels_differ l (effect_word e) (n e h)) ∙ get-none s es l n)
     (λ (h : s e ≡ false). ap (λ m. fin.get m l) (left s e es h) ∙ get-none s es l n)
     (bool_cases (s e))
 
 get-some : (s : EffectSet) (es : List Effect) (l : Label) (x : Effect) → OneOf (λ e. e ≡ x) es → s x ≡ true → l ≡ effect_word x → fin.get (row_of s es) l ≡ Some unit_type
 get-some s [] l x o h is = absurd o
 get-some s (e ∷ es) l x (inl same) h is =
-    ap (λ m. fin.get m l) (taken s e es (ap s same ∙ h)) ∙ hit (row_of s es) (effect_word e) unit_type l (ties l (effect_word e) (is ∙ ap effect_word (sym same)))
+    ap (λ m. fin.get m l) (taken s e es (ap s same ∙ h)) ∙ hit (row_of s es) (effect_word e) unit_type l (labels_tie l (effect_word e) (is ∙ ap effect_word (sym same)))
 get-some s (e ∷ es) l x (inr o) h is =
     ⊎_elim
     (λ (t : s e ≡ true).

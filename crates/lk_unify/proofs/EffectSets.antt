@@ -5,6 +5,7 @@ use Rattle.std.specs.FinMap as fin
 use Rattle.std.specs.List.{filter}
 use Rattle.std.specs.Ordering.{eq_by_cmp}
 use Rattle.std.specs.Prelude.{is_some, cond, ◌==◌}
+use Rattle.lk_types.proofs.LabelMaps.{labels_tie, labels_differ}
 use Rattle.lk_types.specs.Each.{OneOf}
 use Rattle.lk_types.specs.Rows.{Label, EffectSet, label_order, effects_of}
 use Rattle.lk_types.specs.TypeText.{effect_word}
@@ -13,7 +14,6 @@ use Rattle.lk_types.specs.declared.ty.Effect.TheVariants.{Local, Move, Print, Re
 use Rattle.lk_types.specs.declared.ty.RowTail.{RowTail}
 use Rattle.lk_unify.proofs.EffectRows.{IsEffectRow, IsEffectRow-empty, IsEffectRow-insert, set_in}
 use Rattle.lk_arena.proofs.RowAlgebra.{RowFields}
-use Rattle.lk_arena.proofs.Sizes.{ties, no_ties}
 use Rattle.lk_arena.specs.Openings.{OpenRow, OpenEffects, unit_type}
 use Rattle.lk_arena.specs.Values.{effect_row}
 
@@ -70,7 +70,7 @@ found_in (e ∷ es) x o =
     by_test : (b : Bool) → eq_by_cmp label_order (effect_word x) (effect_word e) ≡ b → OneOf (λ e. e ≡ x) (e ∷ es) → (OneOf (λ e. e ≡ x) es → has_effect (map_of es) x ≡ true)
         → is_some (cond b (Some unit_type) (fin.get (map_of es) (effect_word x))) ≡ true
     by_test true is o below = refl
-    by_test false is (inl same) below = let f : false ≡ true = sym is ∙ ties (effect_word x) (effect_word e) (ap effect_word (sym same)) in cc
+    by_test false is (inl same) below = let f : false ≡ true = sym is ∙ labels_tie (effect_word x) (effect_word e) (ap effect_word (sym same)) in cc
     by_test false is (inr rest) below = below rest
 
 missing_in : (es : List Effect) (x : Effect) → (OneOf (λ e. e ≡ x) es → ⊥) → has_effect (map_of es) x ≡ false
@@ -78,7 +78,7 @@ unfolding map_of has_effect
 missing_in [] x n = ap is_some (fin.get-empty label_order (effect_word x))
 missing_in (e ∷ es) x n =
     ap is_some (fin.get-insert nat_list_cmp_total (map_of es) (effect_word e) unit_type (effect_word x)
-    ∙ ap (λ b. cond b (Some unit_type) (fin.get (map_of es) (effect_word x))) (no_ties (effect_word x) (effect_word e) (λ same. n (inl (sym (same_word x e same))))))
+    ∙ ap (λ b. cond b (Some unit_type) (fin.get (map_of es) (effect_word x))) (labels_differ (effect_word x) (effect_word e) (λ same. n (inl (sym (same_word x e same))))))
     ∙ missing_in es x (λ o. n (inr o))
 
 kept : (s : EffectSet) (x : Effect) (es : List Effect) → s x ≡ true → OneOf (λ e. e ≡ x) es → OneOf (λ e. e ≡ x) (filter s es)

@@ -60,7 +60,7 @@ module _ (es : List Equation) (o : OwnNodes es) (k : ℕ) (part : HasNodes (take
         (subst (λ ns. AreAllWithin end (take k ss) ns) (take-map (count 1) k types) (within_first end k ss (map (count 1) types) within)),
   )
 
-as_many : (cs : List Constraint) → length (equations_of cs) ≡ length cs
+pub as_many : (cs : List Constraint) → length (equations_of cs) ≡ length cs
 as_many [] = refl
 as_many (c ∷ cs) = ap suc (as_many cs)
 

@@ -1,5 +1,6 @@
 -- What is made of ground types is one: constructors, fields before a row, effects before a row of effects.
 use Rattle.std.proofs.Common.{◌≡◌, ℕ, true, List, [], ◌∷◌, map, refl, sym, ◌∙◌, ap, subst}
+use Rattle.lk_types.proofs.Members.{each_from_map}
 use Rattle.lk_types.specs.Each.{Each}
 use Rattle.lk_types.specs.Rows.{Row, EffectSet, no_fields, no_effects, effects_of, fields_of}
 use Rattle.std.specs.FinMap as fin
@@ -8,7 +9,7 @@ use Rattle.lk_types.specs.declared.ground.Ground.TheVariants as ground
 use Rattle.lk_types.specs.declared.ty.RowTail.TheVariants.{Closed}
 use Rattle.lk_types.specs.declared.ty.Ty.{Ty}
 use Rattle.lk_types.specs.declared.ty.Ty.TheVariants as ty
-use Rattle.lk_arena.proofs.EachLemmas.{Each-zip, Each-from_map}
+use Rattle.lk_arena.proofs.EachLemmas.{Each-zip}
 use Rattle.lk_unify.proofs.EffectRows.{IsEffectRow, its_effects}
 use Rattle.lk_unify.proofs.EffectSets.{same_set}
 use Rattle.lk_unify.proofs.OpenGround.{as_row-insert, as_row-empty, as_type-fields, as_type-tags, as_type-function}
@@ -167,7 +168,7 @@ module _ (kind : ℕ → Kind) (w : ℕ → Value) where
       let tail : (m : Row) × (w t ≡ OfRow (as_row m)) = subst (λ k. IsGroundOf k (w t)) h.1 parts.0 in
       row_ground fs w (w t) x tail.0 b tail.1
       (Each-zip (λ f. kind f.node ≡ OfTypes) (λ f. IsGroundOf (kind f.node) (w f.node)) (λ f. HasGround (w f.node)) (λ f e g. subst (λ k. IsGroundOf k (w f.node)) e g) fs h.0
-      (Each-from_map (λ p. IsGroundOf (kind p) (w p)) (λ f. f.node) fs parts.1))
+      (each_from_map (λ p. IsGroundOf (kind p) (w p)) (λ f. f.node) fs parts.1))
   built_ground OfEffects Free x h b has parts loose = absurd h
   built_ground OfEffects Open x h b has parts loose = no_effects_row x (loose refl)
   built_ground OfEffects Empty x h b has parts loose = no_effects_row x b

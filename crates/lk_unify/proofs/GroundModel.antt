@@ -3,11 +3,12 @@
 use Rattle.std.proofs.Common.{◌≡◌, ℕ, zero, suc, ◌<◌, true, false, List, length, None, refl, sym, ◌∙◌, ap, subst, arith}
 use Rattle.std.specs.FinMap as fin
 use Rattle.lk_classes.specs.Classes.{class_at}
+use Rattle.lk_types.proofs.Members.{each_weaker}
 use Rattle.lk_types.specs.Each.{Each}
 use Rattle.lk_types.specs.Rows.{label_order}
 use Rattle.lk_types.specs.declared.ty.RowTail.TheVariants.{Closed}
 use Rattle.lk_types.specs.declared.ty.Ty.TheVariants as ty
-use Rattle.lk_arena.proofs.EachLemmas.{Each-map, Each-zip}
+use Rattle.lk_arena.proofs.EachLemmas.{Each-zip}
 use Rattle.lk_unify.proofs.EffectRows.{IsEffectRow-empty}
 use Rattle.lk_unify.proofs.GroundMade.{least, built_ground}
 use Rattle.lk_unify.proofs.Models as models
@@ -68,7 +69,7 @@ module _ (shapes : List Shape) (classes : List ℕ) (rank : ℕ → ℕ) (ranked
       let under : r.tail ≡ only_tail Closed = row_same r.tail (only_tail Closed) (sym r.tail_is ∙ end) in
       let apart : Each (λ f. found_at flat.rest f.label ≡ None) flat.own = distinct_apart flat.own flat.rest (subst IsDistinct flat.fields_is flat.distinct) in
       subst (Each (λ f. fin.get (row_in (v t)).fields f.label ≡ None)) own
-      (Each-map (λ f. found_at flat.rest f.label ≡ None) (λ f. fin.get (row_in (v t)).fields f.label ≡ None)
+      (each_weaker (λ f. found_at flat.rest f.label ≡ None) (λ f. fin.get (row_in (v t)).fields f.label ≡ None)
       (λ f lacking.
       ap (λ i. fin.get (row_in (v i)).fields f.label) (sym first) ∙ ap (λ x. fin.get (row_in x).fields f.label) r.row_is ∙ r.at f.label
       ∙ ap (λ o. value_at v o (fin.get r.tail.fields f.label)) lacking ∙ ap (λ m. fin.get m.fields f.label) under ∙ fin.get-empty label_order f.label)

@@ -1,6 +1,7 @@
 -- What solves equations by ground types solves them by types, and the other way round.
 use Rattle.std.proofs.Common.{◌≡◌, List, [], ◌∷◌, Option, Some, None, refl, sym, ◌∙◌, ap}
 use Rattle.std.specs.Option.{option_map}
+use Rattle.lk_types.proofs.Parts.{same_some}
 use Rattle.lk_types.specs.Grounding.{Grounding, under}
 use Rattle.lk_types.specs.Solutions.{IsMet, Solves}
 use Rattle.lk_types.specs.declared.equation.Equation.{Equation}
@@ -9,9 +10,6 @@ use Rattle.lk_types.specs.declared.ty.Ty.{Ty}
 use Rattle.lk_unify.proofs.OpenAsGround.{type_as}
 use Rattle.lk_unify.proofs.OpenGround.{as_type-once}
 use Rattle.lk_arena.specs.Openings.{IsOpenMet, OpenSolves, as_type, as_opening, opened}
-
-some_is : {A : Type 0} {a b : A} → Some a ≡ Some b → a ≡ b
-some_is e = cc
 
 module _ (σ : Grounding) where
   pub open_meets : (e : Equation) → IsMet σ e → IsOpenMet (as_opening σ) e
@@ -22,7 +20,7 @@ module _ (σ : Grounding) where
     where
       by_value : (o : Option Ground) → under σ t ≡ o → option_map as_type (under σ t) ≡ Some u → (g : Ground) × (under σ t ≡ Some g) × (as_type g ≡ u)
       by_value None is e = let f : None ≡ Some u = sym (ap (option_map as_type) is) ∙ e in cc
-      by_value (Some g) is e = (g, is, some_is (sym (ap (option_map as_type) is) ∙ e))
+      by_value (Some g) is e = (g, is, same_some (sym (ap (option_map as_type) is) ∙ e))
 
   meets_ground : (e : Equation) → IsOpenMet (as_opening σ) e → IsMet σ e
   meets_ground e m =

@@ -1,6 +1,8 @@
 -- A substitution that puts for each variable what an opening does: its instances, and that they solve what the opening solves.
 use Rattle.std.proofs.Common.{◌≡◌, ℕ, List, [], ◌∷◌, ◌++◌, ◌⊎◌, inl, inr, Option, Some, None, refl, sym, ◌∙◌, ap, subst, arith}
 use Rattle.std.specs.Prelude.{IsSome}
+use Rattle.lk_types.proofs.Members.{each_front, each_back}
+use Rattle.lk_types.proofs.Parts.{same_some}
 use Rattle.lk_types.proofs.Unfold.{under_variable}
 use Rattle.lk_types.specs.Each.{Each}
 use Rattle.lk_types.specs.Grounding.{Grounding, under, row_under, effects_under}
@@ -14,7 +16,6 @@ use Rattle.lk_types.specs.declared.ty.Ty.{Ty}
 use Rattle.lk_types.specs.declared.ty.Ty.TheVariants as ty
 use Rattle.lk_types.specs.declared.ty.Variable.{Variable}
 use Rattle.lk_types.specs.declared.ty.Variable.TheVariants as variable
-use Rattle.lk_arena.proofs.EachLemmas.{Each-append_left, Each-append_right}
 use Rattle.lk_unify.proofs.OpenComposed.{type_composed}
 use Rattle.lk_unify.proofs.OpenRows.{only_tail-under}
 use Rattle.lk_arena.specs.Openings.{Opening, OpensTo, OpenSolves, IsOpenMet, only_tail, only_effects_tail, row_type, effects_type, opened}
@@ -29,9 +30,6 @@ PutsAt s ρ (variable.Row n) = Puts (row_image s n) (row_type (ρ.rows n)) (ρ.r
 PutsAt s ρ (variable.Effects n) = Puts (effects_image s n) (effects_type (ρ.effects n)) (ρ.effects n ≡ only_effects_tail (Var n))
 
 -- ---- what becomes of an image
-
-some_is : {A : Type 0} {a b : A} → Some a ≡ Some b → a ≡ b
-some_is e = cc
 
 becomes_own : {A B : Type 0} (value : A → Option B) (o : Option A) (own x : B) → o ≡ None → Becomes value o own x → x ≡ own
 becomes_own value o own x e b = subst (λ o. Becomes value o own x) e b
@@ -66,11 +64,11 @@ module _ (σ : Grounding) (s : Subst) (τ : Grounding) (ρ : Opening) where
   instance_opens (variable.Effects n) (inr p) at = becomes_image (effects_under τ) (effects_image s n) (effects_type (ρ.effects n)) (τ.effects n) (σ.effects n) p at
 
   pub opens_instance : (x : Variable) → PutsAt s ρ x → OpensTo τ ρ σ x → IsInstanceAt σ s τ x
-  opens_instance (variable.Plain n) (inl p) to = own_becomes (under τ) (plain_image s n) (τ.plain n) (σ.plain n) p.0 (some_is (sym to ∙ plain_stays τ ρ n p.1))
+  opens_instance (variable.Plain n) (inl p) to = own_becomes (under τ) (plain_image s n) (τ.plain n) (σ.plain n) p.0 (same_some (sym to ∙ plain_stays τ ρ n p.1))
   opens_instance (variable.Plain n) (inr p) to = image_becomes (under τ) (plain_image s n) (ρ.plain n) (τ.plain n) (σ.plain n) p to
-  opens_instance (variable.Row n) (inl p) to = own_becomes (row_under τ) (row_image s n) (τ.rows n) (σ.rows n) p.0 (some_is (sym to ∙ row_stays τ ρ n p.1))
+  opens_instance (variable.Row n) (inl p) to = own_becomes (row_under τ) (row_image s n) (τ.rows n) (σ.rows n) p.0 (same_some (sym to ∙ row_stays τ ρ n p.1))
   opens_instance (variable.Row n) (inr p) to = image_becomes (row_under τ) (row_image s n) (row_type (ρ.rows n)) (τ.rows n) (σ.rows n) p to
-  opens_instance (variable.Effects n) (inl p) to = own_becomes (effects_under τ) (effects_image s n) (τ.effects n) (σ.effects n) p.0 (some_is (sym to ∙ effects_stay τ ρ n p.1))
+  opens_instance (variable.Effects n) (inl p) to = own_becomes (effects_under τ) (effects_image s n) (τ.effects n) (σ.effects n) p.0 (same_some (sym to ∙ effects_stay τ ρ n p.1))
   opens_instance (variable.Effects n) (inr p) to = image_becomes (effects_under τ) (effects_image s n) (effects_type (ρ.effects n)) (τ.effects n) (σ.effects n) p to
 
   module _ (puts : (x : Variable) → PutsAt s ρ x) where
@@ -100,8 +98,8 @@ module _ (σ : Grounding) (s : Subst) (τ : Grounding) (ρ : Opening) where
     pub instance_solves : (es : List Equation) → OpenSolves ρ es → IsInstanceOn es σ s τ → Each (HasSides σ) es → Solves σ es
     instance_solves [] solves at sides = tt
     instance_solves (e ∷ es) solves at sides =
-        let lefts = Each-append_left (IsInstanceAt σ s τ) (variables_of e.left) (variables_of e.right ++ equation_variables es) at in
-        let more = Each-append_right (IsInstanceAt σ s τ) (variables_of e.left) (variables_of e.right ++ equation_variables es) at in
-        let rights = Each-append_left (IsInstanceAt σ s τ) (variables_of e.right) (equation_variables es) more in
-        let rest = Each-append_right (IsInstanceAt σ s τ) (variables_of e.right) (equation_variables es) more in
+        let lefts = each_front (IsInstanceAt σ s τ) (variables_of e.left) (variables_of e.right ++ equation_variables es) at in
+        let more = each_back (IsInstanceAt σ s τ) (variables_of e.left) (variables_of e.right ++ equation_variables es) at in
+        let rights = each_front (IsInstanceAt σ s τ) (variables_of e.right) (equation_variables es) more in
+        let rest = each_back (IsInstanceAt σ s τ) (variables_of e.right) (equation_variables es) more in
         (met e lefts rights solves.0 sides.0, instance_solves es solves.1 rest sides.1)

@@ -1,5 +1,5 @@
 -- The labels in a type, on each form of type: where the parts are in order, and the labels of the form itself, the whole is.
-use Rattle.std.proofs.Common.{◌≡◌, ℕ, Bool, true, false, ◌&&◌, List, [], ◌∷◌, ◌++◌, map, flat_map, refl, sym, ◌∙◌, ap, ap₂, subst}
+use Rattle.std.proofs.Common.{◌≡◌, ℕ, Bool, true, ◌&&◌, List, [], ◌∷◌, ◌++◌, map, flat_map, refl, sym, ◌∙◌, ap, ap₂, subst}
 use Rattle.std.proofs.lemmas.List.Kept.{IsStrictlySortedBy-filter}
 use Rattle.std.specs.FinMap as fin
 use Rattle.std.specs.List.{AllByRecursion}
@@ -8,6 +8,8 @@ use Rattle.std.specs.Ordering.{is_lt}
 use Rattle.std.specs.Prelude.{T}
 use Rattle.std.specs.declared.cmp.Ordering.{Ordering}
 use Rattle.std.specs.declared.cmp.Ordering.TheVariants.{Less, Equal, Greater}
+use Rattle.lk_types.proofs.LabelMaps.{first_holds, second_holds}
+use Rattle.lk_types.proofs.Members.{each_both}
 use Rattle.lk_types.specs.Each.{Each}
 use Rattle.lk_types.specs.Rows.{Label, EffectSet, label_order, effects_of}
 use Rattle.lk_types.specs.TypeText.{effect_word}
@@ -21,7 +23,6 @@ use Rattle.lk_types.specs.declared.ty.Ty.TheFolds.{the_lemmas}
 use Rattle.lk_types.specs.declared.ty.Ty.TheVariants as ty
 use Rattle.lk_types.specs.declared.ty.TyField.{TyField}
 use Rattle.lk_types.specs.declared.ty.TyRow.{TyRow, roll-TyRow}
-use Rattle.lk_arena.proofs.EachLemmas.{Each-append}
 use Rattle.lk_arena.specs.Openings.{OpenRow, OpenEffects, field_type, row_type, effects_type}
 use Rattle.lk_unify.specs.InOrder.{Labels, LabelledField, labels_in, labels_in_row, labels_in_field, AreSorted, IsInOrder}
 
@@ -99,14 +100,6 @@ less Less p = refl
 less Equal p = absurd p
 less Greater p = absurd p
 
-first : (a b : Bool) → T (a && b) → T a
-first true b p = tt
-first false b p = p
-
-second : (a b : Bool) → T (a && b) → T b
-second true b p = p
-second false b p = absurd p
-
 abbrev is_below : Label → Entries → Bool
 is_below l [] = true
 is_below l (e ∷ es) = is_lt (label_order l e.0) && is_below l es
@@ -114,13 +107,13 @@ is_below l (e ∷ es) = is_lt (label_order l e.0) && is_below l es
 labels_above : (l : Label) (es : Entries) → T (is_below l es) → AllByRecursion (λ k. label_order l k ≡ Less) (map (λ e. e.0) es)
 labels_above l [] h = tt
 labels_above l (e ∷ es) h =
-    (less (label_order l e.0) (first (is_lt (label_order l e.0)) (is_below l es) h), labels_above l es (second (is_lt (label_order l e.0)) (is_below l es) h))
+    (less (label_order l e.0) (first_holds (is_lt (label_order l e.0)) (is_below l es) h), labels_above l es (second_holds (is_lt (label_order l e.0)) (is_below l es) h))
 
 labels_sorted : (es : Entries) → T (fin.is_sorted label_order es) → AreSorted (map (λ e. e.0) es)
 unfolding IsStrictlySortedBy
 labels_sorted [] h = tt
 labels_sorted (e ∷ es) h =
-    (labels_above e.0 es (first (is_below e.0 es) (fin.is_sorted label_order es) h), labels_sorted es (second (is_below e.0 es) (fin.is_sorted label_order es) h))
+    (labels_above e.0 es (first_holds (is_below e.0 es) (fin.is_sorted label_order es) h), labels_sorted es (second_holds (is_below e.0 es) (fin.is_sorted label_order es) h))
 
 own_labels : (es : Entries) → map (λ (f : LabelledField). f.label) (map labels_in_field (map field_type es)) ≡ map (λ e. e.0) es
 own_labels [] = refl
@@ -129,7 +122,7 @@ own_labels (e ∷ es) = ap₂ (λ l ls. l ∷ ls) (ap (λ (f : LabelledField). f
 inside_sorted : (es : Entries) → Each IsEntryInOrder es → Each AreSorted (flat_map (λ (f : LabelledField). f.inside) (map labels_in_field (map field_type es)))
 inside_sorted [] h = tt
 inside_sorted (e ∷ es) h =
-    Each-append AreSorted (labels_in_field (field_type e)).inside (flat_map (λ (f : LabelledField). f.inside) (map labels_in_field (map field_type es)))
+    each_both AreSorted (labels_in_field (field_type e)).inside (flat_map (λ (f : LabelledField). f.inside) (map labels_in_field (map field_type es)))
     (subst (λ (f : LabelledField). Each AreSorted f.inside) (sym (field_labels-is (field_type e))) h.0) (inside_sorted es h.1)
 
 in_order_row : (m : OpenRow) → Each IsEntryInOrder (fin.entries m.fields) → Each AreSorted (labels_in_row (row_type m))
@@ -171,9 +164,9 @@ effects_sorted s = words_sorted (effects_of s) (IsStrictlySortedBy-filter effect
 
 params_sorted : (ts : List Ty) → Each IsInOrder ts → Each AreSorted (joined (map labels_in ts))
 params_sorted [] h = tt
-params_sorted (t ∷ ts) h = Each-append AreSorted (labels_in t) (joined (map labels_in ts)) h.0 (params_sorted ts h.1)
+params_sorted (t ∷ ts) h = each_both AreSorted (labels_in t) (joined (map labels_in ts)) h.0 (params_sorted ts h.1)
 
 pub in_order_function : (params : List Ty) (s : OpenEffects) (answer : Ty) → Each IsInOrder params → IsInOrder answer → IsInOrder (ty.Fun params (effects_type s) answer)
 in_order_function params s answer ps a =
     subst (Each AreSorted) (sym (function_labels params (effects_type s) answer))
-    (Each-append AreSorted (joined (map labels_in params)) (map effect_word (effects_of s.labels) ∷ labels_in answer) (params_sorted params ps) (effects_sorted s.labels, a))
+    (each_both AreSorted (joined (map labels_in params)) (map effect_word (effects_of s.labels) ∷ labels_in answer) (params_sorted params ps) (effects_sorted s.labels, a))

@@ -15,7 +15,6 @@ pub mod Grounded
 pub mod Instances
 pub mod Joined
 pub mod LabelLists
-pub mod LabelMaps
 pub mod LoadEffects
 pub mod LoadEquations
 pub mod LoadKinds
@@ -51,7 +50,6 @@ pub mod ReadSolution
 pub mod ReadVariables
 pub mod RowCounts
 pub mod RowsBefore
-pub mod SameVariable
 pub mod Shaping
 pub mod SideCounts
 pub mod SideTypes
@@ -59,7 +57,6 @@ pub mod Solved
 pub mod SolvedForm
 pub mod Solving
 pub mod TypeEntries
-pub mod TypeInduction
 pub mod ValueCounts
 pub mod ValueKinds
 pub mod Within

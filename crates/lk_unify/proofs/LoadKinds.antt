@@ -2,10 +2,11 @@
 use Rattle.std.proofs.Common.{◌≡◌, ◌≢◌, ℕ, ◌<◌, ◌≤◌, ⊎_elim, List, [], ◌∷◌, ◌++◌, length, map, refl, sym, ◌∙◌, ap, subst, arith, Option, Some, cond}
 use Rattle.std.proofs.lemmas.Bool.{cases_eq, eq-eqb, ne_eqb}
 use Rattle.std.specs.Prelude.{◌==◌}
+use Rattle.lk_types.proofs.Members.{each_weaker, each_from_map}
 use Rattle.lk_types.specs.Each.{Each}
 use Rattle.lk_arena.specs.Openings.{Opening}
-use Rattle.lk_arena.proofs.EachLemmas.{Each-map, Each-zip, Each-from_map}
-use Rattle.lk_arena.proofs.Growth.{old_shape, new_shape, old_class, new_class}
+use Rattle.lk_arena.proofs.EachLemmas.{Each-zip}
+use Rattle.lk_arena.proofs.Growth.{old_shape, new_shape, old_class, new_class, map-each}
 use Rattle.lk_unify.proofs.LoadSteps.{same_names, one_longer, added_below, more_to}
 use Rattle.lk_arena.specs.Kinds.{Kind, OfTypes, OfFields, OfEffects, OfUnit, OfNothing, TakesKinds, HasKind, IsEffectName, AreKinded}
 use Rattle.lk_unify.specs.Loading.{IsLoader, KindsTo, LoadsTo, Loads, Adds}
@@ -20,10 +21,6 @@ use Rattle.lk_arena.specs.declared.node.Shape.TheVariants.{Free, Open, Empty, Ma
 use Rattle.lk_arena.specs.declared.node.Shape.TheVariants as shape
 
 -- ---- a shape's kind speaks of its parts alone
-
-map-each : {A B : Type 0} (f g : A → B) (xs : List A) → Each (λ x. g x ≡ f x) xs → map f xs ≡ map g xs
-map-each f g [] e = refl
-map-each f g (x ∷ xs) e = let h = e.0 in let t = map-each f g xs e.1 in cc
 
 module _ (k j : ℕ → Kind) where
   is_unit : (h : Head) (ps : List ℕ) → Each (λ p. j p ≡ k p) ps → HasKind k OfUnit (Made h ps) → HasKind j OfUnit (Made h ps)
@@ -48,7 +45,7 @@ module _ (k j : ℕ → Kind) where
   HasKind-same OfFields Open e b = tt
   HasKind-same OfFields Empty e b = tt
   HasKind-same OfFields (shape.Row fs t) e b = (
-    Each-zip (λ f. k f.node ≡ OfTypes) (λ f. j f.node ≡ k f.node) (λ f. j f.node ≡ OfTypes) (λ f p q. q ∙ p) fs b.0 (Each-from_map (λ p. j p ≡ k p) (λ f. f.node) fs e.1),
+    Each-zip (λ f. k f.node ≡ OfTypes) (λ f. j f.node ≡ k f.node) (λ f. j f.node ≡ OfTypes) (λ f p q. q ∙ p) fs b.0 (each_from_map (λ p. j p ≡ k p) (λ f. f.node) fs e.1),
     e.0 ∙ b.1,
   )
   HasKind-same OfEffects Free e b = absurd b
@@ -57,7 +54,7 @@ module _ (k j : ℕ → Kind) where
   HasKind-same OfEffects Empty e b = tt
   HasKind-same OfEffects (shape.Row fs t) e b = (
     Each-zip (λ f. IsEffectName f.label × (k f.node ≡ OfUnit)) (λ f. j f.node ≡ k f.node) (λ f. IsEffectName f.label × (j f.node ≡ OfUnit)) (λ f p q. (p.0, q ∙ p.1)) fs b.0
-        (Each-from_map (λ p. j p ≡ k p) (λ f. f.node) fs e.1),
+        (each_from_map (λ p. j p ≡ k p) (λ f. f.node) fs e.1),
     e.0 ∙ b.1,
   )
   HasKind-same OfUnit Free e b = absurd b
@@ -144,7 +141,7 @@ module _ (b c : Loader) (s : Shape) (n : ℕ) (x : Kind) (whole : IsLoader b) (a
       subst (λ m. (j (class_at c.arena.classes m) ≡ j m) × HasKind j (j m) (shape_at c.arena.shapes m)) (sym e) (
         ap j class_new,
         subst (λ t. HasKind j (j n) t) (sym shape_new) (subst (λ y. HasKind j y s) (sym new_kind)
-            (HasKind-same k j x s (Each-map (λ p. p < length b.arena.shapes) (λ p. j p ≡ k p) (λ p l. old_kind p l) (parts_of s) parts) fits)),
+            (HasKind-same k j x s (each_weaker (λ p. p < length b.arena.shapes) (λ p. j p ≡ k p) (λ p l. old_kind p l) (parts_of s) parts) fits)),
       ))
       (λ (ne : i ≢ n).
       let low : i < length b.arena.shapes = (let l = one_longer b c s n whole add parts in let e = add.number in omega arith) in
@@ -152,7 +149,7 @@ module _ (b c : Loader) (s : Shape) (n : ℕ) (x : Kind) (whole : IsLoader b) (a
         ap j (class_old i low) ∙ old_kind (class_at b.arena.classes i) (whole.arena.named.below i low) ∙ old.0 ∙ sym (old_kind i low),
         subst (λ t. HasKind j (j i) t) (sym (shape_old i low)) (subst (λ y. HasKind j y (shape_at b.arena.shapes i)) (sym (old_kind i low))
             (HasKind-same k j (k i) (shape_at b.arena.shapes i)
-            (Each-map (λ p. p < length b.arena.shapes) (λ p. j p ≡ k p) (λ p l. old_kind p l) (parts_of (shape_at b.arena.shapes i)) (whole.arena.nodes i low)) old.1)),
+            (each_weaker (λ p. p < length b.arena.shapes) (λ p. j p ≡ k p) (λ p l. old_kind p l) (parts_of (shape_at b.arena.shapes i)) (whole.arena.nodes i low)) old.1)),
       ))
       (cases_eq i n)
 

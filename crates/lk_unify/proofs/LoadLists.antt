@@ -2,11 +2,11 @@
 use Rattle.std.proofs.Common.{◌≡◌, ℕ, zero, suc, ◌+◌, ◌<◌, List, [], ◌∷◌, ◌++◌, length, map, get_or, take, refl, sym, ◌∙◌, ap, subst, arith, Option, Some, None}
 use Rattle.std.proofs.lemmas.List.{map-append, take_more}
 use Rattle.std.specs.Option.{option_map}
+use Rattle.lk_types.proofs.Members.{each_both, each_front, each_back, each_weaker}
 use Rattle.lk_types.specs.Each.{Each}
 use Rattle.lk_types.specs.Grounding.{all_of}
 use Rattle.lk_types.specs.declared.ty.Ty.{Ty}
 use Rattle.lk_types.specs.declared.ty.TyField.{TyField}
-use Rattle.lk_arena.proofs.EachLemmas.{Each-map, Each-append, Each-append_left, Each-append_right}
 use Rattle.lk_unify.proofs.LoadKinds.{kinds_nothing, kinds_both, kinds_as}
 use Rattle.lk_unify.proofs.LoadSteps.{both, loads_nothing, loads_both, loads_as}
 use Rattle.lk_arena.specs.Kinds.{OfTypes}
@@ -65,11 +65,11 @@ module _ (a b c : Loader) (ts : List Ty) (i : ℕ) (t : Ty) (ns : List ℕ) (n :
   loads_types_more =
       subst (λ xs. LoadsAll a c (types_meaning xs) (ns ++ n ∷ [])) (sym (take_more ts i t h ∙ ap (λ x. take i ts ++ x ∷ []) (sym is)))
       (record {
-        below = Each-append (λ k. k < length c.arena.shapes) ns (n ∷ [])
-            (Each-map (λ k. k < length b.arena.shapes) (λ k. k < length c.arena.shapes) (λ k q. (let z = m.to.longer in omega arith)) ns l.below) (m.below, tt);
+        below = each_both (λ k. k < length c.arena.shapes) ns (n ∷ [])
+            (each_weaker (λ k. k < length b.arena.shapes) (λ k. k < length c.arena.shapes) (λ k q. (let z = m.to.longer in omega arith)) ns l.below) (m.below, tt);
         kinds = kinds_as a c (λ j. Each (λ n. j n ≡ OfTypes) ns × (j n ≡ OfTypes)) (λ j. Each (λ n. j n ≡ OfTypes) (ns ++ n ∷ []))
-            (λ j p. Each-append (λ n. j n ≡ OfTypes) ns (n ∷ []) p.0 (p.1, tt))
-            (λ j p. (Each-append_left (λ n. j n ≡ OfTypes) ns (n ∷ []) p, (Each-append_right (λ n. j n ≡ OfTypes) ns (n ∷ []) p).0))
+            (λ j p. each_both (λ n. j n ≡ OfTypes) ns (n ∷ []) p.0 (p.1, tt))
+            (λ j p. (each_front (λ n. j n ≡ OfTypes) ns (n ∷ []) p, (each_back (λ n. j n ≡ OfTypes) ns (n ∷ []) p).0))
             (kinds_both a b c (λ j. Each (λ n. j n ≡ OfTypes) ns) (λ j. j n ≡ OfTypes) l.to.longer m.to.longer l.kinds m.kinds);
         to = types_next;
       })
@@ -96,12 +96,12 @@ module _ (a b c : Loader) (fs : List TyField) (i : ℕ) (f : TyField) (fields : 
   loads_fields_more =
       subst (λ xs. LoadsFields a c xs (fields ++ g ∷ [])) (sym (take_more fs i f h ∙ ap (λ x. take i fs ++ x ∷ []) (sym is)))
       (record {
-        below = Each-append (λ f. f.node < length c.arena.shapes) fields (g ∷ [])
-            (Each-map (λ f. f.node < length b.arena.shapes) (λ f. f.node < length c.arena.shapes) (λ k q. (let z = m.to.longer in omega arith)) fields l.below) (m.below, tt);
+        below = each_both (λ f. f.node < length c.arena.shapes) fields (g ∷ [])
+            (each_weaker (λ f. f.node < length b.arena.shapes) (λ f. f.node < length c.arena.shapes) (λ k q. (let z = m.to.longer in omega arith)) fields l.below) (m.below, tt);
         labels = map-append (λ f. f.label) fields (g ∷ []) ∙ (λ j. l.labels j ++ label j ∷ []) ∙ sym (map-append (λ f. f.label) (take i fs) (f ∷ []));
         kinds = kinds_as a c (λ j. Each (λ f. j f.node ≡ OfTypes) fields × (j g.node ≡ OfTypes)) (λ j. Each (λ f. j f.node ≡ OfTypes) (fields ++ g ∷ []))
-            (λ j p. Each-append (λ f. j f.node ≡ OfTypes) fields (g ∷ []) p.0 (p.1, tt))
-            (λ j p. (Each-append_left (λ f. j f.node ≡ OfTypes) fields (g ∷ []) p, (Each-append_right (λ f. j f.node ≡ OfTypes) fields (g ∷ []) p).0))
+            (λ j p. each_both (λ f. j f.node ≡ OfTypes) fields (g ∷ []) p.0 (p.1, tt))
+            (λ j p. (each_front (λ f. j f.node ≡ OfTypes) fields (g ∷ []) p, (each_back (λ f. j f.node ≡ OfTypes) fields (g ∷ []) p).0))
             (kinds_both a b c (λ j. Each (λ f. j f.node ≡ OfTypes) fields) (λ j. j g.node ≡ OfTypes) l.to.longer m.to.longer l.kinds m.kinds);
         to = fields_next;
       })

@@ -1,9 +1,11 @@
 -- A node for fields before the end of a row, and for the end alone.
-use Rattle.std.proofs.Common.{◌≡◌, ◌≢◌, ℕ, ◌<◌, Bool, true, false, ◌⊎◌, inl, inr, ⊎_elim, List, [], ◌∷◌, length, map, refl, sym, ◌∙◌, ap, subst, arith, Option, Some, None}
+use Rattle.std.proofs.Common.{◌≡◌, ◌≢◌, ℕ, ◌<◌, true, false, ◌⊎◌, ⊎_elim, List, [], ◌∷◌, length, map, refl, sym, ◌∙◌, ap, subst, arith, Option, Some, None}
 use Rattle.std.specs.FinMap as fin
 use Rattle.std.specs.Option.{option_map}
 use Rattle.std.specs.Prelude.{is_some}
 use Rattle.std.specs.Str.{bytes_eq}
+use Rattle.lk_types.proofs.Members.{each_weaker, each_to_map}
+use Rattle.lk_types.proofs.Parts.{mapped}
 use Rattle.lk_types.specs.Each.{Each}
 use Rattle.lk_types.specs.Grounding.{all_of}
 use Rattle.lk_types.specs.Rows.{Label}
@@ -18,14 +20,14 @@ use Rattle.lk_types.specs.declared.ty.TyField.{TyField}
 use Rattle.lk_types.specs.declared.ty.TyRow.{TyRow, out-TyRow, roll-TyRow}
 use Rattle.lk_types.specs.declared.ty.Variable.{Variable}
 use Rattle.lk_types.specs.declared.ty.Variable.TheVariants as variable
-use Rattle.lk_arena.proofs.EachLemmas.{Each-map, Each-to_map}
 use Rattle.lk_unify.proofs.LoadEffects.{known_effect, before_effect_row}
+use Rattle.lk_arena.proofs.Distinct.{lacks}
 use Rattle.lk_arena.proofs.Growth.{HasFields-some}
 use Rattle.lk_unify.proofs.LoadKinds.{kinds_nothing, kinds_both, kinds_behind, loads_more}
-use Rattle.lk_unify.proofs.LoadSteps.{some_once, mapped, none_of, both, both_some, loads_nothing, loads_both, loads_as}
+use Rattle.lk_unify.proofs.LoadSteps.{some_once, none_of, both, both_some, loads_nothing, loads_both, loads_as}
 use Rattle.lk_unify.proofs.OpenUnfold.{opened_row}
 use Rattle.lk_arena.proofs.RowAlgebra.{label_cases, found_below, row_same}
-use Rattle.lk_unify.proofs.RowsBefore.{AreKnown, before_is, before_some, before_once, with_one, hit, miss, lacks}
+use Rattle.lk_unify.proofs.RowsBefore.{AreKnown, before_is, before_some, before_once, with_one, hit, miss}
 use Rattle.lk_arena.proofs.Sizes.{no_entries}
 use Rattle.lk_arena.specs.Kinds.{Kind, OfTypes, OfFields, OfEffects, OfUnit, OfNothing, HasKind, IsEffectName}
 use Rattle.lk_unify.specs.Loading.{LoadsEnd, KindsTo, IsEndOf, kind_of, value_of, IsLoader, LoadsTo, Loads, LoadsFields, Loaded, Adds, AddsRow, NeverMeans, type_meaning, fields_meaning, row_meaning, effects_meaning, end_value, effect_fields}
@@ -42,10 +44,6 @@ cons_once : {A : Type 0} (a b : A) (xs ys : List A) → a ∷ xs ≡ b ∷ ys �
 cons_once a b xs ys e = (cc, cc)
 
 -- ---- a row that becomes something has no label twice
-
-either : (b : Bool) → (b ≡ true) ⊎ (b ≡ false)
-either true = inl refl
-either false = inr refl
 
 absent : (fs : List Field) (ks : List Opened) (y m : OpenRow) (l : Label) → map (λ f. f.label) fs ≡ map (λ k. k.0) ks → before_open ks y ≡ Some m
     → fin.get m.fields l ≡ None → found_at fs l ≡ None
@@ -101,7 +99,7 @@ module _ {A : Type 0} (a b c : Loader) (m : Opening → Option A) (r : (ℕ → 
 
   pub loads_row : Loads a c kind n k
   loads_row =
-      loads_more a b c m r (shape.Row fields tail) k n l add (tail_below, Each-to_map (λ k. k < length b.arena.shapes) (λ (f : Field). f.node) fields below) distinct (HasFields-some fields tail some) P kind kinds fits
+      loads_more a b c m r (shape.Row fields tail) k n l add (tail_below, each_to_map (λ k. k < length b.arena.shapes) (λ (f : Field). f.node) fields below) distinct (HasFields-some fields tail some) P kind kinds fits
       row_says row_builds
 
 -- ---- ends
@@ -190,7 +188,7 @@ module _ (r : TyRow) where
       ((s.0, end_value (tail_variable variable.Row (out-TyRow r).tail) ρ), ap (λ o. both o (end_meaning ρ)) s.1))
       (loads_both a b c (fields_meaning fs) (λ v. map (λ f. v f.node) fields) end_meaning (λ v. v tail) l.to e.to)
       add e.below
-      (Each-map (λ f. f.node < length b.arena.shapes) (λ f. f.node < length c.arena.shapes) (λ f h. (let z = e.to.longer in omega arith)) fields l.below)
+      (each_weaker (λ f. f.node < length b.arena.shapes) (λ f. f.node < length c.arena.shapes) (λ f h. (let z = e.to.longer in omega arith)) fields l.below)
       some distinct (λ j. Each (λ f. j f.node ≡ OfTypes) fields × (j tail ≡ OfFields)) OfFields
       (kinds_both a b c (λ j. Each (λ f. j f.node ≡ OfTypes) fields) (λ j. j tail ≡ OfFields) l.to.longer e.to.longer l.kinds e.kinds) (λ j p. p)
 

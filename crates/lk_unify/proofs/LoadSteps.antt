@@ -2,6 +2,7 @@
 use Rattle.std.proofs.Common.{[], ◌∷◌, ◌++◌, ◌≡◌, ℕ, ◌+◌, ◌<◌, List, length, refl, sym, ◌∙◌, ap, subst, arith, Option, Some, None}
 use Rattle.std.specs.Map.{lookup}
 use Rattle.std.specs.Option.{option_map}
+use Rattle.lk_types.proofs.Parts.{mapped}
 use Rattle.lk_types.specs.Each.{Each}
 use Rattle.lk_arena.specs.Openings.{Opening}
 use Rattle.lk_types.specs.Variables.{same_variable}
@@ -20,10 +21,6 @@ use Rattle.lk_arena.specs.declared.node.Shape.{Shape}
 
 pub some_once : {A : Type 0} (a b : A) → Some a ≡ Some b → a ≡ b
 some_once a b e = cc
-
-pub mapped : {A B : Type 0} (f : A → B) (o : Option A) (x : B) → option_map f o ≡ Some x → (a : A) × (o ≡ Some a) × (x ≡ f a)
-mapped f None x e = cc
-mapped f (Some a) x e = (a, refl, sym (some_once (f a) x e))
 
 pub none_of : {A : Type 0} (o : Option A) → ((a : A) → o ≡ Some a → ⊥) → o ≡ None
 none_of None n = refl

@@ -1,17 +1,19 @@
 -- A node for a constructor on what stands for its parts.
 use Rattle.std.proofs.Common.{◌≡◌, ℕ, ◌<◌, List, [], ◌∷◌, length, map, refl, sym, ◌∙◌, ap, subst, arith, Option, Some, None}
 use Rattle.std.specs.Option.{option_map}
+use Rattle.lk_types.proofs.Members.{each_weaker, each_to_map}
+use Rattle.lk_types.proofs.Parts.{mapped}
 use Rattle.lk_types.specs.Each.{Each}
 use Rattle.lk_types.specs.Grounding.{all_of}
 use Rattle.lk_types.specs.declared.ty.Effects.{Effects}
 use Rattle.lk_types.specs.declared.ty.Ty.{Ty}
 use Rattle.lk_types.specs.declared.ty.Ty.TheVariants as ty
 use Rattle.lk_types.specs.declared.ty.TyRow.{TyRow}
-use Rattle.lk_arena.proofs.EachLemmas.{Each-map, Each-to_map}
 use Rattle.lk_unify.proofs.EffectSets.{same_set}
 use Rattle.lk_unify.proofs.LoadKinds.{kinds_nothing, kinds_both, loads_more}
-use Rattle.lk_unify.proofs.LoadSteps.{some_once, mapped, none_of, both, both_some, loads_nothing, loads_both, loads_as}
+use Rattle.lk_unify.proofs.LoadSteps.{some_once, none_of, both, both_some, loads_nothing, loads_both, loads_as}
 use Rattle.lk_unify.proofs.OpenUnfold.{opened_int, opened_bool, opened_text, opened_list, opened_fields, opened_tags, opened_function, opened_variable}
+use Rattle.lk_arena.proofs.Heads.{plain_injective}
 use Rattle.lk_arena.specs.Kinds.{Kind, OfTypes, OfFields, OfEffects, TakesKinds}
 use Rattle.lk_unify.specs.Loading.{IsLoader, Loads, LoadsAll, Loaded, Adds, AddsFunction, NeverMeans, type_meaning, types_meaning, row_meaning, effects_meaning}
 use Rattle.lk_arena.specs.Openings.{OpenEffects, Opening, opened, row_opened, effects_opened, open_function, row_type, effects_type}
@@ -107,9 +109,6 @@ all_plain f (x ∷ xs) = by_first (f x) (all_plain f xs)
     by_first None is = refl
     by_first (Some a) is = ap (option_map (λ more. Plain a ∷ more)) is ∙ plain_front a (all_of (map f xs))
 
-plain_once : (s t : Ty) → Plain s ≡ Plain t → s ≡ t
-plain_once s t e = cc
-
 cons_once : {A : Type 0} (a b : A) (xs ys : List A) → a ∷ xs ≡ b ∷ ys → (a ≡ b) × (xs ≡ ys)
 cons_once a b xs ys e = (cc, cc)
 
@@ -119,7 +118,7 @@ plains_once [] (t ∷ ts) e = cc
 plains_once (s ∷ ss) [] e = cc
 plains_once (s ∷ ss) (t ∷ ts) e =
     let c = cons_once (Plain s) (Plain t) (map Plain ss) (map Plain ts) e in
-    (λ i. plain_once s t c.0 i ∷ plains_once ss ts c.1 i)
+    (λ i. plain_injective s t c.0 i ∷ plains_once ss ts c.1 i)
 
 function_some : (o : Option (List Ty)) (p : Option OpenEffects) (q : Option Ty) (g : Ty) → open_function o p q ≡ Some g
     → (ts : List Ty) × (s : OpenEffects) × (t : Ty) × (o ≡ Some ts) × (p ≡ Some s) × (q ≡ Some t) × (g ≡ ty.Fun ts (effects_type s) t)
@@ -177,14 +176,14 @@ module _ (params : List Ty) (es : Effects) (answer : Ty) where
         h.below,
         (
           (let n = f.below in let x = g.to.longer in let y = h.to.longer in omega arith),
-          Each-map (λ k. k < length c.arena.shapes) (λ k. k < length d.arena.shapes) (λ k q. (let y = h.to.longer in omega arith)) others g.below,
+          each_weaker (λ k. k < length c.arena.shapes) (λ k. k < length d.arena.shapes) (λ k q. (let y = h.to.longer in omega arith)) others g.below,
         ),
       )
       tt tt
       (λ j. ((j second ≡ OfTypes) × Each (λ n. j n ≡ OfTypes) others) × (j first ≡ OfEffects)) OfTypes
       (kinds_both a c d (λ j. (j second ≡ OfTypes) × Each (λ n. j n ≡ OfTypes) others) (λ j. j first ≡ OfEffects) (let x = f.to.longer in let y = g.to.longer in omega arith) h.to.longer
       (kinds_both a b c (λ j. j second ≡ OfTypes) (λ j. Each (λ n. j n ≡ OfTypes) others) f.to.longer g.to.longer f.kinds g.kinds) h.kinds)
-      (λ j p. (p.1, p.0.0, Each-to_map (λ k. k ≡ OfTypes) j others p.0.1))
+      (λ j p. (p.1, p.0.0, each_to_map (λ k. k ≡ OfTypes) j others p.0.1))
       (λ v x ρ is built. function_says x (v first) (v second) (map v others) ρ is built)
       (λ x ρ is.
       let y = function_builds x ρ is in

@@ -1,15 +1,16 @@
 -- The node of a variable.
-use Rattle.std.proofs.Common.{◌≡◌, ℕ, ◌+◌, ◌<◌, Bool, true, false, ◌⊎◌, inl, inr, ⊎_elim, length, refl, sym, ◌∙◌, ap, subst, arith, Some, None, cond}
+use Rattle.std.proofs.Common.{◌≡◌, ℕ, ◌+◌, ◌<◌, true, false, ◌⊎◌, inl, inr, ⊎_elim, length, refl, sym, ◌∙◌, ap, subst, arith, Some, None, cond}
 use Rattle.std.specs.BTreeMap.{get, is_at}
 use Rattle.std.specs.Map.{lookup}
 use Rattle.lk_types.specs.Each.{Each}
+use Rattle.lk_arena.proofs.RowAlgebra.{bool_cases}
 use Rattle.lk_arena.specs.Openings.{Opening}
 use Rattle.lk_types.specs.Variables.{same_variable}
 use Rattle.lk_types.specs.contracts.ty.VariableOrd.TheImpl.{cmp-value}
 use Rattle.lk_types.specs.declared.ty.Variable.{Variable}
 use Rattle.lk_types.specs.declared.ty.Variable.TheVariants as variable
 use Rattle.lk_unify.proofs.LoadKinds.{put, old_kind, new_kind, kinded_nodes}
-use Rattle.lk_unify.proofs.SameVariable.{agrees, test_is, same_is, same_self}
+use Rattle.lk_types.proofs.SameVariable.{agrees, test_is, same_is, same_self}
 use Rattle.lk_unify.proofs.LoadSteps.{some_once, one_longer, same_names, added_below, added_back, added_node, added_arena}
 use Rattle.lk_arena.specs.Kinds.{Kind, HasKind, AreKinded}
 use Rattle.lk_unify.specs.Loading.{KindsTo, kind_of, node_for, value_of, shape_for, IsLoader, Loads, Adds}
@@ -68,10 +69,6 @@ loads_known l x n whole is = record {
 
 -- ---- a variable that gets one
 
-either : (b : Bool) → (b ≡ true) ⊎ (b ≡ false)
-either true = inl refl
-either false = inr refl
-
 module _ (b c d : Loader) (x : Variable) (k : ℕ) (whole : IsLoader b) (none : node_for b x ≡ None) (add : Adds b c (shape_for x) k) (arena : d.arena ≡ c.arena)
     (names : (q : Variable) → get cmp-value.it d.names q ≡ cond (is_at (cmp-value.it x) q) (Some k) (get cmp-value.it c.names q)) where
   parts : Each (λ p. p < length b.arena.shapes) (parts_of (shape_for x))
@@ -91,14 +88,14 @@ module _ (b c d : Loader) (x : Variable) (k : ℕ) (whole : IsLoader b) (none : 
       ⊎_elim
       (λ (t : same_variable x q ≡ true). inl (same_is x q t, some_once n k (sym e ∙ now_named q ∙ ap (λ t. cond t (Some k) (node_for b q)) t)))
       (λ (f : same_variable x q ≡ false). inr (sym (ap (λ t. cond t (Some k) (node_for b q)) f) ∙ sym (now_named q) ∙ e))
-      (either (same_variable x q))
+      (bool_cases (same_variable x q))
 
   kept_names : (q : Variable) (n : ℕ) → node_for b q ≡ Some n → node_for d q ≡ Some n
   kept_names q n e =
       ⊎_elim
       (λ (t : same_variable x q ≡ true). (let h : None ≡ Some n = sym none ∙ ap (node_for b) (same_is x q t) ∙ e in cc))
       (λ (f : same_variable x q ≡ false). now_named q ∙ ap (λ t. cond t (Some k) (node_for b q)) f ∙ e)
-      (either (same_variable x q))
+      (bool_cases (same_variable x q))
 
   longer : length d.arena.shapes ≡ length b.arena.shapes + 1
   longer = ap (λ a. length a.shapes) arena ∙ one_longer b c (shape_for x) k whole add parts

@@ -2,12 +2,12 @@
 use Rattle.std.proofs.Common.{◌≡◌, ℕ, zero, suc, ◌+◌, ◌<◌, ◌≤◌, List, [], ◌∷◌, ◌++◌, ◌⊎◌, inl, inr, ⊎_elim, length, take, get_or, refl, sym, subst, ◌∙◌, ap, arith}
 use Rattle.std.proofs.lemmas.List.{take_more}
 use Rattle.std.specs.Prelude.{IsSome}
+use Rattle.lk_types.proofs.Members.{each_both, each_front, each_back}
 use Rattle.lk_types.specs.Each.{Each}
 use Rattle.lk_types.specs.Solutions.{HasSolution}
 use Rattle.lk_types.specs.Variables.{variables_of, equation_variables}
 use Rattle.lk_types.specs.declared.equation.Equation.{Equation}
 use Rattle.lk_types.specs.declared.ty.Variable.{Variable}
-use Rattle.lk_arena.proofs.EachLemmas.{Each-append, Each-append_left, Each-append_right}
 use Rattle.lk_unify.proofs.Grounded.{open_solves}
 use Rattle.lk_unify.proofs.Solving.{bound_still}
 use Rattle.lk_arena.specs.Kinds.{Kind, OfTypes}
@@ -23,10 +23,10 @@ pub variables_first : (P : Variable → Type 0) (k : ℕ) (es : List Equation) �
 variables_first P zero es all = tt
 variables_first P (suc k) [] all = tt
 variables_first P (suc k) (e ∷ es) all =
-    let right = Each-append_right P (variables_of e.left) (variables_of e.right ++ equation_variables es) all in
-    Each-append P (variables_of e.left) (variables_of e.right ++ equation_variables (take k es)) (Each-append_left P (variables_of e.left) (variables_of e.right ++ equation_variables es) all)
-    (Each-append P (variables_of e.right) (equation_variables (take k es)) (Each-append_left P (variables_of e.right) (equation_variables es) right)
-    (variables_first P k es (Each-append_right P (variables_of e.right) (equation_variables es) right)))
+    let right = each_back P (variables_of e.left) (variables_of e.right ++ equation_variables es) all in
+    each_both P (variables_of e.left) (variables_of e.right ++ equation_variables (take k es)) (each_front P (variables_of e.left) (variables_of e.right ++ equation_variables es) all)
+    (each_both P (variables_of e.right) (equation_variables (take k es)) (each_front P (variables_of e.right) (equation_variables es) right)
+    (variables_first P k es (each_back P (variables_of e.right) (equation_variables es) right)))
 
 pub each_first : {A : Type 0} (P : A → Type 0) (k : ℕ) (xs : List A) → Each P xs → Each P (take k xs)
 each_first P zero xs all = tt
@@ -70,10 +70,10 @@ module _ (old new : Loader) (e : Equation) (node : ℕ) (adds : AddsEquation old
     whole = adds.whole;
     back = λ v ρ fits agrees.
         let was = adds.back v ρ fits agrees in
-        Each-append (IsOpenMet ρ) es (e ∷ []) (says.back v ρ was.0 was.1) ((adds.met v ρ fits agrees).0, tt);
+        each_both (IsOpenMet ρ) es (e ∷ []) (says.back v ρ was.0 was.1) ((adds.met v ρ fits agrees).0, tt);
     forth = λ ρ solves.
-        let v = says.forth ρ (Each-append_left (IsOpenMet ρ) es (e ∷ []) solves) in
-        adds.forth v.0 ρ v.1 v.2 (Each-append_right (IsOpenMet ρ) es (e ∷ []) solves).0;
+        let v = says.forth ρ (each_front (IsOpenMet ρ) es (e ∷ []) solves) in
+        adds.forth v.0 ρ v.1 v.2 (each_back (IsOpenMet ρ) es (e ∷ []) solves).0;
   }
 
 -- ---- the list
@@ -153,8 +153,8 @@ loaded_more old new sides es k e node below at loaded adds = record {
 pub loaded_stops : (l : Loader) (sides : List ℕ) (es : List Equation) (k : ℕ) (e : Equation) → k < length es → e ≡ get_or es k e → AreLoaded l sides es k → NeverMeets l e → HasSolution (take (k + 1) es) → ⊥
 loaded_stops l sides es k e below at loaded never solution =
     let solves : OpenSolves (as_opening solution.0) (take k es ++ e ∷ []) = subst (OpenSolves (as_opening solution.0)) (taken es k e below at) (open_solves solution.0 (take (k + 1) es) solution.1) in
-    let v = loaded.says.forth (as_opening solution.0) (Each-append_left (IsOpenMet (as_opening solution.0)) (take k es) (e ∷ []) solves) in
-    never v.0 (as_opening solution.0) v.1 v.2 (Each-append_right (IsOpenMet (as_opening solution.0)) (take k es) (e ∷ []) solves).0
+    let v = loaded.says.forth (as_opening solution.0) (each_front (IsOpenMet (as_opening solution.0)) (take k es) (e ∷ []) solves) in
+    never v.0 (as_opening solution.0) v.1 v.2 (each_back (IsOpenMet (as_opening solution.0)) (take k es) (e ∷ []) solves).0
 
 pub loaded_never : (l : Loader) (sides : List ℕ) (es : List Equation) (k : ℕ) (e : Equation) → k < length es → e ≡ get_or es k e → AreLoaded l sides es k → NeverMeets l e → HasSolution es → ⊥
 loaded_never l sides es k e below at loaded never solution = loaded_stops l sides es k e below at loaded never (solution.0, each_first (IsMet solution.0) (k + 1) es solution.1)

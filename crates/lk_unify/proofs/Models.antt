@@ -2,9 +2,10 @@
 -- values of the others follow by their ranks. They fit where no row gets a label twice.
 use Rattle.std.proofs.Common.{◌≡◌, ℕ, zero, suc, ◌<◌, true, List, length, None, refl, sym, ◌∙◌, ap, subst, arith}
 use Rattle.std.specs.FinMap as fin
+use Rattle.lk_types.proofs.Members.{each_weaker}
 use Rattle.lk_types.specs.Each.{Each}
 use Rattle.lk_types.specs.declared.ty.Ty.TheVariants as ty
-use Rattle.lk_arena.proofs.EachLemmas.{Each-map, Each-zip}
+use Rattle.lk_arena.proofs.EachLemmas.{Each-zip}
 use Rattle.lk_unify.proofs.Shaping.{of_shape, of_shape-same, of_shape-loose, HasValue, IsFresh, IsChosen, node_well}
 use Rattle.lk_arena.specs.Kinds.{Kind, AreKinded}
 use Rattle.lk_arena.specs.Order.{IsRanked}
@@ -38,7 +39,7 @@ module _ (shapes : List Shape) (classes : List ℕ) (kind : ℕ → Kind) (rank 
   stable (suc n) zero i b h k = absurd (omega arith)
   stable (suc n) (suc m) i b h k =
       of_shape-same (shape_at shapes (class_at classes i)) (w (class_at classes i)) (value n) (value m)
-      (Each-map (λ p. (rank (class_at classes p) < rank (class_at classes i)) × (p < length shapes)) (λ p. value n p ≡ value m p)
+      (each_weaker (λ p. (rank (class_at classes p) < rank (class_at classes i)) × (p < length shapes)) (λ p. value n p ≡ value m p)
       (λ p a. let r : rank (class_at classes p) < rank (class_at classes i) = a.0 in stable n m p a.1 (omega arith) (omega arith))
       (parts_of (shape_at shapes (class_at classes i))) (parts i b))
 
@@ -49,7 +50,7 @@ module _ (shapes : List Shape) (classes : List ℕ) (kind : ℕ → Kind) (rank 
   unfolding v value
   v_is i b =
       of_shape-same (shape_at shapes (class_at classes i)) (w (class_at classes i)) (value (rank (class_at classes i))) v
-      (Each-map (λ p. (rank (class_at classes p) < rank (class_at classes i)) × (p < length shapes)) (λ p. value (rank (class_at classes i)) p ≡ v p)
+      (each_weaker (λ p. (rank (class_at classes p) < rank (class_at classes i)) × (p < length shapes)) (λ p. value (rank (class_at classes i)) p ≡ v p)
       (λ p a. stable (rank (class_at classes i)) (suc (rank (class_at classes p))) p a.1 a.0 (omega arith))
       (parts_of (shape_at shapes (class_at classes i))) (parts i b))
 

@@ -3,6 +3,7 @@ use Rattle.std.proofs.Common.{◌≡◌, List, [], ◌∷◌, map, refl, sym, �
 use Rattle.std.specs.FinMap as fin
 use Rattle.std.specs.Option.{option_map}
 use Rattle.std.specs.Prelude.{is_some, if◌then◌else◌}
+use Rattle.lk_types.proofs.Parts.{row_rolled}
 use Rattle.lk_types.proofs.Unfold.{under_int, under_bool, under_text, under_list, under_fields, under_tags, under_function, under_variable}
 use Rattle.lk_types.specs.Each.{Each}
 use Rattle.lk_types.specs.Grounding.{Grounding, under, row_under, before_row, row_tail, effect_tail, effects_under, before_effects, all_of, function_of}
@@ -17,10 +18,9 @@ use Rattle.lk_types.specs.declared.ty.Ty.TheVariants as ty
 use Rattle.lk_types.specs.declared.ty.TyField.{TyField}
 use Rattle.lk_types.specs.declared.ty.TyRow.{TyRow}
 use Rattle.lk_unify.proofs.OpenGround.{get-as_row, as_row-insert, as_row-empty, as_type-fields, as_type-tags, as_type-function}
-use Rattle.lk_unify.proofs.OpenRows.{row_rolled}
 use Rattle.lk_unify.proofs.OpenUnfold.{opened_int, opened_bool, opened_text, opened_list, opened_fields, opened_tags}
 use Rattle.lk_unify.proofs.OpenUnfold.{opened_function, opened_variable, opened_rolled, as_int, as_bool, as_text, as_list}
-use Rattle.lk_unify.proofs.TypeInduction.{Hereditary, every_type, every_row}
+use Rattle.lk_types.proofs.TypeInduction.{Hereditary, every_type, every_row}
 use Rattle.lk_arena.specs.Openings.{Opening, row_type, opened, row_opened, effects_opened, effects_tail_opened, tail_opened}
 use Rattle.lk_arena.specs.Openings.{with_opened, before_open, open_function, as_type, as_row, as_effects, as_opening}
 

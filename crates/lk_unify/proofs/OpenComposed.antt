@@ -4,12 +4,13 @@ use Rattle.std.specs.FinMap as fin
 use Rattle.std.specs.List.{cons_option}
 use Rattle.std.specs.Option.{option_map}
 use Rattle.std.specs.Prelude.{flat_map, is_some, if◌then◌else◌}
-use Rattle.lk_types.proofs.Agreement.{each_front, each_back}
+use Rattle.lk_types.proofs.Members.{each_front, each_back}
+use Rattle.lk_types.proofs.Parts.{same_some, mapped, all_some, function_some, row_rolled, with_one}
 use Rattle.lk_types.proofs.Unfold.{under_int, under_bool, under_text, under_list, under_fields, under_tags, under_function}
 use Rattle.lk_types.proofs.Unfold.{under_variable, variables_list, variables_fields, variables_tags, variables_function, variables_variable, variables_field}
 use Rattle.lk_types.specs.Each.{Each}
 use Rattle.lk_types.specs.Grounding.{Grounding, under, row_under, before_row, row_tail, effect_tail, effects_under, before_effects, all_of, function_of}
-use Rattle.lk_types.specs.Rows.{Label, Row, EffectSet, label_order, no_fields, with_field, with_effect, fields_of, effects_of}
+use Rattle.lk_types.specs.Rows.{Label, Row, EffectSet, label_order, no_fields, with_field, with_effect, fields_of}
 use Rattle.lk_types.specs.Variables.{joined, before_tail, tail_variable, effects_variables, variables_of, variables_of_row, variables_of_field}
 use Rattle.lk_types.specs.declared.ground.Ground.{Ground}
 use Rattle.lk_types.specs.declared.ground.Ground.TheVariants as known
@@ -28,22 +29,15 @@ use Rattle.lk_unify.proofs.OpenAsGround.{type_as}
 use Rattle.lk_unify.proofs.OpenEffectSets as sets
 use Rattle.lk_unify.proofs.OpenEffectSets.{with_more, effect-under, only_effects-under}
 use Rattle.lk_unify.proofs.OpenGround.{get-as_row}
-use Rattle.lk_unify.proofs.OpenRows.{row_rolled, only_tail-under, insert-under, with_one, IsReadAt, row_read}
+use Rattle.lk_unify.proofs.OpenRows.{only_tail-under, insert-under, IsReadAt, row_read}
 use Rattle.lk_unify.proofs.OpenUnfold.{opened_int, opened_bool, opened_text, opened_list, opened_fields, opened_tags, opened_function, opened_variable, opened_rolled}
-use Rattle.lk_unify.proofs.TypeInduction.{Hereditary, every_type, every_row}
+use Rattle.lk_types.proofs.TypeInduction.{Hereditary, every_type, every_row}
 use Rattle.lk_arena.specs.Openings.{Opening, OpenRow, OpenEffects, row_type, effects_type, opened, row_opened, effects_opened}
 use Rattle.lk_arena.specs.Openings.{effects_tail_opened, tail_opened, with_opened, before_open, open_function, as_type, as_row, as_opening, OpensTo}
 
 -- ---- what is there by a choice
 
-same_some : {A : Type 0} {x y : A} → Some x ≡ Some y → x ≡ y
-same_some e = cc
-
-mapped : {A B : Type 0} (f : A → B) (o : Option A) (b : B) → option_map f o ≡ Some b → (a : A) × (o ≡ Some a) × (b ≡ f a)
-mapped f None b e = cc
-mapped f (Some a) b e = (a, refl, sym (same_some e))
-
-open_one : (l : Label) (o : Option Ty) (p : Option OpenRow) (x : OpenRow) → with_opened l o p ≡ Some x
+pub open_one : (l : Label) (o : Option Ty) (p : Option OpenRow) (x : OpenRow) → with_opened l o p ≡ Some x
     → (t : Ty) × (m : OpenRow) × (o ≡ Some t) × (p ≡ Some m) × (fin.get m.fields l ≡ None) × (x ≡ record { fields = fin.insert m.fields l t; tail = m.tail })
 open_one l None p x e = cc
 open_one l (Some t) None x e = cc
@@ -54,23 +48,12 @@ open_one l (Some t) (Some m) x e = by_test (fin.get m.fields l) refl e
     by_test (Some g) is e = cc
     by_test None is e = (t, m, refl, refl, is, sym (same_some e))
 
-all_some : {A : Type 0} (o : Option A) (os : List (Option A)) (as' : List A) → all_of (o ∷ os) ≡ Some as' → (a : A) × (rest : List A) × (o ≡ Some a) × (all_of os ≡ Some rest) × (as' ≡ a ∷ rest)
-all_some None os as' e = cc
-all_some (Some a) os as' e = let m = mapped (λ more. a ∷ more) (all_of os) as' e in (a, m.0, refl, m.1, m.2)
-
-open_some : (o : Option (List Ty)) (p : Option OpenEffects) (q : Option Ty) (u : Ty) → open_function o p q ≡ Some u
+pub open_some : (o : Option (List Ty)) (p : Option OpenEffects) (q : Option Ty) (u : Ty) → open_function o p q ≡ Some u
     → (ts : List Ty) × (s : OpenEffects) × (t : Ty) × (o ≡ Some ts) × (p ≡ Some s) × (q ≡ Some t) × (u ≡ ty.Fun ts (effects_type s) t)
 open_some None p q u e = cc
 open_some (Some ts) None q u e = cc
 open_some (Some ts) (Some s) None u e = cc
 open_some (Some ts) (Some s) (Some t) u e = (ts, s, t, refl, refl, refl, sym (same_some e))
-
-function_some : (o : Option (List Ground)) (p : Option EffectSet) (q : Option Ground) (g : Ground) → function_of o p q ≡ Some g
-    → (ts : List Ground) × (s : EffectSet) × (t : Ground) × (o ≡ Some ts) × (p ≡ Some s) × (q ≡ Some t) × (g ≡ known.Fun ts (effects_of s) t)
-function_some None p q g e = cc
-function_some (Some ts) None q g e = cc
-function_some (Some ts) (Some s) None g e = cc
-function_some (Some ts) (Some s) (Some t) g e = (ts, s, t, refl, refl, refl, sym (same_some e))
 
 rolled_variables : (fs : List TyField) (tail : RowTail) → variables_of_row (roll-TyRow (record { fields = fs; tail = tail })) ≡ before_tail (joined (map variables_of_field fs)) variable.Row tail
 unfolding variables_of_row variables_of_field

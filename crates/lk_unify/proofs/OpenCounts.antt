@@ -2,6 +2,7 @@
 -- row.
 use Rattle.std.proofs.Common.{◌≡◌, ℕ, ◌+◌, ◌≤◌, List, [], ◌∷◌, length, map, refl, sym, ◌∙◌, ap, ap₂, arith}
 use Rattle.std.specs.List.{fold, sum}
+use Rattle.lk_types.proofs.Members.{each_weaker}
 use Rattle.lk_types.proofs.Unfold.{nodes_int, nodes_bool, nodes_text, nodes_list, nodes_fields, nodes_tags, nodes_function, nodes_variable, nodes_field}
 use Rattle.lk_types.specs.Each.{Each}
 use Rattle.lk_types.specs.Sizes.{nodes, nodes_with, row_nodes_with, field_nodes_with, effects_nodes, tail_nodes, one}
@@ -14,9 +15,8 @@ use Rattle.lk_types.specs.declared.ty.TyField.{TyField}
 use Rattle.lk_types.specs.declared.ty.TyRow.{TyRow, roll-TyRow, out-TyRow}
 use Rattle.lk_types.specs.declared.ty.Variable.{Variable}
 use Rattle.lk_types.specs.declared.ty.Variable.TheVariants as variable
-use Rattle.lk_arena.proofs.EachLemmas.{Each-map}
 use Rattle.lk_unify.proofs.OpenUnfold.{count_int, count_bool, count_text, count_list, count_fields, count_tags, count_function, count_variable, count_row, count_rolled}
-use Rattle.lk_unify.proofs.TypeInduction.{Hereditary, every_type, every_row}
+use Rattle.lk_types.proofs.TypeInduction.{Hereditary, every_type, every_row}
 use Rattle.lk_arena.specs.Counting.{sum_of}
 use Rattle.lk_unify.specs.Nodes.{count, row_count, end_count, effects_count}
 
@@ -89,7 +89,7 @@ same_sizes = record {
   at_row = λ fs tail each.
       count_rolled 0 fs tail
       ∙ ap₂ (λ a b. a + b)
-      (sums_same (λ f. 1 + count 0 f.ty) (λ f. 1 + nodes_with one f.ty) fs (Each-map (λ f. SameSize f.ty) (λ f. 1 + count 0 f.ty ≡ 1 + nodes_with one f.ty) one_more fs each))
+      (sums_same (λ f. 1 + count 0 f.ty) (λ f. 1 + nodes_with one f.ty) fs (each_weaker (λ f. SameSize f.ty) (λ f. 1 + count 0 f.ty ≡ 1 + nodes_with one f.ty) one_more fs each))
       (end_nodes variable.Row tail)
       ∙ sym (nodes_rolled one fs tail);
 }
@@ -163,7 +163,7 @@ no_less = record {
       (let a = count_rolled 0 fs tail in
       let b = count_rolled 1 fs tail in
       let fields = sums_below (λ (f : TyField). 1 + count 0 f.ty) (λ f. 1 + count 1 f.ty) fs
-      (Each-map (λ (f : TyField). NoLess f.ty) (λ f. 1 + count 0 f.ty ≤ 1 + count 1 f.ty) one_more_below fs each) in
+      (each_weaker (λ (f : TyField). NoLess f.ty) (λ f. 1 + count 0 f.ty ≤ 1 + count 1 f.ty) one_more_below fs each) in
       let end = end_count_below tail in
       omega arith);
 }

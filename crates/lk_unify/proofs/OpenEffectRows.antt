@@ -5,6 +5,7 @@ use Rattle.std.specs.FinMap as fin
 use Rattle.std.specs.List.{filter}
 use Rattle.std.specs.Option.{option_map}
 use Rattle.std.specs.Ordering.{eq_by_cmp}
+use Rattle.lk_types.proofs.SameEffect.{for_each_effect}
 use Rattle.lk_types.specs.Grounding.{Grounding, effects_under}
 use Rattle.lk_types.specs.Rows.{Label, Row, EffectSet, label_order, same_effect, effects_of}
 use Rattle.lk_types.specs.TypeText.{effect_word}
@@ -14,10 +15,11 @@ use Rattle.lk_types.specs.declared.ty.Effect.{Effect}
 use Rattle.lk_types.specs.declared.ty.Effect.TheVariants.{Local, Move, Print, Rec, Scan, Trap, Write}
 use Rattle.lk_types.specs.declared.ty.RowTail.TheVariants.{Closed}
 use Rattle.lk_types.specs.declared.ty.Ty.{Ty}
-use Rattle.lk_unify.proofs.LabelMaps.{Tied, Differ, tie_cases, same_maps, labels_differ}
-use Rattle.lk_unify.proofs.OpenEffectSets.{all_seven, effect_cases, bool_cases, IsSetAt, set_read}
+use Rattle.lk_types.proofs.LabelMaps.{Tied, Differ, tie_cases, same_maps, labels_differ}
+use Rattle.lk_unify.proofs.OpenEffectSets.{effect_cases, IsSetAt, set_read}
 use Rattle.lk_unify.proofs.OpenGround.{get-as_row}
 use Rattle.lk_unify.proofs.OpenUnfold.{as_fields}
+use Rattle.lk_arena.proofs.RowAlgebra.{bool_cases}
 use Rattle.lk_arena.specs.Kinds.{IsEffectName}
 use Rattle.lk_arena.specs.Openings.{OpenRow, OpenEffects, effects_type, unit_type, as_type, as_row, as_effects}
 use Rattle.lk_arena.specs.Values.{effect_row}
@@ -29,13 +31,13 @@ Tested e x = eq_by_cmp label_order (effect_word x) (effect_word e) ≡ same_effe
 
 -- words are told apart as their effects are
 word_test : (e x : Effect) → Tested e x
-word_test Local = all_seven (Tested Local) refl refl refl refl refl refl refl
-word_test Move = all_seven (Tested Move) refl refl refl refl refl refl refl
-word_test Print = all_seven (Tested Print) refl refl refl refl refl refl refl
-word_test Rec = all_seven (Tested Rec) refl refl refl refl refl refl refl
-word_test Scan = all_seven (Tested Scan) refl refl refl refl refl refl refl
-word_test Trap = all_seven (Tested Trap) refl refl refl refl refl refl refl
-word_test Write = all_seven (Tested Write) refl refl refl refl refl refl refl
+word_test Local = for_each_effect (Tested Local) refl refl refl refl refl refl refl
+word_test Move = for_each_effect (Tested Move) refl refl refl refl refl refl refl
+word_test Print = for_each_effect (Tested Print) refl refl refl refl refl refl refl
+word_test Rec = for_each_effect (Tested Rec) refl refl refl refl refl refl refl
+word_test Scan = for_each_effect (Tested Scan) refl refl refl refl refl refl refl
+word_test Trap = for_each_effect (Tested Trap) refl refl refl refl refl refl refl
+word_test Write = for_each_effect (Tested Write) refl refl refl refl refl refl refl
 
 abbrev pub IsNoEffect : Label → Type 0
 IsNoEffect l = (e : Effect) → l ≡ effect_word e → ⊥
@@ -44,7 +46,7 @@ IsNoEffect l = (e : Effect) → l ≡ effect_word e → ⊥
 pub name_cases : (l : Label) → IsEffectName l ⊎ IsNoEffect l
 name_cases l =
     other Local (λ not_local. other Move (λ not_move. other Print (λ not_print. other Rec (λ not_rec. other Scan (λ not_scan. other Trap (λ not_trap. other Write (λ not_write.
-    inr (all_seven (λ e. l ≡ effect_word e → ⊥) not_local not_move not_print not_rec not_scan not_trap not_write))))))))
+    inr (for_each_effect (λ e. l ≡ effect_word e → ⊥) not_local not_move not_print not_rec not_scan not_trap not_write))))))))
   where
     other : (e : Effect) → ((l ≡ effect_word e → ⊥) → IsEffectName l ⊎ IsNoEffect l) → IsEffectName l ⊎ IsNoEffect l
     other e otherwise = ⊎_elim (λ (h : Tied l (effect_word e)). inl (e, h.1)) (λ (h : Differ l (effect_word e)). otherwise h.1) (tie_cases l (effect_word e))
@@ -112,7 +114,7 @@ pub at_effect : (s : OpenEffects) (x : Effect) → fin.get (effect_row s).fields
 at_effect s x =
     fin.get-from_entries nat_list_cmp_total (map pair (effects_of s.labels)) (effect_word x)
     ∙ ⊎_elim
-    (λ (h : s.labels x ≡ true). kept s.labels x all h ∙ ap unit_if (all_seven (λ x. among x all ≡ true) refl refl refl refl refl refl refl x ∙ sym h))
+    (λ (h : s.labels x ≡ true). kept s.labels x all h ∙ ap unit_if (for_each_effect (λ x. among x all ≡ true) refl refl refl refl refl refl refl x ∙ sym h))
     (λ (h : s.labels x ≡ false). left_out s.labels x all h ∙ ap unit_if (sym h))
     (bool_cases (s.labels x))
 

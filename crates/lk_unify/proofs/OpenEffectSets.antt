@@ -1,31 +1,19 @@
 -- Sets of effects with an end, under a grounding: what one effect more becomes, and what a set becomes at each effect.
 use Rattle.std.proofs.Common.{◌≡◌, Bool, true, false, ◌||◌, ◌⊎◌, inl, inr, ⊎_elim, List, [], ◌∷◌, refl, sym, ◌∙◌, ap, subst, Option, Some, None, cond}
+use Rattle.std.proofs.lemmas.Bool.{or_parts}
 use Rattle.std.specs.List.{filter}
 use Rattle.std.specs.Prelude.{if◌then◌else◌}
+use Rattle.lk_types.proofs.Parts.{same_some}
+use Rattle.lk_types.proofs.SameEffect.{effect_self, for_each_effect, effects_tie}
 use Rattle.lk_types.specs.Grounding.{Grounding, effect_tail, effects_under, before_effects}
 use Rattle.lk_types.specs.Rows.{EffectSet, same_effect, with_effect, effects_of}
 use Rattle.lk_types.specs.declared.ty.Effect.{Effect}
 use Rattle.lk_types.specs.declared.ty.Effect.TheVariants.{Local, Move, Print, Rec, Scan, Trap, Write}
 use Rattle.lk_types.specs.declared.ty.RowTail.{RowTail}
+use Rattle.lk_arena.proofs.RowAlgebra.{bool_cases}
 use Rattle.lk_arena.specs.Openings.{OpenEffects, only_effects_tail, effects_type}
 
 -- ---- effects
-
-same_some : {A : Type 0} {x y : A} → Some x ≡ Some y → x ≡ y
-same_some e = cc
-
--- what holds of each effect
-pub all_seven : (P : Effect → Type 0) → P Local → P Move → P Print → P Rec → P Scan → P Trap → P Write → (e : Effect) → P e
-all_seven P l m p r s t w Local = l
-all_seven P l m p r s t w Move = m
-all_seven P l m p r s t w Print = p
-all_seven P l m p r s t w Rec = r
-all_seven P l m p r s t w Scan = s
-all_seven P l m p r s t w Trap = t
-all_seven P l m p r s t w Write = w
-
-pub same_itself : (e : Effect) → same_effect e e ≡ true
-same_itself = all_seven (λ e. same_effect e e ≡ true) refl refl refl refl refl refl refl
 
 abbrev Told : Effect → Effect → Type 0
 Told e x = same_effect e x ≡ true → e ≡ x
@@ -33,25 +21,12 @@ Told e x = same_effect e x ≡ true → e ≡ x
 never : {A : Type 0} → false ≡ true → A
 never e = cc
 
-pub same_effects : (e x : Effect) → same_effect e x ≡ true → e ≡ x
-same_effects Local = all_seven (Told Local) (λ _. refl) never never never never never never
-same_effects Move = all_seven (Told Move) never (λ _. refl) never never never never never
-same_effects Print = all_seven (Told Print) never never (λ _. refl) never never never never
-same_effects Rec = all_seven (Told Rec) never never never (λ _. refl) never never never
-same_effects Scan = all_seven (Told Scan) never never never never (λ _. refl) never never
-same_effects Trap = all_seven (Told Trap) never never never never never (λ _. refl) never
-same_effects Write = all_seven (Told Write) never never never never never never (λ _. refl)
-
 pub effect_cases : (e x : Effect) → ((same_effect e x ≡ true) × (e ≡ x)) ⊎ (same_effect e x ≡ false)
 effect_cases e x = by_test (same_effect e x) refl
   where
     by_test : (b : Bool) → same_effect e x ≡ b → ((same_effect e x ≡ true) × (e ≡ x)) ⊎ (same_effect e x ≡ false)
-    by_test true is = inl (is, same_effects e x is)
+    by_test true is = inl (is, effects_tie e x is)
     by_test false is = inr is
-
-pub bool_cases : (b : Bool) → (b ≡ true) ⊎ (b ≡ false)
-bool_cases true = inl refl
-bool_cases false = inr refl
 
 -- the set with one effect more
 abbrev pub with_more : Effect → EffectSet → EffectSet
@@ -116,7 +91,7 @@ module _ (base : EffectSet) where
 
   module _ (e : Effect) (es : List Effect) (lone : has e es ≡ false) (s : EffectSet) (sets : SetsTo (e ∷ es) s) where
     own : (base e ≡ false) × (s e ≡ true)
-    own = subst (λ b. IsSetAt (b || has e es) (base e) (s e)) (same_itself e) (sets e)
+    own = subst (λ b. IsSetAt (b || has e es) (base e) (s e)) (effect_self e) (sets e)
 
     less : SetsTo es (without e s)
     less x =
@@ -137,7 +112,7 @@ module _ (base : EffectSet) where
         (effect_cases e x)
 
     step : before_effects es base ≡ Some (without e s) → before_effects (e ∷ es) base ≡ Some s
-    step is = ap (with_effect e) is ∙ with_new e (without e s) (ap (λ b. if b then false else s e) (same_itself e)) ∙ ap Some (λ i x. at x i)
+    step is = ap (with_effect e) is ∙ with_new e (without e s) (ap (λ b. if b then false else s e) (effect_self e)) ∙ ap Some (λ i x. at x i)
 
   sets-from : (es : List Effect) → Distinct es → (s : EffectSet) → SetsTo es s → before_effects es base ≡ Some s
   sets-from [] d s sets = ap Some (λ i x. sym (sets x) i)
@@ -152,15 +127,11 @@ module _ (base : EffectSet) where
 
 -- ---- the list of a set
 
-either_false : (a b : Bool) → (a || b) ≡ false → (a ≡ false) × (b ≡ false)
-either_false true b e = (e, never (sym e))
-either_false false b e = (refl, e)
-
 module _ (s : EffectSet) where
   has-none : (x : Effect) (es : List Effect) → has x es ≡ false → has x (filter s es) ≡ false
   has-none x [] n = refl
   has-none x (e ∷ es) n =
-      let both = either_false (same_effect e x) (has x es) n in
+      let both = or_parts (same_effect e x) (has x es) n in
       by_test (s e) both.0 (has-none x es both.1)
     where
       by_test : (b : Bool) → same_effect e x ≡ false → has x (filter s es) ≡ false → has x (cond b (e ∷ filter s es) (filter s es)) ≡ false
@@ -204,7 +175,7 @@ module _ (s : EffectSet) where
   -- the list has the effects of the set
   listed : (x : Effect) → has x (effects_of s) ≡ s x
   listed x =
-      ⊎_elim (λ (h : s x ≡ true). in_set x seven h (all_seven (λ x. has x seven ≡ true) refl refl refl refl refl refl refl x) ∙ sym h)
+      ⊎_elim (λ (h : s x ≡ true). in_set x seven h (for_each_effect (λ x. has x seven ≡ true) refl refl refl refl refl refl refl x) ∙ sym h)
       (λ (h : s x ≡ false). out_of_set x seven h ∙ sym h) (bool_cases (s x))
 
   listed_once : Distinct (effects_of s)

@@ -19,7 +19,7 @@ use Rattle.lk_types.specs.declared.ty.Ty.TheVariants as ty
 use Rattle.lk_types.specs.declared.ty.TyField.{TyField, fold-TyField}
 use Rattle.lk_types.specs.declared.ty.TyRow.{TyRow, roll-TyRow, fold-TyRow}
 use Rattle.lk_unify.proofs.GroundInduction.{every_ground}
-use Rattle.lk_unify.proofs.LabelMaps.{same_maps, entries_back, map_back, no_entries, with_value, find_mapped, sorted_mapped}
+use Rattle.lk_types.proofs.LabelMaps.{same_maps, entries_back, map_back, no_entries, with_value, find_mapped, sorted_mapped}
 use Rattle.lk_unify.proofs.OpenUnfold.{as_field, as_int, as_bool, as_text, as_list, as_fields, as_tags, as_function}
 use Rattle.lk_arena.specs.Openings.{OpenRow, only_tail, field_type, row_type, effects_type, as_type, as_entry, as_row, as_effects}
 

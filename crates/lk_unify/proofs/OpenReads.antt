@@ -18,7 +18,7 @@ use Rattle.lk_types.specs.declared.ty.Ty.TheVariants as ty
 use Rattle.lk_types.specs.declared.ty.Ty.TheViews.{out-roll-TyRow}
 use Rattle.lk_types.specs.declared.ty.TyField.{TyField}
 use Rattle.lk_types.specs.declared.ty.TyRow.{TyRow, roll-TyRow, out-TyRow}
-use Rattle.lk_unify.proofs.LabelMaps.{entries_back, map_back, sorted_back}
+use Rattle.lk_types.proofs.LabelMaps.{entries_back, map_back, sorted_back}
 use Rattle.lk_unify.proofs.OpenEffectRows.{effect_row-once}
 use Rattle.lk_unify.proofs.OpenGround.{ground_of, row_ground, back, of_int, of_bool, of_text, of_list, of_fields, of_tags, of_function}
 use Rattle.lk_unify.proofs.OpenUnfold.{as_field, as_list, as_fields, as_tags, as_function}

@@ -1,14 +1,15 @@
 -- Values that are ground are read at every node where they are at the classes of which nothing is known.
 use Rattle.std.proofs.Common.{◌≡◌, ℕ, zero, suc, ◌<◌, true, List, [], ◌∷◌, length, map, refl, sym, ◌∙◌, ap, subst, arith, Some}
 use Rattle.lk_classes.specs.Classes.{class_at}
+use Rattle.lk_types.proofs.Members.{each_weaker, each_from_map}
 use Rattle.lk_types.specs.Each.{Each}
 use Rattle.lk_types.specs.Grounding.{Grounding}
 use Rattle.lk_types.specs.Rows.{no_fields, no_effects}
 use Rattle.lk_types.specs.declared.ty.RowTail.TheVariants.{Closed}
 use Rattle.lk_types.specs.declared.ty.Ty.TheVariants as ty
 use Rattle.lk_types.specs.declared.ty.TyRow.{roll-TyRow}
-use Rattle.lk_arena.proofs.EachLemmas.{Each-map, Each-zip, Each-from_map}
-use Rattle.lk_unify.proofs.LabelMaps.{no_entries}
+use Rattle.lk_arena.proofs.EachLemmas.{Each-zip}
+use Rattle.lk_types.proofs.LabelMaps.{no_entries}
 use Rattle.lk_unify.proofs.OpenEffectRows.{effect_row-once}
 use Rattle.lk_unify.proofs.OpenEffectSets.{only_effects-under}
 use Rattle.lk_unify.proofs.OpenGround.{as_row-once, as_row-empty, as_effects-once}
@@ -95,15 +96,15 @@ module _ (shapes : List Shape) (classes : List ℕ) (arena : IsArena shapes clas
     built_reads OfFields (shape.Row fs t) x y h l reads loose a b =
         fields_before_reads τ u v fs (u t) (v t) x y a b
         (Each-zip (λ f. kind f.node ≡ OfTypes) (λ f. IsRead f.node) (λ f. Reads τ OfTypes (u f.node) (v f.node)) (λ f k r. subst (λ k. Reads τ k (u f.node) (v f.node)) k r) fs h.0
-        (Each-from_map IsRead (λ f. f.node) fs reads.1))
+        (each_from_map IsRead (λ f. f.node) fs reads.1))
         (subst (λ k. Reads τ k (u t) (v t)) h.1 reads.0)
     built_reads OfFields Free x y h l reads loose a b = absurd h
     built_reads OfFields (Made g ps) x y h l reads loose a b = absurd h
     built_reads OfEffects Open x y h l reads loose a b = loose refl
     built_reads OfEffects Empty x y h l reads loose a b = empty_effects_reads τ x y a b
     built_reads OfEffects (shape.Row fs t) x y h l reads loose a b =
-        let below : Each (λ f. f.node < length shapes) fs = Each-from_map (λ p. p < length shapes) (λ f. f.node) fs l.1 in
-        effects_before_reads τ u v fs (u t) (v t) x y a b (Each-map (λ f. IsEffectName f.label × (kind f.node ≡ OfUnit)) (λ f. IsEffectName f.label) (λ f k. k.0) fs h.0)
+        let below : Each (λ f. f.node < length shapes) fs = each_from_map (λ p. p < length shapes) (λ f. f.node) fs l.1 in
+        effects_before_reads τ u v fs (u t) (v t) x y a b (each_weaker (λ f. IsEffectName f.label × (kind f.node ≡ OfUnit)) (λ f. IsEffectName f.label) (λ f k. k.0) fs h.0)
         (units u first fs h.0 below) (units v second fs h.0 below) (subst (λ k. Reads τ k (u t) (v t)) h.1 reads.0)
     built_reads OfEffects Free x y h l reads loose a b = absurd h
     built_reads OfEffects (Made g ps) x y h l reads loose a b = absurd h

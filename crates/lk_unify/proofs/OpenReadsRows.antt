@@ -13,7 +13,7 @@ use Rattle.lk_types.specs.declared.ground.Ground.{Ground}
 use Rattle.lk_types.specs.declared.ty.Effect.{Effect}
 use Rattle.lk_types.specs.declared.ty.RowTail.TheVariants.{Closed}
 use Rattle.lk_types.specs.declared.ty.Ty.{Ty}
-use Rattle.lk_unify.proofs.LabelMaps.{same_maps, tied_labels}
+use Rattle.lk_types.proofs.LabelMaps.{same_maps, tied_labels}
 use Rattle.lk_unify.proofs.OpenEffectRows.{IsNoEffect, unit_if, at_effect, at_other, is_effect_row}
 use Rattle.lk_unify.proofs.OpenEffectSets.{IsSetAt, set_reads, set_read, lower}
 use Rattle.lk_unify.proofs.OpenGround.{get-as_row}

@@ -7,16 +7,14 @@ use Rattle.std.specs.Ordering.{is_eq}
 use Rattle.std.specs.Prelude.{T, is_some, if◌then◌else◌}
 use Rattle.std.specs.declared.cmp.Ordering.{Ordering}
 use Rattle.std.specs.declared.cmp.Ordering.TheVariants.{Less, Equal, Greater}
+use Rattle.lk_types.proofs.Parts.{same_some, row_as_fields, with_one}
 use Rattle.lk_types.proofs.Unfold.{under_field}
 use Rattle.lk_types.specs.Grounding.{Grounding, Known, under, row_under, field_under, before_row, row_tail}
 use Rattle.lk_types.specs.Rows.{Label, Row, label_order, has_label, with_field}
 use Rattle.lk_types.specs.declared.ground.Ground.{Ground}
 use Rattle.lk_types.specs.declared.ty.RowTail.{RowTail}
 use Rattle.lk_types.specs.declared.ty.Ty.{Ty}
-use Rattle.lk_types.specs.declared.ty.TyField.{TyField}
-use Rattle.lk_types.specs.declared.ty.Ty.TheFolds.{the_lemmas}
-use Rattle.lk_types.specs.declared.ty.TyRow.{roll-TyRow}
-use Rattle.lk_unify.proofs.LabelMaps.{Tied, Differ, tie_cases, same_maps, get_here, get_there, removed_here, removed_there, insert_swap, find_here, find_there, find_rest, sorted_rest, no_entries}
+use Rattle.lk_types.proofs.LabelMaps.{Tied, Differ, tie_cases, same_maps, get_here, get_there, removed_here, removed_there, insert_swap, find_here, find_there, find_rest, sorted_rest, no_entries}
 use Rattle.lk_arena.specs.Openings.{OpenRow, only_tail, field_type, row_type}
 
 -- ---- fields in either order
@@ -24,9 +22,6 @@ use Rattle.lk_arena.specs.Openings.{OpenRow, only_tail, field_type, row_type}
 -- a field more, where the row lacks it or has it
 abbrev Put : Label → Ground → Row → Bool → Option Row
 Put l t m b = if b then None else Some (fin.insert m l t)
-
-same_some : {A : Type 0} {x y : A} → Some x ≡ Some y → x ≡ y
-same_some e = cc
 
 put_cond : (l : Label) (t : Ground) (b : Bool) (m : Row) → with_field l (Some t) (if b then None else Some m) ≡ (if b then None else with_field l (Some t) (Some m))
 put_cond l t true m = refl
@@ -70,20 +65,8 @@ module _ (τ : Grounding) where
   known_fields [] = refl
   known_fields (e ∷ es) = λ i. under_field τ (field_type e) i ∷ known_fields es i
 
-  by_fields : (fields : List TyField) (tail : RowTail) → row_under τ (roll-TyRow (record { fields = fields; tail = tail })) ≡ before_row (map (field_under τ) fields) (row_tail τ tail)
-  unfolding row_under field_under
-  by_fields fields tail = search the_lemmas
-
-  each_under : (fs : List TyField) → map (field_under τ) fs ≡ map (λ f. (f.label, under τ f.ty)) fs
-  each_under [] = refl
-  each_under (f ∷ fs) = λ i. under_field τ f i ∷ each_under fs i
-
-  pub row_rolled : (fields : List TyField) (tail : RowTail)
-      → row_under τ (roll-TyRow (record { fields = fields; tail = tail })) ≡ before_row (map (λ f. (f.label, under τ f.ty)) fields) (row_tail τ tail)
-  row_rolled fields tail = by_fields fields tail ∙ ap (λ fs. before_row fs (row_tail τ tail)) (each_under fields)
-
   pub row_type-under : (m : OpenRow) → row_under τ (row_type m) ≡ before_row (map known (fin.entries m.fields)) (row_tail τ m.tail)
-  row_type-under m = by_fields (map field_type (fin.entries m.fields)) m.tail ∙ ap (λ fs. before_row fs (row_tail τ m.tail)) (known_fields (fin.entries m.fields))
+  row_type-under m = row_as_fields τ (map field_type (fin.entries m.fields)) m.tail ∙ ap (λ fs. before_row fs (row_tail τ m.tail)) (known_fields (fin.entries m.fields))
 
   pub only_tail-under : (tail : RowTail) → row_under τ (row_type (only_tail tail)) ≡ Some (row_tail τ tail)
   only_tail-under tail = row_type-under (only_tail tail) ∙ ap (λ es. before_row (map known es) (row_tail τ tail)) no_entries
@@ -121,18 +104,6 @@ module _ (τ : Grounding) where
       ∙ ap (λ es. before_row (map known es) (row_tail τ m.tail)) (fin.entries-insert nat_list_cmp_total m.fields l t)
       ∙ put-under l t (row_tail τ m.tail) (fin.entries m.fields) (sym (fin.get-entries m.fields l) ∙ e)
       ∙ ap (with_field l (under τ t)) (sym (row_type-under m))
-
--- what a row with one field more is
-pub with_one : (l : Label) (o : Option Ground) (p : Option Row) (x : Row) → with_field l o p ≡ Some x
-    → (t : Ground) × (m : Row) × (o ≡ Some t) × (p ≡ Some m) × (fin.get m l ≡ None) × (x ≡ fin.insert m l t)
-with_one l None p x e = cc
-with_one l (Some t) None x e = cc
-with_one l (Some t) (Some m) x e = by_test (fin.get m l) refl e
-  where
-    by_test : (o : Option Ground) → fin.get m l ≡ o → (if is_some o then None else Some (fin.insert m l t)) ≡ Some x
-        → (u : Ground) × (n : Row) × (Some t ≡ Some u) × (Some m ≡ Some n) × (fin.get n l ≡ None) × (x ≡ fin.insert n l u)
-    by_test (Some g) is e = cc
-    by_test None is e = (t, m, refl, refl, is, (let h : x ≡ fin.insert m l t = cc in h))
 
 pub with_new : (l : Label) (t : Ground) (m : Row) → fin.get m l ≡ None → with_field l (Some t) (Some m) ≡ Some (fin.insert m l t)
 with_new l t m e = ap (λ o. if is_some o then None else Some (fin.insert m l t)) e

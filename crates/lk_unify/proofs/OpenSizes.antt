@@ -4,6 +4,8 @@ use Rattle.std.specs.FinMap as fin
 use Rattle.std.specs.List.{filter}
 use Rattle.std.specs.Option.{option_map}
 use Rattle.std.specs.Prelude.{is_some}
+use Rattle.lk_types.proofs.Parts.{same_some, all_some}
+use Rattle.lk_types.proofs.SameEffect.{for_each_effect}
 use Rattle.lk_types.proofs.Unfold.{nodes_int, nodes_bool, nodes_text, nodes_list, nodes_fields, nodes_tags, nodes_function, nodes_variable}
 use Rattle.lk_types.specs.Each.{Each}
 use Rattle.lk_types.specs.Grounding.{all_of, before_effects}
@@ -23,7 +25,7 @@ use Rattle.lk_types.specs.declared.ty.Variable.TheVariants as variable
 use Rattle.lk_unify.proofs.OpenCounts.{sum_is, nodes_rolled, count_nodes, row_count_nodes, effects_count_nodes}
 use Rattle.lk_unify.proofs.OpenUnfold.{opened_int, opened_bool, opened_text, opened_list, opened_fields, opened_tags, opened_function, opened_variable, opened_rolled, count_int, count_bool, count_text, count_list, count_fields, count_tags, count_function}
 use Rattle.lk_unify.proofs.RowCounts.{row_count_insert, row_count_end}
-use Rattle.lk_unify.proofs.TypeInduction.{Hereditary, every_type, every_row}
+use Rattle.lk_types.proofs.TypeInduction.{Hereditary, every_type, every_row}
 use Rattle.lk_arena.specs.Counting.{sum_of}
 use Rattle.lk_unify.specs.Nodes.{count, row_count, effects_count, end_count}
 use Rattle.lk_arena.specs.Openings.{Opening, OpenRow, OpenEffects, row_type, effects_type, opened, row_opened, before_open, with_opened, open_function, tail_opened, effects_tail_opened, effects_opened}
@@ -36,14 +38,11 @@ opening_size ρ (variable.Effects n) = effects_nodes one (effects_type (ρ.effec
 
 -- ---- what was there before
 
-some_same : {A : Type 0} {x y : A} → Some x ≡ Some y → x ≡ y
-some_same e = cc
-
 none_some : {A C : Type 0} {x : A} → None ≡ Some x → C
 none_some e = let f : ⊥ = cc in absurd f
 
 pub mapped : {A B : Type 0} (f : A → B) (o : Option A) (y : B) → option_map f o ≡ Some y → (x : A) × (o ≡ Some x) × (f x ≡ y)
-mapped f (Some x) y e = (x, refl, some_same e)
+mapped f (Some x) y e = (x, refl, same_some e)
 mapped f None y e = none_some e
 
 pub record BothThere (o : Option Ty) (p : Option OpenRow) (l : Label) (n : OpenRow) : Type 0 where
@@ -65,7 +64,7 @@ both_there l (Some t) (Some m) n e = by_test (fin.contains_key m.fields l) refl 
   where
     by_test : (b : Bool) → fin.contains_key m.fields l ≡ b → cond b None (Some (record { fields = fin.insert m.fields l t; tail = m.tail })) ≡ Some n → BothThere (Some t) (Some m) l n
     by_test true has e = none_some e
-    by_test false has e = record { type = t; row = m; type_is = refl; row_is = refl; lacks = lacking (fin.get m.fields l) has; is = sym (some_same e) }
+    by_test false has e = record { type = t; row = m; type_is = refl; row_is = refl; lacks = lacking (fin.get m.fields l) has; is = sym (same_some e) }
 
 pub record AllThere (ps : Option (List Ty)) (s : Option OpenEffects) (t : Option Ty) (x : Ty) : Type 0 where
   pub params : List Ty
@@ -78,7 +77,7 @@ pub record AllThere (ps : Option (List Ty)) (s : Option OpenEffects) (t : Option
 
 pub all_there : (ps : Option (List Ty)) (s : Option OpenEffects) (t : Option Ty) (x : Ty) → open_function ps s t ≡ Some x → AllThere ps s t x
 all_there (Some ps) (Some s) (Some t) x e =
-    record { params = ps; effects = s; answer = t; params_are = refl; effects_are = refl; answer_is = refl; is = sym (some_same e) }
+    record { params = ps; effects = s; answer = t; params_are = refl; effects_are = refl; answer_is = refl; is = sym (same_some e) }
 all_there (Some ps) (Some s) None x e = none_some e
 all_there (Some ps) None t x e = none_some e
 all_there None s t x e = none_some e
@@ -97,7 +96,7 @@ one_more_effect e (Some t) s is = by_test (t e) refl is
   where
     by_test : (b : Bool) → t e ≡ b → cond b None (Some (λ x. same_effect e x || t x)) ≡ Some s → OneMore e (Some t) s
     by_test true has is = none_some is
-    by_test false has is = record { set = t; set_is = refl; lacks = has; is = sym (some_same is) }
+    by_test false has is = record { set = t; set_is = refl; lacks = has; is = sym (same_some is) }
 
 kept_length : (a b : Bool) (e : Effect) (xs ys zs : List Effect) → (a ≡ true → b ≡ false) → length xs ≡ length zs + length ys
     → length (cond (a || b) (e ∷ xs) xs) ≡ length (cond a (e ∷ zs) zs) + length (cond b (e ∷ ys) ys)
@@ -119,26 +118,17 @@ alone Scan = refl
 alone Trap = refl
 alone Write = refl
 
-for_each : (P : Effect → Type 0) → P Local → P Move → P Print → P Rec → P Scan → P Trap → P Write → (x : Effect) → P x
-for_each P a b c d e f g Local = a
-for_each P a b c d e f g Move = b
-for_each P a b c d e f g Print = c
-for_each P a b c d e f g Rec = d
-for_each P a b c d e f g Scan = e
-for_each P a b c d e f g Trap = f
-for_each P a b c d e f g Write = g
-
 wrong : {A : Type 0} → false ≡ true → A
 wrong e = let f : ⊥ = cc in absurd f
 
 lacks_same : (s : EffectSet) (e : Effect) → s e ≡ false → (x : Effect) → same_effect e x ≡ true → s x ≡ false
-lacks_same s Local there = for_each (λ x. same_effect Local x ≡ true → s x ≡ false) (λ is. there) wrong wrong wrong wrong wrong wrong
-lacks_same s Move there = for_each (λ x. same_effect Move x ≡ true → s x ≡ false) wrong (λ is. there) wrong wrong wrong wrong wrong
-lacks_same s Print there = for_each (λ x. same_effect Print x ≡ true → s x ≡ false) wrong wrong (λ is. there) wrong wrong wrong wrong
-lacks_same s Rec there = for_each (λ x. same_effect Rec x ≡ true → s x ≡ false) wrong wrong wrong (λ is. there) wrong wrong wrong
-lacks_same s Scan there = for_each (λ x. same_effect Scan x ≡ true → s x ≡ false) wrong wrong wrong wrong (λ is. there) wrong wrong
-lacks_same s Trap there = for_each (λ x. same_effect Trap x ≡ true → s x ≡ false) wrong wrong wrong wrong wrong (λ is. there) wrong
-lacks_same s Write there = for_each (λ x. same_effect Write x ≡ true → s x ≡ false) wrong wrong wrong wrong wrong wrong (λ is. there)
+lacks_same s Local there = for_each_effect (λ x. same_effect Local x ≡ true → s x ≡ false) (λ is. there) wrong wrong wrong wrong wrong wrong
+lacks_same s Move there = for_each_effect (λ x. same_effect Move x ≡ true → s x ≡ false) wrong (λ is. there) wrong wrong wrong wrong wrong
+lacks_same s Print there = for_each_effect (λ x. same_effect Print x ≡ true → s x ≡ false) wrong wrong (λ is. there) wrong wrong wrong wrong
+lacks_same s Rec there = for_each_effect (λ x. same_effect Rec x ≡ true → s x ≡ false) wrong wrong wrong (λ is. there) wrong wrong wrong
+lacks_same s Scan there = for_each_effect (λ x. same_effect Scan x ≡ true → s x ≡ false) wrong wrong wrong wrong (λ is. there) wrong wrong
+lacks_same s Trap there = for_each_effect (λ x. same_effect Trap x ≡ true → s x ≡ false) wrong wrong wrong wrong wrong (λ is. there) wrong
+lacks_same s Write there = for_each_effect (λ x. same_effect Write x ≡ true → s x ≡ false) wrong wrong wrong wrong wrong wrong (λ is. there)
 
 -- an effect more
 pub effects_more : (e : Effect) (s : EffectSet) → s e ≡ false → length (effects_of (λ x. same_effect e x || s x)) ≡ 1 + length (effects_of s)
@@ -146,7 +136,7 @@ effects_more e s h =
     filter_length (same_effect e) s (lacks_same s e h) (Local ∷ Move ∷ Print ∷ Rec ∷ Scan ∷ Trap ∷ Write ∷ []) ∙ ap (λ n. n + length (effects_of s)) (alone e)
 
 pub before_effects_length : (es : List Effect) (t s : EffectSet) → before_effects es t ≡ Some s → length (effects_of s) ≡ length es + length (effects_of t)
-before_effects_length [] t s is = let a : length (effects_of s) ≡ length (effects_of t) = ap (λ (s : EffectSet). length (effects_of s)) (sym (some_same is)) in omega arith
+before_effects_length [] t s is = let a : length (effects_of s) ≡ length (effects_of t) = ap (λ (s : EffectSet). length (effects_of s)) (sym (same_some is)) in omega arith
 before_effects_length (e ∷ es) t s is =
     let more : OneMore e (before_effects es t) s = one_more_effect e (before_effects es t) s is in
     let a = ap (λ (s : EffectSet). length (effects_of s)) more.is in
@@ -156,13 +146,6 @@ before_effects_length (e ∷ es) t s is =
 
 -- ---- types
 
-pub all_first : {A : Type 0} (o : Option A) (rest : List (Option A)) (xs : List A) → all_of (o ∷ rest) ≡ Some xs
-    → (x : A) × (more : List A) × (o ≡ Some x) × (all_of rest ≡ Some more) × (xs ≡ x ∷ more)
-all_first None rest xs e = none_some e
-all_first (Some x) rest xs e =
-    let m = mapped (λ more. x ∷ more) (all_of rest) xs e in
-    (x, m.0, refl, m.1, sym m.2)
-
 module _ (ρ : Opening) where
   abbrev Sized : Ty → Type 0
   Sized t = (u : Ty) → opened ρ t ≡ Some u → count 0 u ≡ nodes_with (opening_size ρ) t
@@ -171,7 +154,7 @@ module _ (ρ : Opening) where
   RowSized r = (m : OpenRow) → row_opened ρ r ≡ Some m → row_count 0 (row_type m) ≡ row_nodes_with (opening_size ρ) r
 
   base_sized : (t : Ty) → opened ρ t ≡ Some t → count 0 t ≡ 1 → nodes_with (opening_size ρ) t ≡ 1 → Sized t
-  base_sized t is a b u e = ap (count 0) (sym (some_same (sym is ∙ e))) ∙ a ∙ sym b
+  base_sized t is a b u e = ap (count 0) (sym (same_some (sym is ∙ e))) ∙ a ∙ sym b
 
   list_sized : (t : Ty) → Sized t → Sized (ty.List t)
   list_sized t h u e =
@@ -189,9 +172,9 @@ module _ (ρ : Opening) where
       ap (count 0) (sym m.2) ∙ count_tags 0 (row_type m.0) ∙ ap (λ n. 1 + n) (h m.0 m.1) ∙ sym (nodes_tags (opening_size ρ) r)
 
   params_sized : (ps us : List Ty) → all_of (map (opened ρ) ps) ≡ Some us → Each Sized ps → sum_of (map (count 0) us) ≡ sum_of (map (nodes_with (opening_size ρ)) ps)
-  params_sized [] us e h = ap (λ us. sum_of (map (count 0) us)) (sym (some_same e))
+  params_sized [] us e h = ap (λ us. sum_of (map (count 0) us)) (sym (same_some e))
   params_sized (p ∷ ps) us e h =
-      let m = all_first (opened ρ p) (map (opened ρ) ps) us e in
+      let m = all_some (opened ρ p) (map (opened ρ) ps) us e in
       ap (λ us. sum_of (map (count 0) us)) m.4 ∙ ap₂ (λ a b. a + b) (h.0 m.0 m.2) (params_sized ps m.1 m.3 h.1)
 
   effects_tail_sized : (tail : RowTail) → effects_count 0 (effects_type (effects_tail_opened ρ tail)) ≡ tail_nodes (opening_size ρ) variable.Effects tail
@@ -218,7 +201,7 @@ module _ (ρ : Opening) where
       ∙ sym (nodes_function (opening_size ρ) ps es t)
 
   variable_sized : (n : ℕ) → Sized (ty.Var n)
-  variable_sized n u e = ap (count 0) (sym (some_same (sym (opened_variable ρ n) ∙ e))) ∙ count_nodes (ρ.plain n) ∙ sym (nodes_variable (opening_size ρ) n)
+  variable_sized n u e = ap (count 0) (sym (same_some (sym (opened_variable ρ n) ∙ e))) ∙ count_nodes (ρ.plain n) ∙ sym (nodes_variable (opening_size ρ) n)
 
   tail_sized : (tail : RowTail) → row_count 0 (row_type (tail_opened ρ tail)) ≡ tail_nodes (opening_size ρ) variable.Row tail
   tail_sized Closed = row_count_end 0 Closed
@@ -227,7 +210,7 @@ module _ (ρ : Opening) where
   fields_sized : (fs : List TyField) (tail m : OpenRow) → before_open (map (λ f. (f.label, opened ρ f.ty)) fs) tail ≡ Some m → Each (λ f. Sized f.ty) fs
       → row_count 0 (row_type m) ≡ sum_of (map (λ f. 1 + nodes_with (opening_size ρ) f.ty) fs) + row_count 0 (row_type tail)
   fields_sized [] tail m e h =
-      let a : row_count 0 (row_type m) ≡ row_count 0 (row_type tail) = ap (λ m. row_count 0 (row_type m)) (sym (some_same e)) in omega arith
+      let a : row_count 0 (row_type m) ≡ row_count 0 (row_type tail) = ap (λ m. row_count 0 (row_type m)) (sym (same_some e)) in omega arith
   fields_sized (f ∷ fs) tail m e h =
       let both = both_there f.label (opened ρ f.ty) (before_open (map (λ f. (f.label, opened ρ f.ty)) fs) tail) m e in
       let a = ap (λ m. row_count 0 (row_type m)) both.is in

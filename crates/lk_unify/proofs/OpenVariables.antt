@@ -8,6 +8,7 @@ use Rattle.std.specs.Prelude.{flat_map}
 use Rattle.std.specs.declared.cmp.Ordering.{Ordering}
 use Rattle.std.specs.declared.cmp.Ordering.TheVariants.{Less, Equal, Greater}
 use Rattle.lk_classes.specs.Classes.{class_at}
+use Rattle.lk_types.proofs.Members.{each_both, each_front, each_back, each_from_map}
 use Rattle.lk_types.proofs.Unfold.{variables_int, variables_bool, variables_text, variables_list, variables_fields, variables_tags, variables_function, variables_variable, variables_field}
 use Rattle.lk_types.specs.Each.{Each}
 use Rattle.lk_types.specs.Rows.{Label, label_order}
@@ -21,7 +22,7 @@ use Rattle.lk_types.specs.declared.ty.TyField.{TyField}
 use Rattle.lk_types.specs.declared.ty.TyRow.{roll-TyRow}
 use Rattle.lk_types.specs.declared.ty.Variable.{Variable}
 use Rattle.lk_types.specs.declared.ty.Variable.TheVariants as variable
-use Rattle.lk_arena.proofs.EachLemmas.{Each-zip, Each-append, Each-append_left, Each-append_right, Each-from_map}
+use Rattle.lk_arena.proofs.EachLemmas.{Each-zip}
 use Rattle.lk_arena.proofs.RowAlgebra.{RowFields}
 use Rattle.lk_unify.proofs.RowCounts.{its_rows, pick, is_row_with, first_same, rest_same, nothing_first}
 use Rattle.lk_arena.proofs.Sizes.{map_with, row_with, plain_or, no_entries}
@@ -56,13 +57,13 @@ module _ (P : Variable → Type 0) where
   joined_entries : (es : List (Label × Ty)) → Each OfEntry es → Each P (joined (map variables_of_field (map field_type es)))
   joined_entries [] h = tt
   joined_entries (e ∷ es) h =
-      Each-append P (variables_of_field (field_type e)) (joined (map variables_of_field (map field_type es))) (subst (Each P) (sym (variables_field (field_type e))) h.0) (joined_entries es h.1)
+      each_both P (variables_of_field (field_type e)) (joined (map variables_of_field (map field_type es))) (subst (Each P) (sym (variables_field (field_type e))) h.0) (joined_entries es h.1)
 
   entries_joined : (es : List (Label × Ty)) → Each P (joined (map variables_of_field (map field_type es))) → Each OfEntry es
   entries_joined [] h = tt
   entries_joined (e ∷ es) h = (
-    subst (Each P) (variables_field (field_type e)) (Each-append_left P (variables_of_field (field_type e)) (joined (map variables_of_field (map field_type es))) h),
-    entries_joined es (Each-append_right P (variables_of_field (field_type e)) (joined (map variables_of_field (map field_type es))) h),
+    subst (Each P) (variables_field (field_type e)) (each_front P (variables_of_field (field_type e)) (joined (map variables_of_field (map field_type es))) h),
+    entries_joined es (each_back P (variables_of_field (field_type e)) (joined (map variables_of_field (map field_type es))) h),
   )
 
   abbrev entry_variables : OpenRow → List Variable
@@ -71,16 +72,16 @@ module _ (P : Variable → Type 0) where
   pub row_variables_from : (m : OpenRow) → Each OfEntry (fin.entries m.fields) → AtTail variable.Row m.tail → Each P (variables_of_row (row_type m))
   row_variables_from m h tail =
       subst (Each P) (sym (variables_rolled (map field_type (fin.entries m.fields)) m.tail))
-      (Each-append P (entry_variables m) (cons_option (tail_variable variable.Row m.tail) []) (joined_entries (fin.entries m.fields) h) tail)
+      (each_both P (entry_variables m) (cons_option (tail_variable variable.Row m.tail) []) (joined_entries (fin.entries m.fields) h) tail)
 
   pub row_entries_have : (m : OpenRow) → Each P (variables_of_row (row_type m)) → Each OfEntry (fin.entries m.fields)
   row_entries_have m h =
       entries_joined (fin.entries m.fields)
-      (Each-append_left P (entry_variables m) (cons_option (tail_variable variable.Row m.tail) []) (subst (Each P) (variables_rolled (map field_type (fin.entries m.fields)) m.tail) h))
+      (each_front P (entry_variables m) (cons_option (tail_variable variable.Row m.tail) []) (subst (Each P) (variables_rolled (map field_type (fin.entries m.fields)) m.tail) h))
 
   pub row_tail_has : (m : OpenRow) → Each P (variables_of_row (row_type m)) → AtTail variable.Row m.tail
   row_tail_has m h =
-      Each-append_right P (entry_variables m) (cons_option (tail_variable variable.Row m.tail) []) (subst (Each P) (variables_rolled (map field_type (fin.entries m.fields)) m.tail) h)
+      each_back P (entry_variables m) (cons_option (tail_variable variable.Row m.tail) []) (subst (Each P) (variables_rolled (map field_type (fin.entries m.fields)) m.tail) h)
 
   placed : (l : Label) (t : Ty) (x : Label × Ty) (es more : List (Label × Ty)) (o : Ordering) → Each P (variables_of t) → Each OfEntry (x ∷ es) → Each OfEntry more
       → Each OfEntry (pick o ((l, t) ∷ x ∷ es) ((x.0, t) ∷ es) (x ∷ more))
@@ -155,7 +156,7 @@ module _ (P : Variable → Type 0) where
     params_variables (p ∷ ps) (t ∷ ts) e k h =
         let first : w p ≡ Plain t = first_same (w p) (Plain t) (map w ps) (map Plain ts) e in
         let here : Each P (variables_of t) = subst (ValueHas OfTypes) first (subst (λ k. ValueHas k (w p)) k.0 h.0) in
-        Each-append P (variables_of t) (flat_map variables_of ts) here (params_variables ps ts (rest_same (w p) (Plain t) (map w ps) (map Plain ts) e) k.1 h.1)
+        each_both P (variables_of t) (flat_map variables_of ts) here (params_variables ps ts (rest_same (w p) (Plain t) (map w ps) (map Plain ts) e) k.1 h.1)
 
     function_variables : (j k : Kind) (v u x : Value) (ps : List ℕ) → j ≡ OfEffects → k ≡ OfTypes → Each (λ k. k ≡ OfTypes) (map kind ps) → IsMadeOf head.Fun (v ∷ u ∷ map w ps) x
         → ValueHas j v → ValueHas k u → Each NodeHas ps → ValueHas OfTypes x
@@ -167,7 +168,7 @@ module _ (P : Variable → Type 0) where
         let at_answer : Each P (variables_of answer) = subst (λ k. ValueHas k (Plain answer)) ek ha in
         subst (ValueHas OfTypes) (sym is.4)
         (subst (Each P) (sym (variables_function params (effects_type s) answer))
-        (Each-append P (flat_map variables_of params ++ tail) (variables_of answer) (Each-append P (flat_map variables_of params) tail (params_variables ps params is.3 each h) at_tail) at_answer))
+        (each_both P (flat_map variables_of params ++ tail) (variables_of answer) (each_both P (flat_map variables_of params) tail (params_variables ps params is.3 each h) at_tail) at_answer))
     function_variables j k (Plain t) u x ps ej ek each is hm ha h = absurd is
     function_variables j k (OfRow m) (OfRow n) x ps ej ek each is hm ha h = absurd is
 
@@ -227,7 +228,7 @@ module _ (P : Variable → Type 0) where
     shape_has OfFields Empty x n k b free loose types rows effects h = subst (ValueHas OfFields) (sym b) (end_variables Closed tt)
     shape_has OfFields (Made g ps) x n k b free loose types rows effects h = absurd k
     shape_has OfFields (shape.Row fs t) x n k b free loose types rows effects h =
-        row_has fs (kind t) (w t) x k.1 k.0 b (Each-from_map NodeHas (λ (f : Field). f.node) fs h.1) h.0
+        row_has fs (kind t) (w t) x k.1 k.0 b (each_from_map NodeHas (λ (f : Field). f.node) fs h.1) h.0
     shape_has OfEffects Free x n k b free loose types rows effects h = absurd k
     shape_has OfEffects Open x n k b free loose types rows effects h = subst (ValueHas OfEffects) (sym (loose refl)) (effects refl refl, tt)
     shape_has OfEffects Empty x n k b free loose types rows effects h = subst (ValueHas OfEffects) (sym b) tt

@@ -5,13 +5,14 @@ use Rattle.std.specs.FinMap as fin
 use Rattle.std.specs.declared.cmp.Ordering.{Ordering}
 use Rattle.std.specs.declared.cmp.Ordering.TheVariants.{Less, Equal, Greater}
 use Rattle.lk_classes.specs.Classes.{class_at}
+use Rattle.lk_types.proofs.Members.{each_from_map, each_to_map}
 use Rattle.lk_types.specs.Each.{Each}
 use Rattle.lk_types.specs.Rows.{Label, label_order}
 use Rattle.lk_types.specs.declared.ty.RowTail.{RowTail}
 use Rattle.lk_types.specs.declared.ty.RowTail.TheVariants.{Closed, Var}
 use Rattle.lk_types.specs.declared.ty.Ty.{Ty}
 use Rattle.lk_types.specs.declared.ty.Ty.TheVariants as ty
-use Rattle.lk_arena.proofs.EachLemmas.{Each-zip, Each-from_map, Each-to_map}
+use Rattle.lk_arena.proofs.EachLemmas.{Each-zip}
 use Rattle.lk_arena.proofs.RowAlgebra.{RowFields}
 use Rattle.lk_arena.proofs.Sizes.{map_with, plain_or, no_entries}
 use Rattle.lk_arena.specs.Openings.{OpenRow, only_tail}
@@ -73,7 +74,7 @@ end_in_order x tail is = subst IsValueInOrder (sym is) (subst (Each IsEntryInOrd
 -- ---- constructors
 
 params_in_order : (ts : List Ty) (vs : List Value) → vs ≡ map Plain ts → Each IsValueInOrder vs → Each IsInOrder ts
-params_in_order ts vs is h = Each-from_map IsValueInOrder Plain ts (subst (Each IsValueInOrder) is h)
+params_in_order ts vs is h = each_from_map IsValueInOrder Plain ts (subst (Each IsValueInOrder) is h)
 
 made_in_order : (h : Head) (vs : List Value) (x : Value) → IsMadeOf h vs x → Each IsValueInOrder vs → IsValueInOrder x
 made_in_order head.Int [] x e all = subst IsValueInOrder (sym e) in_order_int
@@ -93,9 +94,9 @@ module _ (shapes : List Shape) (classes : List ℕ) (rank : ℕ → ℕ) (name :
   built_in_order i Free x b free loose parts = subst IsValueInOrder (sym (free refl)) (in_order_variable (name i))
   built_in_order i Open x b free loose parts = end_in_order x (Var (name i)) (loose refl)
   built_in_order i Empty x b free loose parts = end_in_order x Closed b
-  built_in_order i (Made h ps) x b free loose parts = made_in_order h (map u ps) x b (Each-to_map IsValueInOrder u ps parts)
+  built_in_order i (Made h ps) x b free loose parts = made_in_order h (map u ps) x b (each_to_map IsValueInOrder u ps parts)
   built_in_order i (shape.Row fs t) x b free loose parts =
-      row_in_order fs u (u t) x b (Each-from_map (λ p. IsValueInOrder (u p)) (λ (f : Field). f.node) fs parts.1) parts.0
+      row_in_order fs u (u t) x b (each_from_map (λ p. IsValueInOrder (u p)) (λ (f : Field). f.node) fs parts.1) parts.0
 
   of_class : (i : ℕ) → i < length shapes → IsValueInOrder (u (class_at classes i)) → IsValueInOrder (u i)
   of_class i b h = subst IsValueInOrder (sym (own.fits.respects i (let c : length classes ≡ length shapes = arena.named.count in omega arith))) h

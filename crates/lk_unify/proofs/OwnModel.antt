@@ -3,12 +3,13 @@
 use Rattle.std.proofs.Common.{◌≡◌, ℕ, zero, suc, ◌<◌, true, false, List, length, map, Option, Some, None, refl, sym, ◌∙◌, ap, subst, arith}
 use Rattle.std.specs.FinMap as fin
 use Rattle.lk_classes.specs.Classes.{class_at}
+use Rattle.lk_types.proofs.Members.{each_weaker}
 use Rattle.lk_types.specs.Each.{Each}
 use Rattle.lk_types.specs.Rows.{Label, label_order}
 use Rattle.lk_types.specs.declared.ty.RowTail.{RowTail}
 use Rattle.lk_types.specs.declared.ty.RowTail.TheVariants.{Closed, Var}
 use Rattle.lk_types.specs.declared.ty.Ty.TheVariants as ty
-use Rattle.lk_arena.proofs.EachLemmas.{Each-map, Each-zip}
+use Rattle.lk_arena.proofs.EachLemmas.{Each-zip}
 use Rattle.lk_unify.proofs.EffectRows.{IsEffectRow-empty}
 use Rattle.lk_arena.proofs.Heads.{made_plain}
 use Rattle.lk_unify.proofs.Models as models
@@ -105,7 +106,7 @@ module _ (shapes : List Shape) (classes : List ℕ) (rank : ℕ → ℕ) (arena 
       let row : IsRowOf fs v (v t) (v c) = subst (λ s. IsBuilt s v (v c)) is (fits.builds c b named) in
       let below : t < length shapes = (subst (λ s. Each (λ p. p < length shapes) (parts_of s)) is (arena.nodes c b)).0 in
       let less : rank (class_at classes t) < rank c = (subst (λ s. Each (λ p. rank (class_at classes p) < rank c) (parts_of s)) is (ranked c b named)).0 in
-      Each-map (λ f. fin.get row.tail.fields f.label ≡ None) (λ f. Lacks (u t) f.label)
+      each_weaker (λ f. fin.get row.tail.fields f.label ≡ None) (λ f. Lacks (u t) f.label)
       (λ f lacks. of_class t f.label below (lacks_both (rank c) (class_at classes t) f.label (arena.named.below t below) (arena.named.named t below) less less)
       (subst (λ x. Lacks x f.label) (sym row.tail_is) lacks))
       fs row.fresh

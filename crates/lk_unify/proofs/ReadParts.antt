@@ -1,10 +1,11 @@
 -- What the class of a node shows of its value, and what its parts can be read with.
 use Rattle.std.proofs.Common.{◌≡◌, ℕ, ◌-◌, ◌<◌, List, [], ◌∷◌, length, map, refl, sym, ◌∙◌, ap, subst, arith}
 use Rattle.lk_classes.specs.Classes.{class_at}
+use Rattle.lk_types.proofs.Members.{each_from_map}
 use Rattle.lk_types.specs.Each.{Each}
 use Rattle.lk_types.specs.declared.ty.RowTail.TheVariants.{Var}
 use Rattle.lk_types.specs.declared.ty.Ty.TheVariants as ty
-use Rattle.lk_arena.proofs.EachLemmas.{Each-zip, Each-from_map}
+use Rattle.lk_arena.proofs.EachLemmas.{Each-zip}
 use Rattle.lk_arena.specs.Kinds.{Kind, OfTypes, TakesKinds, HasKind}
 use Rattle.lk_unify.specs.Models.{IsOwn}
 use Rattle.lk_arena.specs.Openings.{only_tail, row_type}
@@ -24,7 +25,7 @@ all_types : (nodes : Arena) (numbers : List ℕ) (fuel : ℕ) (kind : ℕ → Ki
     Each (λ p. CanRead nodes numbers fuel p (kind p)) ps → Each (λ p. CanRead nodes numbers fuel p OfTypes) ps
 all_types nodes numbers fuel kind ps t c =
     Each-zip (λ p. kind p ≡ OfTypes) (λ p. CanRead nodes numbers fuel p (kind p)) (λ p. CanRead nodes numbers fuel p OfTypes) (λ p e r. subst (CanRead nodes numbers fuel p) e r) ps
-    (Each-from_map (λ k. k ≡ OfTypes) kind ps t) c
+    (each_from_map (λ k. k ≡ OfTypes) kind ps t) c
 
 taken : (nodes : Arena) (numbers : List ℕ) (fuel : ℕ) (kind : ℕ → Kind) (h : Head) (ps : List ℕ) → TakesKinds h (map kind ps) →
     Each (λ p. CanRead nodes numbers fuel p (kind p)) ps → CanReadParts nodes numbers fuel h ps

@@ -5,6 +5,7 @@ use Rattle.std.specs.List.{filter}
 use Rattle.std.specs.Prelude.{is_some}
 use Rattle.std.specs.Str.{bytes_eq}
 use Rattle.lk_classes.specs.Classes.{class_at}
+use Rattle.lk_types.proofs.Members.{each_from_map}
 use Rattle.lk_types.specs.Each.{Each}
 use Rattle.lk_types.specs.Rows.{Label, label_order, EffectSet}
 use Rattle.lk_types.specs.declared.ty.Effect.{Effect}
@@ -13,7 +14,7 @@ use Rattle.lk_types.specs.declared.ty.RowTail.{RowTail}
 use Rattle.lk_types.specs.declared.ty.RowTail.TheVariants.{Closed, Var}
 use Rattle.lk_types.specs.declared.ty.Ty.{Ty}
 use Rattle.lk_types.specs.declared.ty.Ty.TheVariants as ty
-use Rattle.lk_arena.proofs.EachLemmas.{Each-zip, Each-from_map}
+use Rattle.lk_arena.proofs.EachLemmas.{Each-zip}
 use Rattle.lk_unify.proofs.EffectSets.{set_in-effect_row}
 use Rattle.lk_unify.proofs.ReadParts.{shape_parts_can, shape_kind, shape_built, open_value}
 use Rattle.lk_arena.proofs.RowAlgebra.{same_rows}
@@ -154,7 +155,7 @@ module _ (nodes : Arena) (numbers : List ℕ) (fuel node : ℕ) (can : CanRead n
   fields_can fs t is =
       Each-zip (λ f. can.kind f.node ≡ OfTypes) (λ f. CanRead nodes numbers (fuel - 1) f.node (can.kind f.node)) (λ f. CanRead nodes numbers (fuel - 1) f.node OfTypes)
       (λ f e c. subst (CanRead nodes numbers (fuel - 1) f.node) e c) fs (shape_kind nodes numbers fuel node OfFields can (shape.Row fs t) is).0
-      (Each-from_map (λ p. CanRead nodes numbers (fuel - 1) p (can.kind p)) (λ f. f.node) fs (shape_parts_can nodes numbers fuel node OfFields can (shape.Row fs t) is).1)
+      (each_from_map (λ p. CanRead nodes numbers (fuel - 1) p (can.kind p)) (λ f. f.node) fs (shape_parts_can nodes numbers fuel node OfFields can (shape.Row fs t) is).1)
 
   module _ (u : ℕ → Value) (own : IsOwn nodes.shapes nodes.classes (name_in numbers) u) where
     pub fields_open : the_shape ≡ Open → only_tail (Var (name_in numbers (class_at nodes.classes node))) ≡ row_in (u node)

@@ -14,7 +14,7 @@ use Rattle.lk_types.specs.declared.equation.Binding.{Binding}
 use Rattle.lk_types.specs.declared.equation.Image.{Image}
 use Rattle.lk_types.specs.declared.ty.Variable.{Variable}
 use Rattle.lk_arena.specs.Kinds.{Kind}
-use Rattle.lk_unify.proofs.SameVariable.{agrees, same_self, same_back}
+use Rattle.lk_types.proofs.SameVariable.{agrees, same_self, same_turned}
 use Rattle.lk_unify.specs.Loading.{node_for, kind_of, IsLoader, IsKinded}
 use Rattle.lk_arena.specs.Order.{IsRanked}
 use Rattle.lk_unify.specs.Reading.{CanRead, image_of, number_of, binding_by}
@@ -43,7 +43,7 @@ by_nodes l u (e ∷ es) all =
 -- ---- each entry is found by its variable
 
 apart : (x y : Variable) (o : Ordering) → cmp-value.it x y ≡ o → o ≡ Less → same_variable y x ≡ false
-apart x y o is less = same_back y x ∙ sym (agrees x y) ∙ ap is_eq (is ∙ less)
+apart x y o is less = same_turned y x ∙ sym (agrees x y) ∙ ap is_eq (is ∙ less)
 
 abbrev IsFound : List (Variable × ℕ) → Variable × ℕ → Type 0
 IsFound es e = lookup (same_variable e.0) es ≡ Some e.1

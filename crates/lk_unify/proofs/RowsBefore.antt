@@ -4,11 +4,12 @@ use Rattle.std.specs.Cmp.Lexicographic.{nat_list_cmp_total, bytes_decides}
 use Rattle.std.specs.FinMap as fin
 use Rattle.std.specs.Prelude.{is_some, if◌then◌else◌}
 use Rattle.std.specs.Str.{bytes_eq}
+use Rattle.lk_types.proofs.LabelMaps.{labels_tie, labels_differ}
 use Rattle.lk_types.specs.Each.{Each}
 use Rattle.lk_types.specs.Rows.{Label}
 use Rattle.lk_types.specs.declared.ty.Ty.{Ty}
+use Rattle.lk_arena.proofs.Distinct.{lacks}
 use Rattle.lk_arena.proofs.RowAlgebra.{RowFields, one_more, same_rows, label_cases, found_here, found_below, found_prop, plain_some, row_same}
-use Rattle.lk_arena.proofs.Sizes.{ties, no_ties}
 use Rattle.lk_arena.specs.Openings.{OpenRow, Opened, before_open, with_opened}
 use Rattle.lk_arena.specs.Shapes.{found_at, plain_of, value_at, IsPlain, IsRowOf, IsDistinct}
 use Rattle.lk_arena.specs.Values.{Value, Plain, OfRow}
@@ -21,10 +22,10 @@ AreKnown w (f ∷ fs) (k ∷ ks) = (f.label ≡ k.0) × ((t : Ty) × (k.1 ≡ So
 AreKnown w _ _ = ⊥
 
 pub hit : (m : RowFields) (k : Label) (t : Ty) (l : Label) → l ≡ k → fin.get (fin.insert m k t) l ≡ Some t
-hit m k t l e = fin.get-insert nat_list_cmp_total m k t l ∙ ap (λ b. cond b (Some t) (fin.get m l)) (ties l k e)
+hit m k t l e = fin.get-insert nat_list_cmp_total m k t l ∙ ap (λ b. cond b (Some t) (fin.get m l)) (labels_tie l k e)
 
 pub miss : (m : RowFields) (k : Label) (t : Ty) (l : Label) → (l ≡ k → ⊥) → fin.get (fin.insert m k t) l ≡ fin.get m l
-miss m k t l n = fin.get-insert nat_list_cmp_total m k t l ∙ ap (λ b. cond b (Some t) (fin.get m l)) (no_ties l k n)
+miss m k t l n = fin.get-insert nat_list_cmp_total m k t l ∙ ap (λ b. cond b (Some t) (fin.get m l)) (labels_differ l k n)
 
 abbrev pub has_label : OpenRow → Label → Bool
 has_label m l = fin.contains_key m.fields l
@@ -40,10 +41,6 @@ with_one l (Some t) (Some m) x e = by_test (has_label m l) refl e
         → (u : Ty) × (n : OpenRow) × (Some t ≡ Some u) × (Some m ≡ Some n) × (has_label n l ≡ false) × (x ≡ one_more n l u)
     by_test true is e = cc
     by_test false is e = (t, m, refl, refl, is, (let h : x ≡ one_more m l t = cc in h))
-
-pub lacks : {A : Type 0} (o : Option A) → is_some o ≡ false → o ≡ None
-lacks None e = refl
-lacks (Some a) e = cc
 
 -- two values at a label, where the row behind has none
 nothing_behind : (w : ℕ → Value) (o : Option ℕ) (below : Option Ty) → ((n : ℕ) → o ≡ Some n → IsPlain (w n)) → value_at w o below ≡ None → below ≡ None

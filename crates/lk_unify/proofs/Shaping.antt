@@ -1,13 +1,14 @@
 -- Values by the shapes of the nodes: what the values of the parts make, and of which kind it is.
 use Rattle.std.proofs.Common.{◌≡◌, ℕ, true, false, List, [], ◌∷◌, map, None, refl, sym, ◌∙◌, ap, subst}
 use Rattle.std.specs.FinMap as fin
+use Rattle.lk_types.proofs.Members.{each_weaker, each_from_map}
 use Rattle.lk_types.specs.Each.{Each}
 use Rattle.lk_types.specs.Rows.{Label}
 use Rattle.lk_types.specs.declared.ty.RowTail.TheVariants.{Closed}
 use Rattle.lk_types.specs.declared.ty.Ty.{Ty}
 use Rattle.lk_types.specs.declared.ty.Ty.TheVariants as ty
 use Rattle.lk_types.specs.declared.ty.TyRow.{roll-TyRow}
-use Rattle.lk_arena.proofs.EachLemmas.{Each-map, Each-zip, Each-from_map}
+use Rattle.lk_arena.proofs.EachLemmas.{Each-zip}
 use Rattle.lk_unify.proofs.EffectRows.{IsEffectRow, IsEffectRow-empty, IsEffectRow-insert, its_effects}
 use Rattle.lk_arena.proofs.Sizes.{plain_or, map_with, row_with, get-row_with, no_entries}
 use Rattle.lk_arena.specs.Kinds.{Kind, OfTypes, OfFields, OfEffects, OfUnit, OfNothing, IsEffectName, TakesKinds, HasKind}
@@ -157,7 +158,7 @@ module _ (fs : List Field) (t : ℕ) (w : ℕ → Value) (m : OpenRow) (tail : w
     tail_is = tail;
     row_is = refl;
     plain = plain;
-    fresh = Each-map (λ f. fin.get (row_in (w t)).fields f.label ≡ None) (λ f. fin.get m.fields f.label ≡ None) (λ f e. ap (λ x. fin.get (row_in x).fields f.label) (sym tail) ∙ e) fs fresh;
+    fresh = each_weaker (λ f. fin.get (row_in (w t)).fields f.label ≡ None) (λ f. fin.get m.fields f.label ≡ None) (λ f e. ap (λ x. fin.get (row_in x).fields f.label) (sym tail) ∙ e) fs fresh;
     at = λ l. get-row_with fs w (row_in (w t)) plain l ∙ ap (λ x. value_at w (found_at fs l) (fin.get (row_in x).fields l)) tail;
     same_end = ap (λ x. (row_in x).tail) tail;
   }
@@ -175,14 +176,14 @@ module _ (kind : ℕ → Kind) (w : ℕ → Value) where
   plain_fields : (fs : List Field) → Each (λ f. kind f.node ≡ OfTypes) fs → Each (λ p. HasValue (kind p) (w p)) (map (λ f. f.node) fs) → Each (λ f. IsPlain (w f.node)) fs
   plain_fields fs k h =
       Each-zip (λ f. kind f.node ≡ OfTypes) (λ f. HasValue (kind f.node) (w f.node)) (λ f. IsPlain (w f.node)) (λ f e x. subst (λ k. HasValue k (w f.node)) e x) fs k
-      (Each-from_map (λ p. HasValue (kind p) (w p)) (λ f. f.node) fs h)
+      (each_from_map (λ p. HasValue (kind p) (w p)) (λ f. f.node) fs h)
 
   unit_fields : (fs : List Field) → Each (λ f. IsEffectName f.label × (kind f.node ≡ OfUnit)) fs → Each (λ p. HasValue (kind p) (w p)) (map (λ f. f.node) fs) →
       Each (λ f. IsEffectName f.label × (w f.node ≡ Plain unit_type)) fs
   unit_fields fs k h =
       Each-zip (λ f. IsEffectName f.label × (kind f.node ≡ OfUnit)) (λ f. HasValue (kind f.node) (w f.node)) (λ f. IsEffectName f.label × (w f.node ≡ Plain unit_type))
       (λ f e x. (e.0, subst (λ k. HasValue k (w f.node)) e.1 x)) fs k
-      (Each-from_map (λ p. HasValue (kind p) (w p)) (λ f. f.node) fs h)
+      (each_from_map (λ p. HasValue (kind p) (w p)) (λ f. f.node) fs h)
 
   abbrev pub IsFresh : Shape → Type 0
   IsFresh (shape.Row fs t) = Each (λ f. fin.get (row_in (w t)).fields f.label ≡ None) fs
@@ -218,7 +219,7 @@ module _ (kind : ℕ → Kind) (w : ℕ → Value) where
       let row : IsEffectRow (row_in (w t)) = subst (λ x. IsEffectRow (row_in x)) (sym tail.1) tail.2 in (
         (row_with fs w (row_in (w t)), refl, effects_with fs w (row_in (w t)) units row),
         row_built fs t w tail.0 tail.1 f
-            (Each-map (λ f. IsEffectName f.label × (w f.node ≡ Plain unit_type)) (λ f. IsPlain (w f.node)) (λ f u. (unit_type, u.1)) fs units),
+            (each_weaker (λ f. IsEffectName f.label × (w f.node ≡ Plain unit_type)) (λ f. IsPlain (w f.node)) (λ f u. (unit_type, u.1)) fs units),
       )
   node_well OfUnit Free x h e f c = absurd h
   node_well OfUnit Open x h e f c = absurd h

@@ -1,5 +1,6 @@
 -- What is read back of the nodes is a most general solution in solved form.
 use Rattle.std.proofs.Common.{◌≡◌, ℕ, List, [], ◌∷◌, flat_map, Option, Some, None, refl, sym, ◌∙◌, ap, subst}
+use Rattle.lk_types.proofs.Members.{each_both}
 use Rattle.lk_types.specs.Each.{Each}
 use Rattle.lk_types.specs.Sizes.{IsSolution}
 use Rattle.lk_types.specs.Solutions.{HasSolution, IsMostGeneral, IsUnbound}
@@ -10,7 +11,6 @@ use Rattle.lk_types.specs.declared.equation.Subst.{Subst}
 use Rattle.lk_types.specs.declared.ty.Variable.{Variable}
 use Rattle.lk_types.specs.declared.ty.Variable.TheVariants as variable
 use Rattle.lk_unify.proofs.Bindings.{puts_at, unbound}
-use Rattle.lk_arena.proofs.EachLemmas.{Each-append}
 use Rattle.lk_unify.proofs.Generality.{instance_by, opens_all}
 use Rattle.lk_unify.proofs.Instances.{instance_solves, instance_all}
 use Rattle.lk_unify.proofs.OpenEffects.{effects_in_row}
@@ -88,7 +88,7 @@ module _ (es : List Equation) (o : OwnNodes es) where
   bindings_solved : (xs : List (Variable × ℕ)) → Each IsSolved (flat_map (λ e. binding_by e.0 o.values (node_for o.loader e.0)) xs)
   bindings_solved [] = tt
   bindings_solved (e ∷ xs) =
-      Each-append IsSolved (binding_by e.0 o.values (node_for o.loader e.0)) (flat_map (λ e. binding_by e.0 o.values (node_for o.loader e.0)) xs)
+      each_both IsSolved (binding_by e.0 o.values (node_for o.loader e.0)) (flat_map (λ e. binding_by e.0 o.values (node_for o.loader e.0)) xs)
       (binding_solved e.0 (node_for o.loader e.0) refl) (bindings_solved xs)
 
   -- ---- most general

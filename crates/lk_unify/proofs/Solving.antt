@@ -6,6 +6,7 @@ use Rattle.lk_types.specs.declared.ty.RowTail.TheVariants.{Closed}
 use Rattle.lk_types.specs.Variables.{same_variable}
 use Rattle.lk_types.specs.declared.equation.Equation.{Equation}
 use Rattle.lk_types.specs.declared.ty.Variable.{Variable}
+use Rattle.lk_arena.proofs.Ranks.{some_of}
 use Rattle.lk_arena.specs.Kinds.{Kind, OfTypes}
 use Rattle.lk_unify.specs.Loading.{node_for, kind_of, end_value, Agrees, IsLoader, IsKinded, Loads, LoadsEquation}
 use Rattle.lk_arena.specs.Openings.{Opening, only_tail}
@@ -93,10 +94,6 @@ start_more old new x node start loads = record {
       let w = loads.to.forth v.0 ρ (end_value (Some x) ρ) v.1 v.2 refl in
       (w.0, w.2, w.3);
 }
-
-some_of : (o : Option ℕ) → IsSome o → (n : ℕ) × (o ≡ Some n)
-some_of None h = absurd (grind arith)
-some_of (Some n) h = (n, refl)
 
 is_some : (o : Option ℕ) (n : ℕ) → o ≡ Some n → IsSome o
 is_some o n e = subst IsSome (sym e) (grind arith)

@@ -3,11 +3,12 @@
 use Rattle.std.proofs.Common.{◌≡◌, ℕ, zero, suc, ◌+◌, ◌<◌, ◌≤◌, true, false, List, length, map, refl, sym, ◌∙◌, ap, ap₂, subst, arith}
 use Rattle.std.specs.FinMap as fin
 use Rattle.lk_classes.specs.Classes.{class_at}
+use Rattle.lk_types.proofs.Members.{each_weaker, each_from_map}
 use Rattle.lk_types.specs.Each.{Each}
 use Rattle.lk_types.specs.declared.ty.RowTail.{RowTail}
 use Rattle.lk_types.specs.declared.ty.RowTail.TheVariants.{Closed, Var}
 use Rattle.lk_types.specs.declared.ty.Ty.TheVariants as ty
-use Rattle.lk_arena.proofs.EachLemmas.{Each-map, Each-zip, Each-from_map}
+use Rattle.lk_arena.proofs.EachLemmas.{Each-zip}
 use Rattle.lk_unify.proofs.OpenCounts.{sums_same, sums_below, count_some, row_count_some}
 use Rattle.lk_unify.proofs.OpenUnfold.{count_variable}
 use Rattle.lk_unify.proofs.RowCounts.{its_rows, plain_count, row_count_fields, row_count_end, entries_by_fields, made_count}
@@ -53,7 +54,7 @@ module _ (closed : ℕ) (kind : ℕ → Kind) (w : ℕ → Value) where
       let c : value_count closed k y ≡ row_count closed (row_type r.tail) = ap₂ (value_count closed) e r.tail_is in
       let f : sum_of (map (λ f. 1 + plain_count closed (w f.node)) fs) ≡ sum_of (map (λ f. 1 + of_node f.node) fs) =
       sums_same (λ (f : Field). 1 + plain_count closed (w f.node)) (λ f. 1 + of_node f.node) fs
-      (Each-map (λ (f : Field). kind f.node ≡ OfTypes) (λ f. 1 + plain_count closed (w f.node) ≡ 1 + of_node f.node)
+      (each_weaker (λ (f : Field). kind f.node ≡ OfTypes) (λ f. 1 + plain_count closed (w f.node) ≡ 1 + of_node f.node)
       (λ f e. ap (λ n. 1 + n) (plain_of_kind (kind f.node) (w f.node) e)) fs kinds) in
       omega arith
 
@@ -171,7 +172,7 @@ counted_below closed OfFields (Made h ps) f g e = omega arith
 counted_below closed OfFields (shape.Row fs t) f g e =
     let a = e.0 in
     let b = sums_below (λ (x : Field). 1 + f x.node) (λ x. 1 + g x.node) fs
-    (Each-map (λ (x : Field). f x.node ≤ g x.node) (λ x. 1 + f x.node ≤ 1 + g x.node) (λ x h. omega arith) fs (Each-from_map (λ p. f p ≤ g p) (λ (x : Field). x.node) fs e.1)) in
+    (each_weaker (λ (x : Field). f x.node ≤ g x.node) (λ x. 1 + f x.node ≤ 1 + g x.node) (λ x h. omega arith) fs (each_from_map (λ p. f p ≤ g p) (λ (x : Field). x.node) fs e.1)) in
     omega arith
 counted_below closed OfEffects Free f g e = omega arith
 counted_below closed OfEffects Open f g e = omega arith

@@ -2,10 +2,11 @@
 use Rattle.std.proofs.Common.{◌≡◌, ℕ, zero, suc, ◌<◌, ◌⊎◌, inl, inr, ⊎_elim, List, [], ◌∷◌, length, map, Option, Some, None, refl, sym, ◌∙◌, ap, subst, arith}
 use Rattle.std.specs.FinMap as fin
 use Rattle.lk_classes.specs.Classes.{class_at}
+use Rattle.lk_types.proofs.Members.{each_weaker, each_from_map}
 use Rattle.lk_types.specs.Each.{Each}
 use Rattle.lk_types.specs.Rows.{Label}
 use Rattle.lk_types.specs.declared.ty.RowTail.TheVariants.{Closed, Var}
-use Rattle.lk_arena.proofs.EachLemmas.{Each-map, Each-zip, Each-from_map}
+use Rattle.lk_arena.proofs.EachLemmas.{Each-zip}
 use Rattle.lk_unify.proofs.EffectRows.{IsEffectRow, IsEffectRow-empty}
 use Rattle.lk_arena.proofs.Heads.{made_plain}
 use Rattle.lk_arena.proofs.RowAlgebra.{found_prop, found_label}
@@ -34,9 +35,9 @@ module _ (fs : List Field) (w : ℕ → Value) (y x : Value) (row : IsRowOf fs w
       let e : fin.get row.row.fields l ≡ fin.get m.fields l = at_row l ∙ ap (λ o. value_at w o (fin.get m.fields l)) is in
       ⊎_elim (λ n. inl (e ∙ n)) (λ s. inr (s.0, e ∙ s.1)) (effects l)
   by_found l (Some n) is =
-      let name : IsEffectName l = found_label IsEffectName fs l n (Each-map (λ f. IsEffectName f.label × (w f.node ≡ Plain unit_type)) (λ f. IsEffectName f.label) (λ f u. u.0) fs units) is in
+      let name : IsEffectName l = found_label IsEffectName fs l n (each_weaker (λ f. IsEffectName f.label × (w f.node ≡ Plain unit_type)) (λ f. IsEffectName f.label) (λ f u. u.0) fs units) is in
       let unit : w n ≡ Plain unit_type =
-      found_prop (λ n. w n ≡ Plain unit_type) fs l n (Each-map (λ f. IsEffectName f.label × (w f.node ≡ Plain unit_type)) (λ f. w f.node ≡ Plain unit_type) (λ f u. u.1) fs units) is in
+      found_prop (λ n. w n ≡ Plain unit_type) fs l n (each_weaker (λ f. IsEffectName f.label × (w f.node ≡ Plain unit_type)) (λ f. w f.node ≡ Plain unit_type) (λ f u. u.1) fs units) is in
       inr (name, at_row l ∙ ap (λ o. value_at w o (fin.get m.fields l)) is ∙ ap plain_of unit)
 
   effects_before : IsEffectRow row.row
@@ -69,7 +70,7 @@ module _ (kind : ℕ → Kind) (w : ℕ → Value) where
       let units : Each (λ f. IsEffectName f.label × (w f.node ≡ Plain unit_type)) fs =
       Each-zip (λ f. IsEffectName f.label × (kind f.node ≡ OfUnit)) (λ f. HasValue (kind f.node) (w f.node)) (λ f. IsEffectName f.label × (w f.node ≡ Plain unit_type))
       (λ f e u. (e.0, subst (λ k. HasValue k (w f.node)) e.1 u)) fs h.0
-      (Each-from_map (λ p. HasValue (kind p) (w p)) (λ f. f.node) fs parts.1) in
+      (each_from_map (λ p. HasValue (kind p) (w p)) (λ f. f.node) fs parts.1) in
       (b.row, b.row_is, effects_before fs w (w t) x b units tail.0 tail.1 tail.2)
   built_kind OfUnit Free x h b parts effects = absurd h
   built_kind OfUnit Open x h b parts effects = absurd h

@@ -5,6 +5,7 @@ use Rattle.lk_ast.specs.declared.declaration.TableDecl.{TableDecl}
 use Rattle.lk_ast.specs.declared.place.Loc.{Loc}
 use Rattle.lk_ast.specs.declared.place.Span.{Span}
 use Rattle.lk_ast.specs.declared.place.Word.{Word}
+use Rattle.lk_types.proofs.Members.{each_both}
 use Rattle.lk_types.specs.Grounding.{Grounding, under}
 use Rattle.lk_types.specs.Rows.{Label, EffectSet}
 use Rattle.lk_types.specs.declared.ground.Ground.{Ground}
@@ -15,7 +16,7 @@ use Rattle.lk_types.specs.declared.ty.RowTail.TheVariants.{Var}
 use Rattle.lk_types.specs.declared.ty.Ty.{Ty}
 use Rattle.lk_types.specs.declared.ty.Ty.TheVariants as ty
 use Rattle.lk_typing.proofs.EffectRows.{without, has_complete}
-use Rattle.lk_typing.proofs.Lists.{each_both, length_append, length_both, stand_front, stand_back}
+use Rattle.lk_typing.proofs.Lists.{length_append, length_both, stand_front, stand_back}
 use Rattle.lk_typing.proofs.Meaning.{Letter, plain, effects, Stand, Names, HasEffects, Met, Complete}
 use Rattle.lk_typing.proofs.Nodes.{with_node, stand_before, ended_holds, equations_hold, one_more, nodes_of, nodes_both, letters_if, has_if_complete, ToldMet}
 use Rattle.lk_typing.proofs.Scopes.{names_both, same_types}

@@ -3,6 +3,7 @@ use Rattle.std.proofs.Common.{◌≡◌, ℕ, ◌+◌, true, List, [], ◌∷◌
 use Rattle.std.specs.Option.{option_map}
 use native.Mathlib.Omega.{arith}
 use Rattle.lk_ast.specs.declared.declaration.TableDecl.{TableDecl}
+use Rattle.lk_types.proofs.Members.{each_both}
 use Rattle.lk_types.specs.Grounding.{Grounding, under}
 use Rattle.lk_types.specs.Rows.{Label, Row, EffectSet, no_fields}
 use Rattle.lk_types.specs.Solutions.{IsMet}
@@ -16,7 +17,7 @@ use Rattle.lk_types.specs.declared.ty.Ty.{Ty}
 use Rattle.lk_types.specs.declared.ty.Ty.TheVariants as ty
 use Rattle.lk_typing.proofs.EffectRows.{without}
 use Rattle.lk_typing.proofs.Instances.{local_complete}
-use Rattle.lk_typing.proofs.Lists.{each_both, length_both}
+use Rattle.lk_typing.proofs.Lists.{length_both}
 use Rattle.lk_typing.proofs.Meaning as letter
 use Rattle.lk_typing.proofs.Meaning.{HasEffects, Names, Letter, Stand, OwnMet, seen}
 use Rattle.lk_typing.proofs.Operators.{Labelled, labelled_both, row_is, under_row_of}

@@ -6,6 +6,7 @@ use Rattle.std.specs.Option.{option_map}
 use Rattle.lk_ast.specs.declared.declaration.TableDecl.{TableDecl}
 use Rattle.lk_ast.specs.declared.expression.SortKey.{SortKey}
 use Rattle.lk_ast.specs.declared.place.Span.{Span}
+use Rattle.lk_types.proofs.Members.{each_both}
 use Rattle.lk_types.proofs.Unfold.{under_bool}
 use Rattle.lk_types.specs.Each.{Each}
 use Rattle.lk_types.specs.Grounding.{Grounding, under}
@@ -21,7 +22,7 @@ use Rattle.lk_types.specs.declared.ty.Ty.{Ty}
 use Rattle.lk_types.specs.declared.ty.Ty.TheVariants as ty
 use Rattle.lk_typing.proofs.EffectRows.{without, has_complete}
 use Rattle.lk_typing.proofs.Groups.Functions.{stand_next}
-use Rattle.lk_typing.proofs.Lists.{each_both, length_append, stand_front, become_both}
+use Rattle.lk_typing.proofs.Lists.{length_append, stand_front, become_both}
 use Rattle.lk_typing.proofs.Complete.Sequences.{CompleteAll, MetAll}
 use Rattle.lk_typing.proofs.Meaning.{Letter, plain, row, effects, Stand, Names, HasEffects, Met, Complete, OwnMet, seen}
 use Rattle.lk_typing.proofs.Nodes.{with_node, stand_before, ended_holds, one_more, nodes_of, letters_if, has_if_complete, ToldMet}

@@ -5,6 +5,7 @@ use Rattle.std.specs.Option.{option_map}
 use Rattle.lk_ast.specs.declared.declaration.TableDecl.{TableDecl}
 use Rattle.lk_ast.specs.declared.expression.Case.{Case}
 use Rattle.lk_ast.specs.declared.place.Word.{Word}
+use Rattle.lk_types.proofs.Members.{each_both}
 use Rattle.lk_types.specs.Each.{Each}
 use Rattle.lk_types.specs.Grounding.{Grounding, under}
 use Rattle.lk_types.specs.Rows.{Label, EffectSet}
@@ -13,7 +14,7 @@ use Rattle.lk_types.specs.declared.ground.Ground.{Ground}
 use Rattle.lk_types.specs.declared.ty.Effects.{Effects}
 use Rattle.lk_types.specs.declared.ty.Ty.{Ty}
 use Rattle.lk_types.specs.declared.ty.Ty.TheVariants as ty
-use Rattle.lk_typing.proofs.Lists.{each_both, length_both, stand_front, stand_back, become_more, become_both}
+use Rattle.lk_typing.proofs.Lists.{length_both, stand_front, stand_back, become_more, become_both}
 use Rattle.lk_typing.proofs.Meaning.{Letter, plain, Stand, Names, Functions, HasEffects, Met, Complete, OwnMet}
 use Rattle.lk_typing.proofs.Nodes.{nodes_of}
 use Rattle.lk_typing.proofs.Scopes.{names_both}

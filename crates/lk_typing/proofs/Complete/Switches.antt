@@ -4,6 +4,7 @@ use native.Mathlib.Omega.{arith}
 use Rattle.std.specs.Option.{option_map}
 use Rattle.lk_ast.specs.declared.declaration.TableDecl.{TableDecl}
 use Rattle.lk_ast.specs.declared.place.Span.{Span}
+use Rattle.lk_types.proofs.Members.{each_both}
 use Rattle.lk_types.specs.Each.{Each}
 use Rattle.lk_types.specs.Grounding.{Grounding, under, row_tail}
 use Rattle.lk_types.specs.Rows.{Label, Row, EffectSet, no_fields}
@@ -15,7 +16,7 @@ use Rattle.lk_types.specs.declared.ty.RowTail.TheVariants.{Closed, Var}
 use Rattle.lk_types.specs.declared.ty.Ty.{Ty}
 use Rattle.lk_typing.proofs.EffectRows.{without, has_complete}
 use Rattle.lk_typing.proofs.Groups.Functions.{stand_next}
-use Rattle.lk_typing.proofs.Lists.{each_both, length_append, stand_front, become_more, become_both}
+use Rattle.lk_typing.proofs.Lists.{length_append, stand_front, become_more, become_both}
 use Rattle.lk_typing.proofs.Complete.Sequences.{CompleteCases, MetCases, letters_of_none, one_type_complete}
 use Rattle.lk_typing.proofs.Meaning.{Letter, row, effects, Stand, Names, Met, Complete, OwnMet}
 use Rattle.lk_typing.proofs.Nodes.{with_node, stand_before, ended_holds, one_more, nodes_of}

@@ -4,6 +4,7 @@ use native.Mathlib.Omega.{arith}
 use Rattle.lk_ast.specs.declared.place.Loc.{Loc}
 use Rattle.lk_ast.specs.declared.place.Span.{Span}
 use Rattle.lk_ast.specs.declared.place.Word.{Word}
+use Rattle.lk_types.proofs.Members.{each_both}
 use Rattle.lk_types.specs.Rows.{Label, no_effects, same_effect}
 use Rattle.lk_types.specs.declared.ty.Effect.TheVariants as effect
 use Rattle.lk_types.specs.declared.ty.Effects.{Effects}
@@ -13,7 +14,6 @@ use Rattle.lk_types.specs.declared.ty.Ty.TheVariants as ty
 use Rattle.lk_typing.proofs.Even.Found.{Before, mapped, one_further, weaker, onward, beside, new, any_sets}
 use Rattle.lk_typing.proofs.Even.Nodes.{Context, Even, EvenTold, EvenWalked, all_even, both_even, steps_both, said_at, ended_even, has_if_found}
 use Rattle.lk_typing.proofs.Even.Types.{HasRow, AreEvenTypes, AreEvenNames, even_variable, even_list, even_function, even_has, alone}
-use Rattle.lk_typing.proofs.Lists.{each_both}
 use Rattle.lk_typing.specs.EffectRows.{IsEven}
 use Rattle.lk_typing.specs.Equations.{own}
 use Rattle.lk_typing.specs.Names.{Named, Entry, types_of}

@@ -6,6 +6,7 @@ use Rattle.lk_ast.specs.declared.declaration.Decl.{Decl}
 use Rattle.lk_ast.specs.declared.declaration.FunDef.{FunDef}
 use Rattle.lk_ast.specs.declared.declaration.TableDecl.{TableDecl}
 use Rattle.lk_ast.specs.declared.place.Span.{Span}
+use Rattle.lk_types.proofs.Members.{each_both}
 use Rattle.lk_types.specs.Each.{Each}
 use Rattle.lk_types.specs.Rows.{no_effects}
 use Rattle.lk_types.specs.declared.equation.Equation.{Equation}
@@ -19,7 +20,6 @@ use Rattle.lk_typing.proofs.Even.Found.{Before, Stays, Found, now, mapped, weake
 use Rattle.lk_typing.proofs.Even.Nodes.{AreEvenEntries, IsEvenEntry, EvenTold, EvenWalked, all_even, steps_both, said_at, has_if_found}
 use Rattle.lk_typing.proofs.Even.Signatures.{signature_found}
 use Rattle.lk_typing.proofs.Even.Types.{HasRow, AreEvenTypes, AreEvenNames, IsEvenEquation, even_text, even_variable, even_function, alone}
-use Rattle.lk_typing.proofs.Lists.{each_both}
 use Rattle.lk_typing.proofs.Even.Loose.{same_loosely, holds_loosely}
 use Rattle.lk_typing.specs.EffectRows.{IsEven, AreEven, IsEvenScheme, EffectsLaw}
 use Rattle.lk_typing.specs.Groups.{is_mutual, is_recursive, own_entries, scheme_entries, Unknown, after_unknown, type_of, unknowns, after_unknowns, signature_told, main_told, FunctionWalked, function_walked, functions_walked, group_types, group_walked}

@@ -3,15 +3,17 @@ use Rattle.std.proofs.Common.{◌≡◌, ℕ, ◌+◌, ◌<◌, ◌≤◌, List,
 use Rattle.std.proofs.Math.Nat.{le-max_left}
 use native.Mathlib.Omega.{arith}
 use Rattle.std.specs.List.{cons_option}
+use Rattle.lk_types.proofs.Agreement.{variables_rolled, variables_rolled_row, variables_rolled_field}
+use Rattle.lk_types.proofs.Members.{each_front, each_back, each_both}
 use Rattle.lk_types.specs.Each.{Each}
-use Rattle.lk_types.specs.Variables.{joined, before_tail, tail_variable, variables_of, variables_of_row, variables_of_field, ty_variables, row_variables, field_variables}
+use Rattle.lk_types.specs.Variables.{joined, before_tail, tail_variable, variables_of, variables_of_row, variables_of_field, ty_variables}
 use Rattle.lk_types.specs.declared.scheme.Lack.{Lack}
 use Rattle.lk_types.specs.declared.scheme.Scheme.{Scheme}
 use Rattle.lk_types.specs.declared.ty.Effects.{Effects}
 use Rattle.lk_types.specs.declared.ty.RowTail.{RowTail}
 use Rattle.lk_types.specs.declared.ty.RowTail.TheVariants.{Closed, Var}
 use Rattle.lk_types.specs.declared.ty.Ty.{Ty, roll-Ty}
-use Rattle.lk_types.specs.declared.ty.Ty.TheFolds.{ind-Ty, map-Ty, fold-roll-Ty, fold-roll-TyRow, fold-roll-TyField}
+use Rattle.lk_types.specs.declared.ty.Ty.TheFolds.{ind-Ty, map-Ty}
 use Rattle.lk_types.specs.declared.ty.Ty.TheOpen.{Ty-F, TyField-F, TyRow-F}
 use Rattle.lk_types.specs.declared.ty.TyField.{TyField, roll-TyField}
 use Rattle.lk_types.specs.declared.ty.TyRow.{TyRow, roll-TyRow}
@@ -21,26 +23,11 @@ use Rattle.lk_typing.proofs.Even.Found.{Before, Stays, Found, mapped, now, here,
 use Rattle.lk_typing.proofs.Even.Nodes.{IsEvenEntry, IfThere, EvenOwn}
 use Rattle.lk_typing.proofs.Even.Types.{HasRow, IsEvenEquation, even_int, even_bool, even_text, even_variable, even_list, even_fields, even_tags, even_function_rows, even_record, even_unit}
 use Rattle.lk_typing.proofs.Instances.{rolled, rolled_row, rolled_field}
-use Rattle.lk_typing.proofs.Lists.{each_front, each_back, each_both}
 use Rattle.lk_typing.proofs.Even.Loose.{rows_of_row, rows_of_field, rows_rolled, rows_rolled_row, rows_rolled_field}
 use Rattle.lk_typing.specs.EffectRows.{ty_rows, rows_of, IsEven, IsEvenScheme}
 use Rattle.lk_typing.specs.Equations.{own, lacks, used}
 use Rattle.lk_typing.specs.Names.{Entry, One, Many}
 use Rattle.lk_typing.specs.Renamed.{number_of, beyond, width, tail_renamed, effects_renamed, ty_renamed, renamed, renamed_row, renamed_field}
-
--- ---- one level
-
-variables_rolled : (x : Ty-F Ty TyField TyRow) → variables_of (roll-Ty x) ≡ ty_variables (map-Ty Ty TyField TyRow (List Variable) (List Variable) (List Variable) variables_of variables_of_field variables_of_row x)
-unfolding variables_of variables_of_field variables_of_row
-variables_rolled x = fold-roll-Ty (List Variable) (List Variable) (List Variable) ty_variables field_variables row_variables x
-
-variables_rolled_row : (x : TyRow-F Ty TyField TyRow) → variables_of_row (roll-TyRow x) ≡ before_tail (joined (map variables_of_field x.fields)) variable.Row x.tail
-unfolding variables_of variables_of_field variables_of_row
-variables_rolled_row x = fold-roll-TyRow (List Variable) (List Variable) (List Variable) ty_variables field_variables row_variables x
-
-variables_rolled_field : (x : TyField-F Ty TyField TyRow) → variables_of_field (roll-TyField x) ≡ variables_of x.ty
-unfolding variables_of variables_of_field variables_of_row
-variables_rolled_field x = fold-roll-TyField (List Variable) (List Variable) (List Variable) ty_variables field_variables row_variables x
 
 -- ---- a renamed type
 

@@ -2,6 +2,7 @@
 use Rattle.std.proofs.Common.{ℕ, ◌+◌, List, [], ◌∷◌, ◌++◌, refl, Option, Some, None}
 use native.Mathlib.Omega.{arith}
 use Rattle.lk_ast.specs.declared.place.Span.{Span}
+use Rattle.lk_types.proofs.Members.{each_both}
 use Rattle.lk_types.specs.Rows.{Label, no_effects, same_effect}
 use Rattle.lk_types.specs.declared.ty.Effect.TheVariants as effect
 use Rattle.lk_types.specs.declared.ty.Effects.{Effects}
@@ -12,7 +13,6 @@ use Rattle.lk_typing.proofs.Even.Forms.{more_names}
 use Rattle.lk_typing.proofs.Even.Nodes.{Context, Even, EvenOwn, EvenWalked, EvenAll, all_even, steps_both, ended_even, own_found}
 use Rattle.lk_typing.proofs.Even.Operators.{all_same}
 use Rattle.lk_typing.proofs.Even.Types.{AreEvenTypes, AreEvenNames, IsEvenEquation, even_variable, even_variant, even_unit, even_has}
-use Rattle.lk_typing.proofs.Lists.{each_both}
 use Rattle.lk_typing.specs.EffectRows.{IsEven, AreEven}
 use Rattle.lk_typing.specs.Equations.{Own, own}
 use Rattle.lk_typing.specs.Names.{Named, Entry}

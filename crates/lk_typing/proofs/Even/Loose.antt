@@ -3,13 +3,16 @@
 use Rattle.std.proofs.Common.{◌≡◌, ℕ, Bool, true, false, ◌||◌, List, [], ◌∷◌, map, flat_map, refl, sym, ap, ap₂, subst, ◌∙◌, Option, Some, None, if◌then◌else◌}
 use Rattle.std.specs.List.{list_any}
 use Rattle.std.specs.Option.{option_map}
+use Rattle.lk_types.proofs.Agreement.{under_rolled, under_rolled_row, under_rolled_field}
+use Rattle.lk_types.proofs.Members.{each_front, each_back}
+use Rattle.lk_types.proofs.Parts.{same_some}
+use Rattle.lk_types.proofs.SameEffect.{effects_turned, effect_self}
 use Rattle.lk_types.specs.Each.{Each}
 use Rattle.lk_types.specs.Grounding.{Grounding, Known, under, row_under, field_under, ty_level, row_level, field_level, before_row, row_tail, effect_tail, before_effects, all_of, function_of}
 use Rattle.lk_types.specs.Rows.{Row, EffectSet, no_effects, same_effect, with_effect, fields_of}
 use Rattle.lk_types.specs.declared.ground.Ground.{Ground}
 use Rattle.lk_types.specs.declared.ground.Ground.TheVariants as known
 use Rattle.lk_types.specs.declared.ty.Effect.{Effect}
-use Rattle.lk_types.specs.declared.ty.Effect.TheVariants.{Local, Move, Print, Rec, Scan, Trap, Write}
 use Rattle.lk_types.specs.declared.ty.Effects.{Effects}
 use Rattle.lk_types.specs.declared.ty.RowTail.{RowTail}
 use Rattle.lk_types.specs.declared.ty.RowTail.TheVariants.{Closed, Var}
@@ -19,11 +22,7 @@ use Rattle.lk_types.specs.declared.ty.Ty.TheOpen.{Ty-F, TyField-F, TyRow-F}
 use Rattle.lk_types.specs.declared.ty.Ty.TheVariants as ty
 use Rattle.lk_types.specs.declared.ty.TyField.{TyField, roll-TyField, fold-TyField}
 use Rattle.lk_types.specs.declared.ty.TyRow.{TyRow, roll-TyRow, fold-TyRow}
-use Rattle.lk_typing.proofs.EffectRows.{itself, for_each}
-use Rattle.lk_typing.proofs.Instances.{under_rolled, under_rolled_row, under_rolled_field}
-use Rattle.lk_typing.proofs.Lists.{each_front, each_back}
-use Rattle.lk_typing.proofs.Nodes.{there}
-use Rattle.lk_typing.proofs.Values.{just}
+use Rattle.lk_typing.proofs.Nodes.{there_is}
 use Rattle.lk_typing.specs.EffectRows.{ty_rows, row_rows, field_rows, rows_of, HasBefore, IsEven, IsEvenSaid, AreEven, union, loose_level, loosely, HoldsLoosely, MeetsLoosely, apart}
 use Rattle.lk_typing.specs.Steps.{Holds, Meets}
 use Rattle.lk_typing.specs.declared.step.Said.{Said}
@@ -32,23 +31,13 @@ use Rattle.lk_typing.specs.declared.step.Step.{Step}
 
 -- ---- sets of effects
 
--- which of two effects comes first says nothing
-pub either_way : (a b : Effect) → same_effect a b ≡ same_effect b a
-either_way Local = for_each (λ b. same_effect Local b ≡ same_effect b Local) refl refl refl refl refl refl refl
-either_way Move = for_each (λ b. same_effect Move b ≡ same_effect b Move) refl refl refl refl refl refl refl
-either_way Print = for_each (λ b. same_effect Print b ≡ same_effect b Print) refl refl refl refl refl refl refl
-either_way Rec = for_each (λ b. same_effect Rec b ≡ same_effect b Rec) refl refl refl refl refl refl refl
-either_way Scan = for_each (λ b. same_effect Scan b ≡ same_effect b Scan) refl refl refl refl refl refl refl
-either_way Trap = for_each (λ b. same_effect Trap b ≡ same_effect b Trap) refl refl refl refl refl refl refl
-either_way Write = for_each (λ b. same_effect Write b ≡ same_effect b Write) refl refl refl refl refl refl refl
-
 -- the set without those
 abbrev minus : EffectSet → EffectSet → EffectSet
 minus p s e = if p e then false else s e
 
 -- one effect more before others
 one_before : (l : Effect) (ls : List Effect) (s : EffectSet) (x : Effect) → (same_effect l x || union ls s x) ≡ union (l ∷ ls) s x
-one_before l ls s x = by_test (same_effect l x) (list_any (same_effect x) ls) (s x) (same_effect x l) (either_way l x)
+one_before l ls s x = by_test (same_effect l x) (list_any (same_effect x) ls) (s x) (same_effect x l) (effects_turned l x)
   where
     by_test : (a b c d : Bool) → a ≡ d → (a || (b || c)) ≡ ((d || b) || c)
     by_test true b c true is = refl
@@ -71,11 +60,11 @@ was_before l (Some q) p is = by_test (q l) refl
     by_test true has = let none : None ≡ Some p = sym (ap (λ b. if b then None else Some (λ x. same_effect l x || q x)) has) ∙ is in cc
     by_test false lacks =
         let some : Some p ≡ Some (λ x. same_effect l x || q x) = sym is ∙ ap (λ b. if b then None else Some (λ x. same_effect l x || q x)) lacks in
-        record { others = q; are = refl; lack = lacks; with = just some }
+        record { others = q; are = refl; lack = lacks; with = same_some some }
 
 -- effects with none of them twice are their union
-is_union : (ls : List Effect) (s p : EffectSet) → before_effects ls s ≡ Some p → p ≡ union ls s
-is_union [] s p is = sym (just is)
+pub is_union : (ls : List Effect) (s p : EffectSet) → before_effects ls s ≡ Some p → p ≡ union ls s
+is_union [] s p is = sym (same_some is)
 is_union (l ∷ ls) s p is =
     let b : Before l (before_effects ls s) p = was_before l (before_effects ls s) p is in
     let q : b.others ≡ union ls s = is_union ls s b.others b.are in
@@ -83,7 +72,7 @@ is_union (l ∷ ls) s p is =
 
 -- taken away and put before again, they are the union
 pub put_before : (ls : List Effect) (p s : EffectSet) → before_effects ls no_effects ≡ Some p → before_effects ls (minus p s) ≡ Some (union ls s)
-put_before [] p s is = ap (λ q. Some (minus q s)) (sym (just is))
+put_before [] p s is = ap (λ q. Some (minus q s)) (sym (same_some is))
 put_before (l ∷ ls) p s is =
     let b : Before l (before_effects ls no_effects) p = was_before l (before_effects ls no_effects) p is in
     let q : EffectSet = b.others in
@@ -91,7 +80,7 @@ put_before (l ∷ ls) p s is =
     let known : q ≡ union ls no_effects = is_union ls no_effects q b.are in
     let apart_is : minus p s ≡ minus q rest = ap (λ u. minus u s) b.with ∙ (λ i x. both_gone (same_effect l x) (q x) (s x) i) in
     let others : before_effects ls (minus p s) ≡ Some (union ls rest) = ap (before_effects ls) apart_is ∙ put_before ls q rest b.are in
-    let none : union ls rest l ≡ false = lacking (list_any (same_effect l) ls) (same_effect l l) (s l) (sym (ap (λ u. u l) known) ∙ b.lack) (itself l) in
+    let none : union ls rest l ≡ false = lacking (list_any (same_effect l) ls) (same_effect l l) (s l) (sym (ap (λ u. u l) known) ∙ b.lack) (effect_self l) in
     ap (with_effect l) others ∙ ap (λ c. if c then None else Some (λ x. same_effect l x || union ls rest x)) none
     ∙ ap (λ u. Some u) (λ i x. (back (same_effect l x) (list_any (same_effect x) ls) (s x) ∙ one_before l ls s x) i)
   where
@@ -101,9 +90,9 @@ put_before (l ∷ ls) p s is =
     both_gone false b c = refl
 
     lacking : (a b c : Bool) → (a || false) ≡ false → b ≡ true → (a || (if b then false else c)) ≡ false
-    lacking true b c is there = cc
-    lacking false true c is there = refl
-    lacking false false c is there = cc
+    lacking true b c is there_is = cc
+    lacking false true c is there_is = refl
+    lacking false false c is there_is = cc
 
     back : (a b c : Bool) → (a || (b || (if a then false else c))) ≡ (a || (b || c))
     back true b c = refl
@@ -166,7 +155,7 @@ module _ (before : ℕ → EffectSet) (σ : Grounding) where
     where
       by_tail : (tail : RowTail) → HasBefore before es.labels tail → before_effects es.labels (effect_tail (apart before σ) tail) ≡ Some (union es.labels (effect_tail σ tail))
       by_tail Closed some =
-          let found : (p : EffectSet) × (before_effects es.labels no_effects ≡ Some p) = there (before_effects es.labels no_effects) some in
+          let found : (p : EffectSet) × (before_effects es.labels no_effects ≡ Some p) = there_is (before_effects es.labels no_effects) some in
           ap (before_effects es.labels) (sym (none_apart found.0)) ∙ put_before es.labels found.0 no_effects found.1
       by_tail (Var n) is = put_before es.labels (before n) (σ.effects n) is
 

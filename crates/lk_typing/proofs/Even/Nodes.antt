@@ -1,6 +1,7 @@
 -- What is even of a walk, and what is said of a node behind its parts.
 use Rattle.std.proofs.Common.{◌≡◌, ℕ, ◌+◌, Bool, true, false, List, [], ◌∷◌, ◌++◌, length, Option, Some, None, if◌then◌else◌, bytes_eq}
 use Rattle.lk_ast.specs.declared.place.Span.{Span}
+use Rattle.lk_types.proofs.Members.{each_both}
 use Rattle.lk_types.specs.Each.{Each}
 use Rattle.lk_types.specs.Rows.{Label, EffectSet, same_effect}
 use Rattle.lk_types.specs.declared.equation.Equation.{Equation}
@@ -9,7 +10,6 @@ use Rattle.lk_types.specs.declared.ty.Effects.{Effects}
 use Rattle.lk_types.specs.declared.ty.Ty.{Ty}
 use Rattle.lk_typing.proofs.Even.Found.{Before, Stays, Found, mapped, here, new, beside, Has, new_sets}
 use Rattle.lk_typing.proofs.Even.Types.{HasRow, AreEvenTypes, AreEvenNames, IsEvenEquation, even_variable, even_has}
-use Rattle.lk_typing.proofs.Lists.{each_both}
 use Rattle.lk_typing.specs.EffectRows.{IsEven, IsEvenSaid, AreEven, IsEvenScheme}
 use Rattle.lk_typing.specs.Equations.{Own}
 use Rattle.lk_typing.specs.Names.{Named, named, Entry, One, Many}

@@ -3,6 +3,7 @@ use Rattle.std.proofs.Common.{◌≡◌, ℕ, ◌+◌, List, [], ◌∷◌, map,
 use native.Mathlib.Omega.{arith}
 use Rattle.std.specs.Option.{option_map}
 use Rattle.lk_ast.specs.declared.declaration.TableDecl.{TableDecl}
+use Rattle.lk_types.proofs.Members.{each_both}
 use Rattle.lk_types.specs.Each.{Each}
 use Rattle.lk_types.specs.Rows.{Label, EffectSet, no_effects, same_effect}
 use Rattle.lk_types.specs.declared.ty.Effect.{Effect}
@@ -15,7 +16,6 @@ use Rattle.lk_typing.proofs.Even.Found.{Before, Stays, Found, mapped, weaker, fo
 use Rattle.lk_typing.proofs.Even.Instances.{used_found}
 use Rattle.lk_typing.proofs.Even.Nodes.{IsEvenEntry, IfThere, if_named, Context, EvenOwn, own_found}
 use Rattle.lk_typing.proofs.Even.Types.{AreEvenTypes, AreEvenNames, IsEvenEquation, even_int, even_bool, even_text, even_variable, even_list, even_base, even_record, even_variant, even_unit, even_row_of, even_function, even_has}
-use Rattle.lk_typing.proofs.Lists.{each_both}
 use Rattle.lk_typing.specs.EffectRows.{IsEven}
 use Rattle.lk_typing.specs.Equations.{Own, own, never, local, used, called, closed_record, extended, rows, inserted, equations_of}
 use Rattle.lk_typing.specs.Heads as head

@@ -4,6 +4,7 @@ use native.Mathlib.Omega.{arith}
 use Rattle.lk_ast.specs.declared.declaration.TableDecl.{TableDecl}
 use Rattle.lk_ast.specs.declared.expression.SortKey.{SortKey}
 use Rattle.lk_ast.specs.declared.place.Span.{Span}
+use Rattle.lk_types.proofs.Members.{each_both}
 use Rattle.lk_types.specs.Rows.{Label, same_effect}
 use Rattle.lk_types.specs.declared.ty.Effect.TheVariants as effect
 use Rattle.lk_types.specs.declared.ty.Effects.{Effects}
@@ -16,7 +17,6 @@ use Rattle.lk_typing.proofs.Even.Lists.{EvenThrough}
 use Rattle.lk_typing.proofs.Even.Nodes.{IfThere, Context, Even, EvenOwn, EvenTold, EvenWalked, EvenAll, all_even, steps_both, ended_even, own_found, has_if_found}
 use Rattle.lk_typing.proofs.Even.Operators.{IsEvenLabelled, labelled_even, never_even}
 use Rattle.lk_typing.proofs.Even.Types.{HasRow, AreEvenNames, IsEvenEquation, even_bool, even_variable, even_list, even_record, even_unit, even_row_of, even_has}
-use Rattle.lk_typing.proofs.Lists.{each_both}
 use Rattle.lk_typing.specs.EffectRows.{IsEven}
 use Rattle.lk_typing.specs.Equations.{Own, own, never}
 use Rattle.lk_typing.specs.Names.{Named, Entry}

@@ -4,6 +4,7 @@ use Rattle.lk_ast.specs.declared.declaration.ColumnDecl.{ColumnDecl}
 use Rattle.lk_ast.specs.declared.declaration.TableDecl.{TableDecl}
 use Rattle.lk_ast.specs.declared.table.BaseKind.{BaseKind}
 use Rattle.lk_ast.specs.declared.table.BaseKind.TheVariants as kind
+use Rattle.lk_types.proofs.Members.{each_both}
 use Rattle.lk_types.specs.Each.{Each}
 use Rattle.lk_types.specs.Rows.{EffectSet, no_effects, same_effect}
 use Rattle.lk_types.specs.declared.equation.Equation.{Equation}
@@ -16,7 +17,6 @@ use Rattle.lk_types.specs.declared.ty.Ty.TheFolds.{the_lemmas}
 use Rattle.lk_types.specs.declared.ty.Ty.TheVariants as ty
 use Rattle.lk_types.specs.declared.ty.TyField.{TyField}
 use Rattle.lk_types.specs.declared.ty.TyRow.{TyRow}
-use Rattle.lk_typing.proofs.Lists.{each_both}
 use Rattle.lk_typing.proofs.Even.Loose.{rows_of_row, rows_of_field, rows_rolled_row, rows_variable}
 use Rattle.lk_typing.specs.EffectRows.{rows_of, HasBefore, IsEven}
 use Rattle.lk_typing.specs.Names.{Named}

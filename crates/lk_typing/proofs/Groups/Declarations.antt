@@ -7,6 +7,8 @@ use Rattle.lk_ast.specs.declared.declaration.FunDef.{FunDef}
 use Rattle.lk_ast.specs.declared.declaration.TableDecl.{TableDecl}
 use Rattle.lk_ast.specs.declared.expression.Expr.{Expr}
 use Rattle.lk_ast.specs.declared.place.Word.{Word}
+use Rattle.lk_types.proofs.Members.{each_front, each_back, each_both}
+use Rattle.lk_types.proofs.Parts.{same_some}
 use Rattle.lk_types.proofs.Unfold.{under_variable}
 use Rattle.lk_types.specs.Grounding.{Grounding, under}
 use Rattle.lk_types.specs.Rows.{EffectSet}
@@ -16,9 +18,9 @@ use Rattle.lk_types.specs.declared.ty.Ty.{Ty}
 use Rattle.lk_typing.proofs.Groups.Functions.{UnknownIs, type_is, stand_next, FunctionMet, FunctionFound, function_sound, FunctionComplete, function_complete}
 use Rattle.lk_typing.proofs.Inverses.{first_same, rest_same, none_more, more_none, same_there}
 use Rattle.lk_typing.proofs.Letters.{grounding_of, stand_all}
-use Rattle.lk_typing.proofs.Lists.{each_front, each_back, each_both, length_both, stand_front, become_both, become_more}
+use Rattle.lk_typing.proofs.Lists.{length_both, stand_front, become_both, become_more}
 use Rattle.lk_typing.proofs.Meaning.{seen, entry_seen, Functions, Letter, plain, effects, Stand, Sound, Complete}
-use Rattle.lk_typing.proofs.Values.{just, variable_is}
+use Rattle.lk_typing.proofs.Values.{variable_is}
 use Rattle.lk_typing.specs.Groups.{is_mutual, own_entries, scheme_entries, IsFunction, AreFunctions, IsGroup, unknown, after_unknown, type_of, unknowns, after_unknowns, FunctionWalked, function_walked, functions_walked, group_types, group_walked, Unknown}
 use Rattle.lk_typing.specs.Law.{Become, IsMetBy, WalkLaw}
 use Rattle.lk_typing.specs.Names.{Named, Entry, One, Many, names_of, types_of, texts}
@@ -132,7 +134,7 @@ module _ (functions : Named (Entry Ty)) (known_functions : Named (Entry Ground))
       let first : FunctionFound functions known_functions tables in_mutual f σ w (function_of (types_of params) (σ.effects m) (σ.plain (1 + m))) =
       function_sound functions known_functions tables in_mutual f (sound f.body) σ u params (σ.effects m) (σ.plain (1 + m)) n known_so u_is (params_names σ (2 + m) f.params) (each_front (λ step. Holds σ step.said) w.steps rest.steps all) in
       let more : FunctionsFound σ rest fs ts = functions_sound sound σ known_so fs (after_unknown f m) w.next ts (rest_same is) (each_back (λ step. Holds σ step.said) w.steps rest.steps all) in
-      let same : function_of (types_of params) (σ.effects m) (σ.plain (1 + m)) ≡ t = just (sym (type_is σ u params (σ.effects m) (σ.plain (1 + m)) u_is) ∙ first_same is) in
+      let same : function_of (types_of params) (σ.effects m) (σ.plain (1 + m)) ≡ t = same_some (sym (type_is σ u params (σ.effects m) (σ.plain (1 + m)) u_is) ∙ first_same is) in
       record {
         nodes = first.nodes ++ more.nodes;
         become = become_both σ w.nodes rest.nodes first.nodes more.nodes first.become more.become;

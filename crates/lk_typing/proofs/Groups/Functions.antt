@@ -6,6 +6,8 @@ use Rattle.lk_ast.specs.declared.declaration.FunDef.{FunDef}
 use Rattle.lk_ast.specs.declared.declaration.TableDecl.{TableDecl}
 use Rattle.lk_ast.specs.declared.place.Span.{Span}
 use Rattle.lk_ast.specs.declared.signature.Sig.{Sig}
+use Rattle.lk_types.proofs.Members.{each_front, each_back, each_both}
+use Rattle.lk_types.proofs.Parts.{same_some}
 use Rattle.lk_types.proofs.Unfold.{under_text}
 use Rattle.lk_types.specs.Each.{Each}
 use Rattle.lk_types.specs.Grounding.{Grounding, under}
@@ -21,10 +23,12 @@ use Rattle.lk_types.specs.declared.ty.Ty.{Ty}
 use Rattle.lk_types.specs.declared.ty.Ty.TheVariants as ty
 use Rattle.lk_typing.proofs.EffectRows.{has_sound, has_complete, without}
 use Rattle.lk_typing.proofs.Inverses.{first_same, rest_same, none_more, more_none}
-use Rattle.lk_typing.proofs.Lists.{each_front, each_back, each_both, length_append, stand_front, stand_back, become_more}
-use Rattle.lk_typing.proofs.Meaning.{Letter, effects, Stand, seen, Names, Functions, HasEffects, Found, Sound, Met, Complete}
+use Rattle.lk_typing.proofs.Lists.{length_append, stand_front, stand_back, become_more}
+use Rattle.lk_typing.proofs.Meaning.{Letter, effects, Stand, Names, Functions, HasEffects, Found, Sound, Met, Complete}
 use Rattle.lk_typing.proofs.Groups.Signatures.{signature_sound, signature_complete}
-use Rattle.lk_typing.proofs.Values.{just, function_is, meets, met}
+use Rattle.lk_typing.proofs.Nodes.{equations_hold, equations_met}
+use Rattle.lk_typing.proofs.Scopes.{same_types}
+use Rattle.lk_typing.proofs.Values.{function_is, meets, met}
 use Rattle.lk_typing.specs.Groups.{IsFunction, Unknown, type_of, signature_told, main_told, FunctionWalked, function_walked, is_recursive}
 use Rattle.lk_typing.specs.Law.{Become}
 use Rattle.lk_typing.specs.Names.{Named, Entry, names_of, types_of, texts}
@@ -37,17 +41,6 @@ use Rattle.lk_typing.specs.Walk.{Told, has_if, Walked, walk}
 
 -- ---- names and what they stand for
 
-types_seen : {A B : Type 0} (f : A → B) (entries : Named A) → types_of (seen f entries) ≡ map f (types_of entries)
-types_seen f [] = refl
-types_seen f (e ∷ es) = ap (λ r. f e.1 ∷ r) (types_seen f es)
-
-names_seen : {A B : Type 0} (f : A → B) (entries : Named A) → names_of (seen f entries) ≡ names_of entries
-names_seen f [] = refl
-names_seen f (e ∷ es) = ap (λ r. e.0 ∷ r) (names_seen f es)
-
-pub types_become : (σ : Grounding) (names : Named Ty) (known_names : Named Ground) → Names σ names known_names → Become σ (types_of names) (types_of known_names)
-types_become σ names known_names is = sym (types_seen (under σ) names) ∙ ap types_of is.same ∙ types_seen (λ t. Some t) known_names
-
 -- what is unknown of a function becomes this
 pub record UnknownIs (σ : Grounding) (u : Unknown) (params : Named Ground) (s : EffectSet) (a : Ground) : Type 0 where
   pub named : Names σ u.params params
@@ -55,7 +48,7 @@ pub record UnknownIs (σ : Grounding) (u : Unknown) (params : Named Ground) (s :
   pub answers : under σ u.answer ≡ Some a
 
 pub type_is : (σ : Grounding) (u : Unknown) (params : Named Ground) (s : EffectSet) (a : Ground) → UnknownIs σ u params s a → under σ (type_of u) ≡ Some (function_of (types_of params) s a)
-type_is σ u params s a is = function_is σ (types_of u.params) (types_of params) u.effects s u.answer a (types_become σ u.params params is.named) is.has is.answers
+type_is σ u params s a is = function_is σ (types_of u.params) (types_of params) u.effects s u.answer a (same_types σ u.params params is.named) is.has is.answers
 
 -- ---- what is said of a function
 
@@ -65,13 +58,6 @@ if_letters true s e = effects (without e s) ∷ []
 if_letters false s e = []
 
 module _ (σ : Grounding) where
-  equations_met : (at : Span) (es : List Equation) → Meets σ (same_at at es) → Each (IsMet σ) es
-  equations_met at [] all = tt
-  equations_met at (e ∷ es) all = (all.0, equations_met at es all.1)
-
-  steps_met : (at : Span) (es : List Equation) → Each (IsMet σ) es → Meets σ (same_at at es)
-  steps_met at [] all = tt
-  steps_met at (e ∷ es) all = (all.0, steps_met at es all.1)
 
   -- all that is said holds, and the numbers end there
   abbrev ToldMet : Told → ℕ → Type 0
@@ -89,10 +75,10 @@ module _ (σ : Grounding) where
   texts_hold [] [] is all = tt
   texts_hold [] (t ∷ ts) is all = none_more is
   texts_hold (x ∷ xs) [] is all = more_none is
-  texts_hold (x ∷ xs) (t ∷ ts) is all = (just (sym (met σ x ty.Text t (first_same is) all.0) ∙ under_text σ), texts_hold xs ts (rest_same is) all.1)
+  texts_hold (x ∷ xs) (t ∷ ts) is all = (same_some (sym (met σ x ty.Text t (first_same is) all.0) ∙ under_text σ), texts_hold xs ts (rest_same is) all.1)
 
   main_holds : (b : Bool) (params : Named Ty) (known_params : Named Ground) → Names σ params known_params → Each (IsMet σ) (main_told b params) → b ≡ true → Each (λ p. p ≡ known.Text) (types_of known_params)
-  main_holds true params known_params is all main = texts_hold (types_of params) (types_of known_params) (types_become σ params known_params is) all
+  main_holds true params known_params is all main = texts_hold (types_of params) (types_of known_params) (same_types σ params known_params is) all
   main_holds false params known_params is all main = let wrong : false ≡ true = main in cc
 
   texts_met : (types : List Ty) (ts : List Ground) → Become σ types ts → Each (λ p. p ≡ known.Text) ts → Each (IsMet σ) (map (λ p. unknown.same p ty.Text) types)
@@ -101,7 +87,7 @@ module _ (σ : Grounding) where
   texts_met (x ∷ xs) (t ∷ ts) is all = (meets σ x ty.Text known.Text (first_same is ∙ ap (λ a. Some a) all.0) (under_text σ), texts_met xs ts (rest_same is) all.1)
 
   main_met : (b : Bool) (params : Named Ty) (known_params : Named Ground) → Names σ params known_params → (b ≡ true → Each (λ p. p ≡ known.Text) (types_of known_params)) → Each (IsMet σ) (main_told b params)
-  main_met true params known_params is main = texts_met (types_of params) (types_of known_params) (types_become σ params known_params is) (main refl)
+  main_met true params known_params is main = texts_met (types_of params) (types_of known_params) (same_types σ params known_params is) (main refl)
   main_met false params known_params is main = tt
 
   if_met : (b : Bool) (es : Effects) (s : EffectSet) (e : Effect) (n : ℕ) → HasEffects σ es s → HasIf b s e → Stand σ n (if_letters b s e) → ToldMet (has_if b es e n) (length (if_letters b s e) + n)
@@ -175,7 +161,7 @@ module _ (functions : Named (Entry Ty)) (known_functions : Named (Entry Ground))
           main = main_holds σ (is_main f) u.params params is.named (each_front (IsMet σ) main (moves.equations ++ recurs.equations) behind_signature);
           moves = if_holds σ (is_marked f.place) u.effects s effect.Move signature.next is.has (each_front (IsMet σ) moves.equations recurs.equations of_effects);
           recurs = if_holds σ (is_recursive in_mutual f) u.effects s effect.Rec moves.next is.has (each_back (IsMet σ) moves.equations recurs.equations of_effects);
-          body = subst (λ t. HasType known_functions tables params s f.body t found.inside) (just (sym found.ty ∙ answers)) found.typed;
+          body = subst (λ t. HasType known_functions tables params s f.body t found.inside) (same_some (sym found.ty ∙ answers)) found.typed;
           all = refl;
         };
       }
@@ -218,7 +204,7 @@ module _ (functions : Named (Entry Ty)) (known_functions : Named (Entry Ground))
             let one : Each (IsMet σ) last = (meets σ u.answer body.ty a is.answers by_body.ty, tt) in
             record {
               ends = by_body.next ∙ numbers first moving recurring inner n signature.next moves.next recurs.next by_signature.0 by_moves.0 by_recurs.0;
-              met = each_both (λ step. Holds σ step.said) (same_at at before) (body.steps ++ same_at at last) (steps_met σ at before said) (each_both (λ step. Holds σ step.said) body.steps (same_at at last) by_body.met (steps_met σ at last one));
+              met = each_both (λ step. Holds σ step.said) (same_at at before) (body.steps ++ same_at at last) (equations_hold σ at before said) (each_both (λ step. Holds σ step.said) body.steps (same_at at last) by_body.met (equations_hold σ at last one));
               become = subst (λ ns. Become σ (body.ty ∷ body.inside) ns) (sym typed.all) (become_more σ body.ty body.inside a typed.inside by_body.ty by_body.nodes);
             },
       )

@@ -6,6 +6,7 @@ use Rattle.lk_ast.specs.declared.signature.SigField.{SigField, roll-SigField, fo
 use Rattle.lk_ast.specs.declared.signature.SigType.{SigType, out-SigType, roll-SigType, out-roll-SigType, roll-out-SigType}
 use Rattle.lk_ast.specs.declared.signature.SigType.TheFolds.{ind-SigType, map-SigType, fold-roll-SigType}
 use Rattle.lk_ast.specs.declared.signature.SigType.TheOpen.{SigType-F}
+use Rattle.lk_types.proofs.Parts.{same_some}
 use Rattle.lk_types.proofs.Unfold.{under_int, under_bool, under_text}
 use Rattle.lk_types.specs.Grounding.{Grounding, under}
 use Rattle.lk_types.specs.Rows.{Label, Row, EffectSet, no_fields}
@@ -15,7 +16,7 @@ use Rattle.lk_types.specs.declared.ty.RowTail.TheVariants.{Closed, Var}
 use Rattle.lk_typing.proofs.Inverses.{first_same, rest_same, none_more, more_none, WereFields, record_was, variant_was, FunctionParts, function_was}
 use Rattle.lk_typing.proofs.Lists.{length_both, stand_front, stand_back}
 use Rattle.lk_typing.proofs.Meaning.{Letter, effects, Stand, HasEffects, seen}
-use Rattle.lk_typing.proofs.Values.{just, under_record, under_variant, list_is, list_was, function_is}
+use Rattle.lk_typing.proofs.Values.{under_record, under_variant, list_is, list_was, function_is}
 use Rattle.lk_typing.specs.Law.{Become}
 use Rattle.lk_typing.specs.Names.{Named}
 use Rattle.lk_typing.specs.Signatures.{IsSigned, AreSigned, AreFields, Signed, Signing, SignedAll, sign_all, sign_fields, sign_level, field_level, signing}
@@ -85,9 +86,9 @@ abbrev LevelSound : SigType-F SigType SigField → Type 0
 LevelSound x = (σ : Grounding) (n : ℕ) (t : Ground) → under σ (level x n).ty ≡ Some t → IsSigned (roll-SigType x) t
 
 level_sound : (y : SigType-F Such SuchField) → LevelSound (plain_level y)
-level_sound SigType-F.Int σ n t is = subst (λ u. IsSigned (roll-SigType SigType-F.Int) u) (just (sym (under_int σ) ∙ is)) (IsSigned.int (out-roll-SigType _))
-level_sound SigType-F.Bool σ n t is = subst (λ u. IsSigned (roll-SigType SigType-F.Bool) u) (just (sym (under_bool σ) ∙ is)) (IsSigned.bool (out-roll-SigType _))
-level_sound SigType-F.Text σ n t is = subst (λ u. IsSigned (roll-SigType SigType-F.Text) u) (just (sym (under_text σ) ∙ is)) (IsSigned.text (out-roll-SigType _))
+level_sound SigType-F.Int σ n t is = subst (λ u. IsSigned (roll-SigType SigType-F.Int) u) (same_some (sym (under_int σ) ∙ is)) (IsSigned.int (out-roll-SigType _))
+level_sound SigType-F.Bool σ n t is = subst (λ u. IsSigned (roll-SigType SigType-F.Bool) u) (same_some (sym (under_bool σ) ∙ is)) (IsSigned.bool (out-roll-SigType _))
+level_sound SigType-F.Text σ n t is = subst (λ u. IsSigned (roll-SigType SigType-F.Text) u) (same_some (sym (under_text σ) ∙ is)) (IsSigned.text (out-roll-SigType _))
 level_sound (SigType-F.List s) σ n t is =
     let was : (a : Ground) × (under σ (signing s.0 n).ty ≡ Some a) × (t ≡ known.List a) = list_was σ (signing s.0 n).ty t is in
     subst (λ u. IsSigned (roll-SigType (SigType-F.List s.0)) u) (sym was.2) (IsSigned.list s.0 was.0 (out-roll-SigType _) (s.1 σ n was.0 was.1))

@@ -8,6 +8,7 @@ use Rattle.lk_ast.specs.declared.expression.Expr.{Expr}
 use Rattle.lk_ast.specs.declared.expression.Node.TheVariants as node
 use Rattle.lk_ast.specs.declared.place.Loc.TheVariants.{Any}
 use Rattle.lk_ast.specs.declared.table.BaseKind.TheVariants as kind
+use Rattle.lk_types.proofs.Parts.{same_some}
 use Rattle.lk_types.proofs.Rows.{field_twice}
 use Rattle.lk_types.specs.Rows.{Label, Row, EffectSet, no_fields, with_field, effects_of}
 use Rattle.lk_types.specs.declared.ground.Ground.{Ground, fold-Ground}
@@ -20,7 +21,6 @@ use Rattle.lk_typing.proofs.Inverses.{first_same, rest_same}
 use Rattle.lk_typing.proofs.Samples.Forms.{at, word, part, number, text, name, fun, opened, both, made, of_name, of_field, of_extend, name_has}
 use Rattle.lk_typing.proofs.Samples.Programs.{alone, held_alone, only_type, one_param}
 use Rattle.lk_typing.proofs.Samples.Types.{same_row, added, bare}
-use Rattle.lk_typing.proofs.Values.{just}
 use Rattle.lk_typing.specs.Groups.{IsFunction}
 use Rattle.lk_typing.specs.Heads as head
 use Rattle.lk_typing.specs.Names.{Named, Entry, HasRows, IsRowOf, row_known}
@@ -47,7 +47,7 @@ not_twice functions tables names effects t inside typed =
     let v = opened _ (node.outs-Var _ _ _) typed in
     let r = of_field _ _ v.bound in
     let s = of_extend _ _ _ v.then in
-    let same : s.other ≡ r.row = same_row _ _ (sym (just (of_name (codes "r") s.before)) ∙ r.is) in
+    let same : s.other ≡ r.row = same_row _ _ (sym (same_some (of_name (codes "r") s.before)) ∙ r.is) in
     no_field_twice (codes "x") r.a s.a no_fields r.row s.row r.whole (ap (λ z. with_field (codes "x") (Some s.a) (Some z)) (sym same) ∙ s.whole)
 
 -- ---- queries: reading a table is all that they may do
@@ -139,8 +139,8 @@ self_untyped typed =
     let two = both p.typed in
     let c = apply_says p.rule in
     let types : two.0 ∷ two.1 ∷ [] ≡ function_of c.0 f.effects f.answer ∷ c.0 = sym two.4 ∙ c.1 in
-    let same : f.p ≡ two.0 = just (of_name (codes "x") two.5) in
-    let also : two.1 ≡ f.p = sym (just (of_name (codes "x") two.6)) in
+    let same : f.p ≡ two.0 = same_some (of_name (codes "x") two.5) in
+    let also : two.1 ≡ f.p = sym (same_some (of_name (codes "x") two.6)) in
     not_its_own f.p f.answer f.effects (same ∙ first_same types ∙ ap (λ us. function_of us f.effects f.answer) (sym (rest_same types) ∙ ap (λ u. u ∷ []) also))
 
 pub self_not_well_typed : IsWellTyped (alone self) → ⊥

@@ -12,11 +12,11 @@ use Rattle.lk_ast.specs.declared.place.Loc.{Loc}
 use Rattle.lk_ast.specs.declared.place.Span.{Span}
 use Rattle.lk_ast.specs.declared.place.Word.{Word}
 use Rattle.lk_ast.specs.declared.table.BaseKind.{BaseKind}
+use Rattle.lk_types.proofs.Parts.{same_some}
 use Rattle.lk_types.specs.Rows.{Label, Row, EffectSet, no_fields}
 use Rattle.lk_types.specs.declared.ground.Ground.{Ground}
 use Rattle.lk_types.specs.declared.ground.Ground.TheVariants as known
 use Rattle.lk_typing.proofs.Inverses.{first_same}
-use Rattle.lk_typing.proofs.Values.{just}
 use Rattle.lk_typing.specs.Heads as head
 use Rattle.lk_typing.specs.Heads.{Head, head, parts}
 use Rattle.lk_typing.specs.Names.{Named, named, Entry, MayBe}
@@ -189,7 +189,7 @@ module _ {functions : Named (Entry Ground)} {tables : List TableDecl} {names : N
       let r = opened _ (node.outs-Record _) typed in
       let one = alone r.typed in
       let c = closed_says r.rule in
-      let same : (l, one.0) ∷ [] ≡ c.0 = ap (λ p. p.0) (just (sym (ap (labelled (l ∷ [])) one.2) ∙ c.2)) in
+      let same : (l, one.0) ∷ [] ≡ c.0 = ap (λ p. p.0) (same_some (sym (ap (labelled (l ∷ [])) one.2) ∙ c.2)) in
       record { a = one.0; row = c.1; inner = one.1; typed = one.3; whole = ap (λ fs. with_fields fs no_fields) same ∙ c.3; is = c.4 }
 
   extend_says : {labels : List Label} {ts : List Ground} {t : Ground} → Rule functions tables names effects (head.Extend labels) ts t
@@ -201,7 +201,7 @@ module _ {functions : Named (Entry Ground)} {tables : List TableDecl} {names : N
       let x = opened _ (node.outs-Extend _ _) typed in
       let two = both x.typed in
       let c = extend_says x.rule in
-      let same : ((l, two.0) ∷ [], two.1 ∷ []) ≡ (c.0, record_of c.1 ∷ []) = just (sym (ap (labelled (l ∷ [])) two.4) ∙ c.3) in
+      let same : ((l, two.0) ∷ [], two.1 ∷ []) ≡ (c.0, record_of c.1 ∷ []) = same_some (sym (ap (labelled (l ∷ [])) two.4) ∙ c.3) in
       let behind : two.1 ∷ [] ≡ record_of c.1 ∷ [] = ap (λ p. p.1) same in
       record { a = two.0; other = c.1; row = c.2; second = two.3; before = subst (λ u. HasType functions tables names effects r u two.3) (first_same behind) two.6; whole = ap (λ p. with_fields p.0 c.1) same ∙ c.4; is = c.5 }
 

@@ -11,6 +11,7 @@ use Rattle.lk_ast.specs.declared.declaration.TableDecl.{TableDecl}
 use Rattle.lk_ast.specs.declared.expression.Node.{the_lemmas}
 use Rattle.lk_ast.specs.declared.expression.Node.TheVariants as node
 use Rattle.lk_ast.specs.declared.place.Loc.TheVariants.{Any, Client}
+use Rattle.lk_types.proofs.Parts.{same_some, mapped}
 use Rattle.lk_types.proofs.Rows.{found}
 use Rattle.lk_types.proofs.Unfold.{under_int, under_text, under_variable}
 use Rattle.lk_types.specs.Grounding.{Grounding, under}
@@ -24,12 +25,12 @@ use Rattle.lk_types.specs.declared.ty.Effect.TheVariants as effect
 use Rattle.lk_types.specs.declared.ty.RowTail.TheVariants.{Var}
 use Rattle.lk_types.specs.declared.ty.Ty.TheVariants as ty
 use Rattle.lk_typing.proofs.EffectRows.{without, with_back, with_it}
-use Rattle.lk_typing.proofs.Inverses.{first_same, rest_same, mapped_was}
+use Rattle.lk_typing.proofs.Inverses.{first_same, rest_same}
 use Rattle.lk_typing.proofs.Operators.{row_is}
 use Rattle.lk_typing.proofs.Samples.Forms.{at, word, part, number, name, call, fun, opened, first_of_them, both, made, of_name, of_number, of_extend, of_project, name_has, number_has, call_has}
 use Rattle.lk_typing.proofs.Samples.Programs.{IsType, has_type, Covers, alone, held_alone, only_type, holds, every, more_general, none_general, principal_alone, one_to, calls_itself, function_has, one_param}
 use Rattle.lk_typing.proofs.Samples.Types.{same_row, same_params, added, bare, was_lacking, standing, one_to_is, one_to_was}
-use Rattle.lk_typing.proofs.Values.{just, under_record}
+use Rattle.lk_typing.proofs.Values.{under_record}
 use Rattle.lk_typing.specs.Groups.{IsFunction}
 use Rattle.lk_typing.specs.Heads as head
 use Rattle.lk_typing.specs.Names.{Named, Entry, One, Many, one, instance}
@@ -71,7 +72,7 @@ nm_types : (t : Ground) (nodes : List Ground) → IsType [] nm t nodes → NmTyp
 nm_types t nodes typed =
     let f = one_param nm (codes "r") refl typed in
     let p = of_project (codes "name") (name (codes "r")) f.body in
-    record { other = p.other; row = p.row; a = f.answer; s = f.effects; whole = p.whole; is = f.is ∙ ap (λ q. function_of (q ∷ []) f.effects f.answer) (just (of_name (codes "r") p.typed)) }
+    record { other = p.other; row = p.row; a = f.answer; s = f.effects; whole = p.whole; is = f.is ∙ ap (λ q. function_of (q ∷ []) f.effects f.answer) (same_some (of_name (codes "r") p.typed)) }
 
 nm_covers : Covers nm_scheme NmType
 nm_covers = record {
@@ -87,8 +88,8 @@ nm_covers = record {
     fits : (σ : Grounding) (t : Ground) → IsInstance σ nm_scheme t → NmType t
     fits σ t its =
         let w = one_to_was σ _ _ _ t its.body in
-        let r = mapped_was record_of (with_fields ((codes "name", σ.plain 1) ∷ []) (σ.rows 2)) w.p (sym (param σ) ∙ w.param) in
-        record { other = σ.rows 2; row = r.0; a = σ.plain 1; s = w.s; whole = r.1; is = w.is ∙ ap₂ (λ p a. function_of (p ∷ []) w.s a) r.2 (just (sym w.answer ∙ under_variable σ 1)) }
+        let r = mapped record_of (with_fields ((codes "name", σ.plain 1) ∷ []) (σ.rows 2)) w.p (sym (param σ) ∙ w.param) in
+        record { other = σ.rows 2; row = r.0; a = σ.plain 1; s = w.s; whole = r.1; is = w.is ∙ ap₂ (λ p a. function_of (p ∷ []) w.s a) r.2 (same_some (sym w.answer ∙ under_variable σ 1)) }
 
     at_type : (t : Ground) → NmType t → (σ : Grounding) × IsInstance σ nm_scheme t
     at_type t its =
@@ -139,7 +140,7 @@ module _ {functions : Named (Entry Ground)} {tables : List TableDecl} {s : Effec
   of_f_body typed =
       let v = opened _ (node.outs-Var _ _ _) typed in
       let e = of_extend (codes "x") (number 1) (name (codes "r")) v.bound in
-      (e.other, was_lacking (codes "x") e.a e.other e.row e.whole, just (of_name (codes "r") e.before), of_number 0 v.then)
+      (e.other, was_lacking (codes "x") e.a e.other e.row e.whole, same_some (of_name (codes "r") e.before), of_number 0 v.then)
 
 f_typed : (t : Ground) → FType t → (nodes : List Ground) × IsType [] f t nodes
 f_typed t its =
@@ -160,7 +161,7 @@ f_covers = record {
   some = (_, record { row = no_fields; effects = no_effects; lacks = bare (codes "x"); is = refl });
   fits = λ σ t its.
       let w = one_to_was σ _ _ _ t its.body in
-      record { row = σ.rows 1; effects = w.s; lacks = its.lacks.0; is = w.is ∙ ap₂ (λ p a. function_of (p ∷ []) w.s a) (just (sym w.param ∙ row_is σ 1)) (just (sym w.answer ∙ under_int σ)) };
+      record { row = σ.rows 1; effects = w.s; lacks = its.lacks.0; is = w.is ∙ ap₂ (λ p a. function_of (p ∷ []) w.s a) (same_some (sym w.param ∙ row_is σ 1)) (same_some (sym w.answer ∙ under_int σ)) };
   at = λ t its. (standing known.Int its.row its.effects, record { body = f_at its.row its.effects without_x ∙ ap (λ u. Some u) (sym its.is); lacks = (its.lacks, tt) });
 }
 
@@ -209,14 +210,14 @@ pub main_types : {functions : Named (Entry Ground)} {tables : List TableDecl} {i
 main_types t nodes typed =
     let f = one_param main (codes "a") refl typed in
     let param : f.p ≡ known.Text = f.main refl in
-    (f.effects, f.moves, f.is ∙ ap₂ (λ p a. function_of (p ∷ []) f.effects a) param (sym (just (of_name (codes "a") f.body)) ∙ param))
+    (f.effects, f.moves, f.is ∙ ap₂ (λ p a. function_of (p ∷ []) f.effects a) param (sym (same_some (of_name (codes "a") f.body)) ∙ param))
 
 main_covers : Covers main_scheme MainType
 main_covers = record {
   some = (_, (same_effect effect.Move, refl, refl));
   fits = λ σ t its.
       let w = one_to_was σ _ _ _ t its.body in
-      (w.s, with_it effect.Move (σ.effects 1) w.s w.effects, w.is ∙ ap₂ (λ p a. function_of (p ∷ []) w.s a) (just (sym w.param ∙ under_text σ)) (just (sym w.answer ∙ under_text σ)));
+      (w.s, with_it effect.Move (σ.effects 1) w.s w.effects, w.is ∙ ap₂ (λ p a. function_of (p ∷ []) w.s a) (same_some (sym w.param ∙ under_text σ)) (same_some (sym w.answer ∙ under_text σ)));
   at = λ t its.
       let σ = standing known.Int no_fields (without effect.Move its.0) in
       (σ, record { body = one_to_is σ _ _ _ (under_text σ) (with_back effect.Move its.0 its.1) (under_text σ) ∙ ap (λ u. Some u) (sym its.2); lacks = tt });
@@ -297,7 +298,7 @@ id_typed t its = has_type [] id its.2 (function_has id (codes "x") its.0 its.0 i
 id_types : (t : Ground) (nodes : List Ground) → IsType [] id t nodes → IdType t
 id_types t nodes typed =
     let f = one_param id (codes "x") refl typed in
-    (f.p, f.effects, f.is ∙ ap (λ a. function_of (f.p ∷ []) f.effects a) (sym (just (of_name (codes "x") f.body))))
+    (f.p, f.effects, f.is ∙ ap (λ a. function_of (f.p ∷ []) f.effects a) (sym (same_some (of_name (codes "x") f.body))))
 
 id_at : (p : Ground) (s : EffectSet) → IsInstance (standing p no_fields s) id_scheme (function_of (p ∷ []) s p)
 id_at p s = let σ = standing p no_fields s in record { body = one_to_is σ _ _ _ (under_variable σ 1) refl (under_variable σ 1); lacks = tt }
@@ -307,7 +308,7 @@ id_covers = record {
   some = (_, (known.Int, no_effects, refl));
   fits = λ σ t its.
       let w = one_to_was σ _ _ _ t its.body in
-      (σ.plain 1, w.s, w.is ∙ ap₂ (λ p a. function_of (p ∷ []) w.s a) (just (sym w.param ∙ under_variable σ 1)) (just (sym w.answer ∙ under_variable σ 1)));
+      (σ.plain 1, w.s, w.is ∙ ap₂ (λ p a. function_of (p ∷ []) w.s a) (same_some (sym w.param ∙ under_variable σ 1)) (same_some (sym w.answer ∙ under_variable σ 1)));
   at = λ t its. (standing its.0 no_fields its.1, subst (IsInstance (standing its.0 no_fields its.1) id_scheme) (sym its.2) (id_at its.0 its.1));
 }
 
@@ -351,7 +352,7 @@ two_covers = record {
   some = (_, (known.Int, no_effects, refl));
   fits = λ σ t its.
       let w = one_to_was σ _ _ _ t its.body in
-      (w.p, w.s, w.is ∙ ap (λ a. function_of (w.p ∷ []) w.s a) (just (sym w.answer ∙ under_int σ)));
+      (w.p, w.s, w.is ∙ ap (λ a. function_of (w.p ∷ []) w.s a) (same_some (sym w.answer ∙ under_int σ)));
   at = λ t its.
       let σ = standing its.0 no_fields its.1 in
       (σ, record { body = one_to_is σ _ _ _ (under_variable σ 1) refl (under_int σ) ∙ ap (λ u. Some u) (sym its.2); lacks = tt });

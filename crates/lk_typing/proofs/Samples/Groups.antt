@@ -10,6 +10,7 @@ use Rattle.lk_ast.specs.declared.declaration.TableDecl.{TableDecl}
 use Rattle.lk_ast.specs.declared.expression.Node.{the_lemmas}
 use Rattle.lk_ast.specs.declared.expression.Node.TheVariants as node
 use Rattle.lk_ast.specs.declared.place.Loc.TheVariants.{Any}
+use Rattle.lk_types.proofs.Parts.{same_some}
 use Rattle.lk_types.proofs.Unfold.{under_int}
 use Rattle.lk_types.specs.Grounding.{Grounding, under}
 use Rattle.lk_types.specs.Rows.{Row, EffectSet, no_fields, has_label, same_effect}
@@ -27,7 +28,6 @@ use Rattle.lk_typing.proofs.Samples.Forms.{at, part, number, name, call, fun, of
 use Rattle.lk_typing.proofs.Samples.Functions.{f, f_body, of_f_body, f_type, without_x, with_x, not_at_x}
 use Rattle.lk_typing.proofs.Samples.Programs.{IsType, has_type, Covers, first_declaration, only_type, holds, every, more_general, none_general, one_to, calls_itself, function_has, one_param}
 use Rattle.lk_typing.proofs.Samples.Types.{added, bare, standing, one_to_is, one_to_was}
-use Rattle.lk_typing.proofs.Values.{just}
 use Rattle.lk_typing.specs.Groups.{none, more, IsGroup, scheme_entries}
 use Rattle.lk_typing.specs.Names.{Named, MayBe, IsUse, One, Many, one, instance}
 use Rattle.lk_typing.specs.Programs as program
@@ -84,8 +84,8 @@ module _ (earlier : Named Scheme) (tables : List TableDecl) where
       let b = of_f_body a.body in
       let c = one_param g (codes "r") refl second in
       let d = of_call (codes "f") (name (codes "r")) c.body in
-      let is_f : function_of (d.0 ∷ []) c.effects c.answer ≡ t = one_use (subst (λ e. IsUse e (function_of (d.0 ∷ []) c.effects c.answer)) (sym (just d.3.1)) d.3.2) in
-      let same : t ≡ u = sym is_f ∙ ap (λ p. function_of (p ∷ []) c.effects c.answer) (sym (just (of_name (codes "r") d.2))) ∙ sym c.is in
+      let is_f : function_of (d.0 ∷ []) c.effects c.answer ≡ t = one_use (subst (λ e. IsUse e (function_of (d.0 ∷ []) c.effects c.answer)) (sym (same_some d.3.1)) d.3.2) in
+      let same : t ≡ u = sym is_f ∙ ap (λ p. function_of (p ∷ []) c.effects c.answer) (sym (same_some (of_name (codes "r") d.2))) ∙ sym c.is in
       (same, record { row = b.0; effects = a.effects; lacks = b.1; recurs = a.recurs; is = sym same ∙ a.is ∙ ap₂ (λ p z. function_of (p ∷ []) a.effects z) b.2 b.3 })
 
   -- two functions have two types
@@ -104,7 +104,7 @@ module _ (earlier : Named Scheme) (tables : List TableDecl) where
 pub instance_is : (σ : Grounding) (lacks : List Lack) (t : Ground) → IsInstance σ (scheme_with lacks) t → (s : EffectSet) × (s effect.Rec ≡ true) × (t ≡ f_type (σ.rows 1) s)
 instance_is σ lacks t its =
     let w = one_to_was σ _ _ _ t its.body in
-    (w.s, with_it effect.Rec (σ.effects 2) w.s w.effects, w.is ∙ ap₂ (λ p a. function_of (p ∷ []) w.s a) (just (sym w.param ∙ row_is σ 1)) (just (sym w.answer ∙ under_int σ)))
+    (w.s, with_it effect.Rec (σ.effects 2) w.s w.effects, w.is ∙ ap₂ (λ p a. function_of (p ∷ []) w.s a) (same_some (sym w.param ∙ row_is σ 1)) (same_some (sym w.answer ∙ under_int σ)))
 
 -- what stands for the variables at a type
 abbrev pub at_type : Row → EffectSet → Grounding
@@ -131,7 +131,7 @@ pair_not_held earlier tables hold =
     by_types : (ts : List Ground) → AreInstances (lacking ∷ silent ∷ []) ts → slice_get ts 1 ≡ Some (f_type with_x (same_effect effect.Rec)) → ⊥
     by_types [] instances is = instances.1
     by_types (t ∷ []) instances is = instances.1.1
-    by_types (t ∷ u ∷ []) instances is = not_together t (same_effect effect.Rec) (subst (λ v. AreInstances (lacking ∷ silent ∷ []) (t ∷ v ∷ [])) (just is) instances)
+    by_types (t ∷ u ∷ []) instances is = not_together t (same_effect effect.Rec) (subst (λ v. AreInstances (lacking ∷ silent ∷ []) (t ∷ v ∷ [])) (same_some is) instances)
     by_types (t ∷ u ∷ v ∷ ts) instances is = instances.1.1.1
 
 -- ---- with the lack on each
@@ -145,8 +145,8 @@ lacking_covers = record {
 
 -- one scheme for two functions: what is an instance of one is one of the other
 twice_alone : (scheme : Scheme) → StandAlone (scheme ∷ scheme ∷ [])
-twice_alone scheme zero own σ t is its = let both = subst (λ s. IsInstance σ s t) (sym (just is)) its in (t ∷ t ∷ [], (σ, (both, (both, tt))), refl)
-twice_alone scheme (suc zero) own σ t is its = let both = subst (λ s. IsInstance σ s t) (sym (just is)) its in (t ∷ t ∷ [], (σ, (both, (both, tt))), refl)
+twice_alone scheme zero own σ t is its = let both = subst (λ s. IsInstance σ s t) (sym (same_some is)) its in (t ∷ t ∷ [], (σ, (both, (both, tt))), refl)
+twice_alone scheme (suc zero) own σ t is its = let both = subst (λ s. IsInstance σ s t) (sym (same_some is)) its in (t ∷ t ∷ [], (σ, (both, (both, tt))), refl)
 twice_alone scheme (suc (suc i)) own σ t is its = absurd cc
 
 pair_instances : (ts : List Ground) → (t : Ground) × (ts ≡ t ∷ t ∷ []) × PairType t → AreInstances (lacking ∷ lacking ∷ []) ts
@@ -160,7 +160,7 @@ pair_holds = let t : Ground = lacking_covers.some.0 in record { some = (t ∷ t 
     each (t ∷ []) instances = absurd instances.1.1
     each (t ∷ u ∷ []) instances =
         let σ : Grounding = instances.0 in
-        let same : t ≡ u = just (sym instances.1.0.body ∙ instances.1.1.0.body) in
+        let same : t ≡ u = same_some (sym instances.1.0.body ∙ instances.1.1.0.body) in
         let group = pair_typed [] [] t (lacking_covers.fits σ t instances.1.0) in
         (group.0, subst (λ v. IsGroup [] [] pair (t ∷ v ∷ []) group.0) same group.1)
     each (t ∷ u ∷ v ∷ ts) instances = absurd instances.1.1.1
@@ -178,11 +178,11 @@ used_behind : (schemes : List Scheme) → Hold [] [] pair schemes → (u : Groun
 used_behind [] hold u may = absurd cc
 used_behind (s ∷ []) hold u may = absurd cc
 used_behind (s ∷ r ∷ schemes) hold u may =
-    let its = many_use (subst (λ e. IsUse e u) (sym (just may.1)) may.2) in
+    let its = many_use (subst (λ e. IsUse e u) (sym (same_some may.1)) may.2) in
     let all = hold.alone 1 r its.0 u refl its.1 in
     let group = hold.each all.0 all.1 in
     let two = two_types [] [] all.0 group.0 group.1 in
-    subst PairType (just (sym (ap (λ ts. slice_get ts 1) two.1) ∙ all.2)) two.2
+    subst PairType (same_some (sym (ap (λ ts. slice_get ts 1) two.1) ∙ all.2)) two.2
 
 -- fun k(r) { g(r) }
 abbrev k : FunDef
@@ -205,7 +205,7 @@ k_types : (schemes : List Scheme) → Hold [] [] pair schemes → (t : Ground) (
 k_types schemes hold t nodes typed =
     let a = one_param k (codes "r") refl typed in
     let c = of_call (codes "g") (name (codes "r")) a.body in
-    subst PairType (ap (λ p. function_of (p ∷ []) a.effects a.answer) (sym (just (of_name (codes "r") c.2))) ∙ sym a.is) (used_behind schemes hold _ c.3)
+    subst PairType (ap (λ p. function_of (p ∷ []) a.effects a.answer) (sym (same_some (of_name (codes "r") c.2))) ∙ sym a.is) (used_behind schemes hold _ c.3)
 
 -- with the lack in each they are schemes of the program
 pub k_typed_lacking : IsTypedBy pair_k (lacking ∷ lacking ∷ lacking ∷ [])
@@ -237,6 +237,6 @@ h_not_well_typed typed =
     let a = one_param h (codes "a") refl only.3 in
     let c = of_call (codes "g") (at (node.Record (part (codes "x") (number 2) ∷ []))) a.body in
     let r = of_field (codes "x") (number 2) c.2 in
-    let row : r.row ≡ with_x = just (sym r.whole ∙ ap (λ b. with_fields ((codes "x", b) ∷ []) no_fields) (of_number 2 r.typed) ∙ added (codes "x") known.Int no_fields (bare (codes "x"))) in
+    let row : r.row ≡ with_x = same_some (sym r.whole ∙ ap (λ b. with_fields ((codes "x", b) ∷ []) no_fields) (of_number 2 r.typed) ∙ added (codes "x") known.Int no_fields (bare (codes "x"))) in
     let its = used_behind first.schemes first.hold (function_of (c.0 ∷ []) a.effects a.answer) c.3 in
     not_at_x its.row a.effects its.effects a.answer its.lacks (ap (λ p. function_of (p ∷ []) a.effects a.answer) (sym (r.is ∙ ap record_of row)) ∙ its.is)

@@ -8,6 +8,7 @@ use Rattle.lk_ast.specs.declared.declaration.Decl.TheVariants.{Fun}
 use Rattle.lk_ast.specs.declared.declaration.FunDef.{FunDef}
 use Rattle.lk_ast.specs.declared.declaration.Program.{Program}
 use Rattle.lk_ast.specs.declared.declaration.TableDecl.{TableDecl}
+use Rattle.lk_types.proofs.Parts.{same_some}
 use Rattle.lk_types.specs.Each.{Each}
 use Rattle.lk_types.specs.Grounding.{Grounding}
 use Rattle.lk_types.specs.Rows.{Label, EffectSet}
@@ -22,8 +23,8 @@ use Rattle.lk_types.specs.declared.ty.Ty.{Ty}
 use Rattle.lk_types.specs.declared.ty.Ty.TheVariants as ty
 use Rattle.lk_types.specs.declared.ty.RowTail.TheVariants.{Var}
 use Rattle.lk_typing.proofs.Inverses.{first_same, rest_same}
-use Rattle.lk_typing.proofs.Values.{just}
-use Rattle.lk_typing.specs.Groups.{IsFunction, AreFunctions, none, more, IsGroup, is_recursive, scheme_entries}
+use Rattle.lk_typing.proofs.SchemeCounts.{as_many_schemes}
+use Rattle.lk_typing.specs.Groups.{IsFunction, none, more, IsGroup, is_recursive, scheme_entries}
 use Rattle.lk_typing.specs.Names.{Named, Entry, One, names_of, types_of, texts}
 use Rattle.lk_typing.specs.Programs as program
 use Rattle.lk_typing.specs.Programs.{AreAt, AreInstances, StandAlone, Hold, entries, HaveSchemes, IsTypedBy, AreInstancesOf, ArePrincipal}
@@ -59,28 +60,13 @@ record Instances (decl : Decl) (decls : List Decl) (all : List Scheme) (types : 
 first_instances : {decl : Decl} {decls : List Decl} {all : List Scheme} {types : List Ground} → AreInstancesOf (decl ∷ decls) all types → Instances decl decls all types
 first_instances (program.AreInstancesOf.more schemes rest ts others long instances then) = record { schemes = schemes; rest = rest; ts = ts; others = others; long = long; instances = instances; then = then; is = refl; types_are = refl }
 
--- ---- as many schemes as functions
-
-types_at : (σ : Grounding) (schemes : List Scheme) (ts : List Ground) → AreAt σ schemes ts → length schemes ≡ length ts
-types_at σ [] [] its = refl
-types_at σ [] (t ∷ ts) its = absurd its
-types_at σ (scheme ∷ schemes) [] its = absurd its
-types_at σ (scheme ∷ schemes) (t ∷ ts) its = ap suc (types_at σ schemes ts its.1)
-
-types_of_functions : {functions : Named (Entry Ground)} {tables : List TableDecl} {in_mutual : Bool} {fs : List FunDef} {ts nodes : List Ground} → AreFunctions functions tables in_mutual fs ts nodes → length ts ≡ length fs
-types_of_functions none = refl
-types_of_functions (more nodes rest typed others) = ap suc (types_of_functions others)
-
-as_many : (earlier : Named Scheme) (tables : List TableDecl) (decl : Decl) (schemes : List Scheme) → Hold earlier tables decl schemes → length schemes ≡ length (functions_in decl)
-as_many earlier tables decl schemes hold = types_at hold.some.1.0 schemes hold.some.0 hold.some.1.1 ∙ types_of_functions (hold.each hold.some.0 hold.some.1).1
+-- ---- the most general schemes
 
 same_front : {A : Type 0} (xs ys us vs : List A) → length xs ≡ length ys → xs ++ us ≡ ys ++ vs → (xs ≡ ys) × (us ≡ vs)
 same_front [] [] us vs long is = (refl, is)
 same_front [] (y ∷ ys) us vs long is = absurd (omega arith)
 same_front (x ∷ xs) [] us vs long is = absurd (omega arith)
 same_front (x ∷ xs) (y ∷ ys) us vs long is = let rest = same_front xs ys us vs (ap pred long) (rest_same is) in (ap₂ (λ a as'. a ∷ as') (first_same is) rest.0, rest.1)
-
--- ---- the most general schemes
 
 -- all instances of other schemes are instances of these too
 abbrev pub AreGeneral : List TableDecl → Named Scheme → List Decl → List Scheme → Type 0
@@ -101,7 +87,7 @@ module _ {tables : List TableDecl} {earlier : Named Scheme} where
   more_general decl decls schemes rest long every behind others ts typed instances =
       let a = first_declaration typed in
       let b = first_instances instances in
-      let same = same_front b.schemes a.schemes b.rest a.rest (b.long ∙ sym (as_many earlier tables decl a.schemes a.hold)) (sym b.is ∙ a.is) in
+      let same = same_front b.schemes a.schemes b.rest a.rest (b.long ∙ sym (as_many_schemes earlier tables decl a.schemes a.hold)) (sym b.is ∙ a.is) in
       let group = a.hold.each b.ts (subst (λ s. AreInstances s b.ts) same.0 b.instances) in
       subst (AreInstancesOf (decl ∷ decls) (schemes ++ rest)) (sym b.types_are)
       (program.AreInstancesOf.more schemes rest b.ts b.others long (every b.ts group.0 group.1)
@@ -124,7 +110,7 @@ only_type earlier f (t ∷ u ∷ ts) nodes (more inside rest typed others) = let
 
 -- one scheme stands alone, since there are no others
 stands_alone : (scheme : Scheme) → StandAlone (scheme ∷ [])
-stands_alone scheme zero own σ t is its = (t ∷ [], (σ, (subst (λ s. IsInstance σ s t) (sym (just is)) its, tt)), refl)
+stands_alone scheme zero own σ t is its = (t ∷ [], (σ, (subst (λ s. IsInstance σ s t) (sym (same_some is)) its, tt)), refl)
 stands_alone scheme (suc i) own σ t is its = absurd cc
 
 -- the instances of a scheme are these types, of which there are some

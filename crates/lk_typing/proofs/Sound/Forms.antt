@@ -6,6 +6,8 @@ use Rattle.lk_ast.specs.declared.expression.Expr.{Expr}
 use Rattle.lk_ast.specs.declared.expression.LambdaExpr.{LambdaExpr}
 use Rattle.lk_ast.specs.declared.expression.Node.TheOpen.{Node-F}
 use Rattle.lk_ast.specs.declared.place.Word.{Word}
+use Rattle.lk_types.proofs.Members.{each_front, each_back}
+use Rattle.lk_types.proofs.Parts.{same_some}
 use Rattle.lk_types.proofs.Unfold.{under_variable}
 use Rattle.lk_types.specs.Grounding.{Grounding}
 use Rattle.lk_types.specs.Rows.{EffectSet}
@@ -17,11 +19,10 @@ use Rattle.lk_types.specs.declared.ty.RowTail.TheVariants.{Var}
 use Rattle.lk_types.specs.declared.ty.Ty.{Ty}
 use Rattle.lk_types.specs.declared.ty.Ty.TheVariants as ty
 use Rattle.lk_typing.proofs.EffectRows.{has_sound}
-use Rattle.lk_typing.proofs.Lists.{each_front, each_back}
 use Rattle.lk_typing.proofs.Meaning.{Names, HasEffects, Found, Sound}
 use Rattle.lk_typing.proofs.Nodes.{EndedMet, ended_met, equations_met, has_if_sound, one_more, nodes_of, nodes_both}
 use Rattle.lk_typing.proofs.Scopes.{names_both, same_types, params_known, params_seen, params_named}
-use Rattle.lk_typing.proofs.Values.{just, met, list_is, function_is}
+use Rattle.lk_typing.proofs.Values.{met, list_is, function_is}
 use Rattle.lk_typing.specs.Equations.{Own, own}
 use Rattle.lk_typing.specs.Names.{Named, Entry, types_of}
 use Rattle.lk_typing.specs.Steps.{Meets, Holds, same_at}
@@ -98,8 +99,8 @@ module _ (functions : Named (Entry Ty)) (known_functions : Named (Entry Ground))
       let has_d : Finds σ w d known_names s = sound_d σ names known_names effects s (1 + n) fs ns es (each_front _ w.steps v.steps parts.before) in
       let has_body : Finds σ v inner ((x.text, a) ∷ known_names) s =
       sound_body σ ((x.text, element) ∷ names) ((x.text, a) ∷ known_names) effects s w.next fs (one_more σ names known_names x.text element a (under_variable σ n) ns) es (each_back _ w.steps v.steps parts.before) in
-      let is_list : has_d.t ≡ known.List a = just (sym (met σ w.ty (ty.List element) has_d.t has_d.ty parts.equations.0) ∙ list_is σ element a (under_variable σ n)) in
-      let is_answer : has_body.t ≡ known.List b = just (sym (met σ v.ty answer has_body.t has_body.ty parts.equations.1.0) ∙ list_is σ (ty.Var v.next) b (under_variable σ v.next)) in
+      let is_list : has_d.t ≡ known.List a = same_some (sym (met σ w.ty (ty.List element) has_d.t has_d.ty parts.equations.0) ∙ list_is σ element a (under_variable σ n)) in
+      let is_answer : has_body.t ≡ known.List b = same_some (sym (met σ v.ty answer has_body.t has_body.ty parts.equations.1.0) ∙ list_is σ (ty.Var v.next) b (under_variable σ v.next)) in
       record {
         t = known.List b;
         inside = (known.List a ∷ has_d.inside) ++ (known.List b ∷ has_body.inside);
@@ -124,8 +125,8 @@ module _ (functions : Named (Entry Ty)) (known_functions : Named (Entry Ground))
       let has_d : Finds σ w d known_names s = sound_d σ names known_names effects s (1 + n) fs ns es (each_front _ w.steps (rows ++ v.steps) parts.before) in
       let has_body : Finds σ v inner ((x.text, a) ∷ known_names) s =
       sound_body σ ((x.text, element) ∷ names) ((x.text, a) ∷ known_names) effects s w.next fs (one_more σ names known_names x.text element a (under_variable σ n) ns) es (each_back _ rows v.steps later) in
-      let is_list : has_d.t ≡ known.List a = just (sym (met σ w.ty (ty.List element) has_d.t has_d.ty later.0) ∙ list_is σ element a (under_variable σ n)) in
-      let is_answer : has_body.t ≡ known.List b = just (sym (met σ v.ty answer has_body.t has_body.ty parts.equations.0) ∙ list_is σ (ty.Var v.next) b (under_variable σ v.next)) in
+      let is_list : has_d.t ≡ known.List a = same_some (sym (met σ w.ty (ty.List element) has_d.t has_d.ty later.0) ∙ list_is σ element a (under_variable σ n)) in
+      let is_answer : has_body.t ≡ known.List b = same_some (sym (met σ v.ty answer has_body.t has_body.ty parts.equations.0) ∙ list_is σ (ty.Var v.next) b (under_variable σ v.next)) in
       record {
         t = known.List b;
         inside = (known.List a ∷ has_d.inside) ++ (known.List b ∷ has_body.inside);

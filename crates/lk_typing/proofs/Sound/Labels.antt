@@ -2,6 +2,8 @@
 use Rattle.std.proofs.Common.{◌≡◌, ℕ, List, [], ◌∷◌, refl, sym, subst, ap, ◌∙◌, Option, Some, None, IsSome}
 use Rattle.std.specs.Option.{option_map}
 use Rattle.lk_ast.specs.declared.declaration.TableDecl.{TableDecl}
+use Rattle.lk_types.proofs.Members.{each_front, each_back}
+use Rattle.lk_types.proofs.Parts.{same_some, mapped}
 use Rattle.lk_types.specs.Each.{Each}
 use Rattle.lk_types.specs.Grounding.{Grounding, under}
 use Rattle.lk_types.specs.Rows.{Label, Row, EffectSet, no_fields}
@@ -15,12 +17,12 @@ use Rattle.lk_types.specs.declared.ty.RowTail.TheVariants.{Closed, Var}
 use Rattle.lk_types.specs.declared.ty.Ty.{Ty}
 use Rattle.lk_types.specs.declared.ty.Ty.TheVariants as ty
 use Rattle.lk_typing.proofs.EffectRows.{has_sound}
-use Rattle.lk_typing.proofs.Instances.{there, never_met, local_sound, used_sound}
-use Rattle.lk_typing.proofs.Lists.{each_front, each_back}
+use Rattle.lk_typing.proofs.Instances.{never_met, local_sound, used_sound}
 use Rattle.lk_typing.proofs.Meaning.{HasEffects, Functions, Names}
-use Rattle.lk_typing.proofs.Operators.{mapped, known_first, known_none, Labelled, labelled_both, row_is, under_row_of}
+use Rattle.lk_typing.proofs.Nodes.{there_is}
+use Rattle.lk_typing.proofs.Operators.{known_first, known_none, Labelled, labelled_both, row_is, under_row_of}
 use Rattle.lk_typing.proofs.Sound.Simple.{Gets, by_rule, one, plain_is}
-use Rattle.lk_typing.proofs.Values.{just, under_record, under_variant, under_unit, list_is, list_was, function_is, met_back}
+use Rattle.lk_typing.proofs.Values.{under_record, under_variant, under_unit, list_is, list_was, function_is, met_back}
 use Rattle.lk_typing.specs.Equations.{Own, closed_record, extended, rows, inserted, local, used, called}
 use Rattle.lk_typing.specs.Heads as head
 use Rattle.lk_typing.specs.Law.{Become}
@@ -46,7 +48,7 @@ module _ (σ : Grounding) (known_functions : Named (Entry Ground)) (tables : Lis
       by_both (Some (fields, [])) (Some (known_fields, x ∷ xs)) at both met some = let wrong : Become σ [] (x ∷ xs) = both.1 in cc
       by_both (Some (fields, [])) (Some (known_fields, [])) at both met some =
           let becomes : under σ (unknown.record_of fields Closed) ≡ option_map record_of (with_fields known_fields no_fields) = under_record σ fields known_fields Closed both.0 in
-          let found : (g : Ground) × (under σ (unknown.record_of fields Closed) ≡ Some g) = there (under σ (unknown.record_of fields Closed)) some in
+          let found : (g : Ground) × (under σ (unknown.record_of fields Closed) ≡ Some g) = there_is (under σ (unknown.record_of fields Closed)) some in
           let row : (r : Row) × (with_fields known_fields no_fields ≡ Some r) × (found.0 ≡ record_of r) =
           mapped record_of (with_fields known_fields no_fields) found.0 (sym becomes ∙ found.1) in
           (record_of row.0, becomes ∙ ap (option_map record_of) row.1, Rule.closed_record known_fields row.0 at row.1)
@@ -72,7 +74,7 @@ module _ (σ : Grounding) (known_functions : Named (Entry Ground)) (tables : Lis
           mapped record_of (with_fields known_fields (σ.rows n)) met.1.0.0 (sym becomes ∙ met.1.0.1) in
           let one_becomes : Become σ (a ∷ []) (x ∷ []) = both.1 in
           let it : under σ a ≡ Some x = cc in
-          let other : x ≡ record_of (σ.rows n) = just (sym it ∙ met_back σ a (unknown.record_of [] (Var n)) (record_of (σ.rows n)) (row_is σ n) met.0) in (
+          let other : x ≡ record_of (σ.rows n) = same_some (sym it ∙ met_back σ a (unknown.record_of [] (Var n)) (record_of (σ.rows n)) (row_is σ n) met.0) in (
             record_of row.0,
             becomes ∙ ap (option_map record_of) row.1,
             Rule.extend known_fields (σ.rows n) row.0 (at ∙ ap (λ g. Some (known_fields, g ∷ [])) other) row.1,
@@ -95,7 +97,7 @@ module _ (σ : Grounding) (known_functions : Named (Entry Ground)) (tables : Lis
       (λ x xs ax rest.
       let becomes : under σ (unknown.variant_of ((l, a) ∷ []) (Var n)) ≡ option_map variant_of (with_fields ((l, x) ∷ []) (σ.rows n)) =
       under_variant σ ((l, a) ∷ []) ((l, x) ∷ []) (Var n) (ap (λ u. (l, u) ∷ []) ax) in
-      let found : (g : Ground) × (under σ (unknown.variant_of ((l, a) ∷ []) (Var n)) ≡ Some g) = there (under σ (unknown.variant_of ((l, a) ∷ []) (Var n))) some in
+      let found : (g : Ground) × (under σ (unknown.variant_of ((l, a) ∷ []) (Var n)) ≡ Some g) = there_is (under σ (unknown.variant_of ((l, a) ∷ []) (Var n))) some in
       let row : (r : Row) × (with_fields ((l, x) ∷ []) (σ.rows n) ≡ Some r) × (found.0 ≡ variant_of r) =
       mapped variant_of (with_fields ((l, x) ∷ []) (σ.rows n)) found.0 (sym becomes ∙ found.1) in (
         variant_of row.0,
@@ -115,7 +117,7 @@ module _ (σ : Grounding) (known_functions : Named (Entry Ground)) (tables : Lis
             → Gets σ known_functions tables known_names s (head.Table x) ts (rows o effects n).ty
         by_table None at met some = absurd (never_met σ met.0)
         by_table (Some table) at met some =
-            let found : (g : Ground) × (under σ (ty.List (unknown.row_of table)) ≡ Some g) = there (under σ (ty.List (unknown.row_of table))) some in
+            let found : (g : Ground) × (under σ (ty.List (unknown.row_of table)) ≡ Some g) = there_is (under σ (ty.List (unknown.row_of table))) some in
             let inner : (a : Ground) × (under σ (unknown.row_of table) ≡ Some a) × (found.0 ≡ known.List a) = list_was σ (unknown.row_of table) found.0 found.1 in
             let row : (r : Row) × (row_known table ≡ Some r) × (inner.0 ≡ record_of r) = mapped record_of (row_known table) inner.0 (sym (under_row_of σ table) ∙ inner.1) in
             let becomes : under σ (ty.List (unknown.row_of table)) ≡ Some (known.List (record_of row.0)) =
@@ -170,5 +172,5 @@ module _ (σ : Grounding) (known_functions : Named (Entry Ground)) (tables : Lis
         met_back σ o.ty (ty.Fun types effects (ty.Var o.next)) (function_of ts s answer) (function_is σ types ts effects s (ty.Var o.next) answer is are (plain_is σ o.next)) back.0 in
         let found : (t : Ground) × (under σ o.ty ≡ Some t) × MayBe known_functions g t =
         used_sound σ functions known_functions g n same_functions front (subst (λ p. IsSome p) (sym becomes) refl) in
-        let it : found.0 ≡ function_of ts s answer = just (sym found.1 ∙ becomes) in
+        let it : found.0 ≡ function_of ts s answer = same_some (sym found.1 ∙ becomes) in
         (answer, plain_is σ o.next, Rule.call (subst (λ t. MayBe known_functions g t) it found.2))

@@ -10,6 +10,8 @@ use Rattle.lk_ast.specs.declared.expression.Expr.{Expr}
 use Rattle.lk_ast.specs.declared.expression.Node.TheOpen.{Node-F}
 use Rattle.lk_ast.specs.declared.expression.SortKey.{SortKey}
 use Rattle.lk_ast.specs.declared.place.Span.{Span}
+use Rattle.lk_types.proofs.Members.{each_front, each_back}
+use Rattle.lk_types.proofs.Parts.{same_some, mapped}
 use Rattle.lk_types.proofs.Unfold.{under_variable, under_bool}
 use Rattle.lk_types.specs.Each.{Each}
 use Rattle.lk_types.specs.Grounding.{Grounding, under}
@@ -27,13 +29,13 @@ use Rattle.lk_types.specs.declared.ty.Ty.{Ty}
 use Rattle.lk_types.specs.declared.ty.Ty.TheVariants as ty
 use Rattle.lk_typing.proofs.EffectRows.{has_sound}
 use Rattle.lk_typing.proofs.Instances.{never_met}
-use Rattle.lk_typing.proofs.Lists.{each_front, each_back, become_both}
+use Rattle.lk_typing.proofs.Lists.{become_both}
 use Rattle.lk_typing.proofs.Sound.Sequences.{AreSound, FoundAll, all_sound}
 use Rattle.lk_typing.proofs.Meaning.{Names, Functions, HasEffects, Found, Sound, seen}
 use Rattle.lk_typing.proofs.Nodes.{EndedMet, ended_met, one_more, nodes_of, has_if_sound}
 use Rattle.lk_typing.proofs.Operators.{labelled_both, Labelled, under_row_of}
-use Rattle.lk_typing.proofs.Sound.Switches.{made, each_parted}
-use Rattle.lk_typing.proofs.Values.{just, met, met_back, list_is, list_was, under_record, under_unit}
+use Rattle.lk_typing.proofs.Sound.Switches.{each_parted}
+use Rattle.lk_typing.proofs.Values.{met, met_back, list_is, list_was, under_record, under_unit}
 use Rattle.lk_typing.specs.Equations.{Own, own, never}
 use Rattle.lk_typing.specs.Law.{Become}
 use Rattle.lk_typing.specs.Names.{Named, Entry, IsRowOf, table_named, proper, row_known}
@@ -57,7 +59,7 @@ module _ (σ : Grounding) where
       → IsMet σ (unknown.same t (unknown.record_of ((l, u) ∷ []) (Var n))) → HasField g l a
   field_sound t g l u a n ty of_field equal =
       let found : (row : Row) × (with_fields ((l, a) ∷ []) (σ.rows n) ≡ Some row) × (g ≡ record_of row) =
-      made record_of (with_fields ((l, a) ∷ []) (σ.rows n)) g (sym (under_record σ ((l, u) ∷ []) ((l, a) ∷ []) (Var n) (ap (λ o. (l, o) ∷ []) of_field)) ∙ met σ t (unknown.record_of ((l, u) ∷ []) (Var n)) g ty equal) in
+      mapped record_of (with_fields ((l, a) ∷ []) (σ.rows n)) g (sym (under_record σ ((l, u) ∷ []) ((l, a) ∷ []) (Var n) (ap (λ o. (l, o) ∷ []) of_field)) ∙ met σ t (unknown.record_of ((l, u) ∷ []) (Var n)) g ty equal) in
       (σ.rows n, found.0, found.2, found.1)
 
   pub keys_sound : (t : Ty) (a : Ground) (keys : List SortKey) (n : ℕ) → under σ t ≡ Some (known.List a) → Each (IsMet σ) (keys_told t keys n).equations → Each (IsKeyOf a) keys
@@ -67,7 +69,7 @@ module _ (σ : Grounding) where
       let rows : Ty = unknown.record_of ((l, ty.Var n) ∷ []) (Var (1 + n)) in
       let list : (b : Ground) × (under σ rows ≡ Some b) × (known.List a ≡ known.List b) = list_was σ rows (known.List a) (met σ t (ty.List rows) (known.List a) becomes met_all.0) in
       let found : (row : Row) × (with_fields ((l, σ.plain n) ∷ []) (σ.rows (1 + n)) ≡ Some row) × (list.0 ≡ record_of row) =
-      made record_of (with_fields ((l, σ.plain n) ∷ []) (σ.rows (1 + n))) list.0 (sym (under_record σ ((l, ty.Var n) ∷ []) ((l, σ.plain n) ∷ []) (Var (1 + n)) (ap (λ o. (l, o) ∷ []) (under_variable σ n))) ∙ list.1) in
+      mapped record_of (with_fields ((l, σ.plain n) ∷ []) (σ.rows (1 + n))) list.0 (sym (under_record σ ((l, ty.Var n) ∷ []) ((l, σ.plain n) ∷ []) (Var (1 + n)) (ap (λ o. (l, o) ∷ []) (under_variable σ n))) ∙ list.1) in
       ((σ.plain n, (σ.rows (1 + n), found.0, list_same a list.0 list.2 ∙ found.2, found.1)), keys_sound t a keys (2 + n) becomes met_all.1)
 
   pub sets_sound : (t : Ty) (g : Ground) (sets : Named Ty) (known_sets : Named Ground) (n : ℕ) → under σ t ≡ Some g → seen (under σ) sets ≡ seen (λ a. Some a) known_sets
@@ -99,7 +101,7 @@ has_row (Some other) table is = by_row (row_known other) refl
   where
     by_row : (r : Option Row) → row_known other ≡ r → (row : Row) × (row_known table ≡ Some row)
     by_row None none = let wrong : None ≡ Some table = sym (ap (λ r. if is_some r then Some other else None) none) ∙ is in cc
-    by_row (Some row) some = (row, sym (ap row_known (just (sym (ap (λ r. if is_some r then Some other else None) some) ∙ is))) ∙ some)
+    by_row (Some row) some = (row, sym (ap row_known (same_some (sym (ap (λ r. if is_some r then Some other else None) some) ∙ is))) ∙ some)
 
 module _ (functions : Named (Entry Ty)) (known_functions : Named (Entry Ground)) (tables : List TableDecl) where
   abbrev IsSound : Walking → Expr → Type 0
@@ -122,7 +124,7 @@ module _ (functions : Named (Entry Ty)) (known_functions : Named (Entry Ground))
       let parts : EndedMet σ w.steps o = ended_met σ e.span (all_types w) w.steps o meets in
       let has_body : Finds σ w inner known_names only_scan = sound_body σ names known_names (unknown.effects_of (effect.Scan ∷ []) Closed) only_scan n fs ns (scan_only σ) parts.before in
       let a : Ground = σ.plain m in
-      let is_list : has_body.t ≡ known.List a = just (sym (met σ w.ty (ty.List (ty.Var m)) has_body.t has_body.ty parts.equations.0) ∙ list_is σ (ty.Var m) a (under_variable σ m)) in
+      let is_list : has_body.t ≡ known.List a = same_some (sym (met σ w.ty (ty.List (ty.Var m)) has_body.t has_body.ty parts.equations.0) ∙ list_is σ (ty.Var m) a (under_variable σ m)) in
       let becomes : under σ w.ty ≡ Some (known.List a) = has_body.ty ∙ ap (λ t. Some t) is_list in
       let rest : Each (IsMet σ) ordered.equations × Each (IsMet σ) (scan ∷ by_client.equations) = each_parted (IsMet σ) ordered.equations (scan ∷ by_client.equations) parts.equations.1 in
       record {
@@ -210,7 +212,7 @@ module _ (functions : Named (Entry Ty)) (known_functions : Named (Entry Ground))
       let has_sets : FoundAll functions known_functions tables σ all (exprs_of (out-ChangeExpr change).sets) known_inner no_effects =
       all_sound functions known_functions tables (map (λ set. set.1) c.sets) (exprs_of (out-ChangeExpr change).sets) sound.sets σ inner known_inner none no_effects w.next fs seen_inner (none_at_all σ) (each_back (λ step. Holds σ step.said) w.steps all.steps parts.before) in
       let sets : SetsMet σ effects labels g w.ty has_sets.ts s o.ty = set_own_sound σ effects s labels t g w.ty all.types has_sets.ts all.next es ty has_sets.types parts.equations in
-      let is_test : has_cond.t ≡ known.Bool = just (sym has_cond.ty ∙ sets.is_test) in
+      let is_test : has_cond.t ≡ known.Bool = same_some (sym has_cond.ty ∙ sets.is_test) in
       let name : known_inner ≡ ((out-ChangeExpr change).name.text, g) ∷ known_names = ap (λ x. (x, g) ∷ known_names) sound.name in
       record {
         inside = (known.Bool ∷ has_cond.inside) ++ has_sets.inside;

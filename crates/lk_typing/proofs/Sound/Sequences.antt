@@ -5,6 +5,8 @@ use Rattle.lk_ast.specs.declared.declaration.TableDecl.{TableDecl}
 use Rattle.lk_ast.specs.declared.expression.Case.{Case}
 use Rattle.lk_ast.specs.declared.expression.Expr.{Expr}
 use Rattle.lk_ast.specs.declared.place.Word.{Word}
+use Rattle.lk_types.proofs.Members.{each_front, each_back}
+use Rattle.lk_types.proofs.Parts.{same_some}
 use Rattle.lk_types.proofs.Unfold.{under_variable}
 use Rattle.lk_types.specs.Each.{Each}
 use Rattle.lk_types.specs.Grounding.{Grounding, under}
@@ -13,11 +15,11 @@ use Rattle.lk_types.specs.Solutions.{IsMet}
 use Rattle.lk_types.specs.declared.ground.Ground.{Ground}
 use Rattle.lk_types.specs.declared.ty.Effects.{Effects}
 use Rattle.lk_types.specs.declared.ty.Ty.{Ty}
-use Rattle.lk_typing.proofs.Lists.{each_front, each_back, become_both, become_more}
+use Rattle.lk_typing.proofs.Lists.{become_both, become_more}
 use Rattle.lk_typing.proofs.Meaning.{Names, Functions, HasEffects, Found, Sound}
 use Rattle.lk_typing.proofs.Nodes.{nodes_of}
 use Rattle.lk_typing.proofs.Scopes.{names_both}
-use Rattle.lk_typing.proofs.Values.{just, met_back, under_unit}
+use Rattle.lk_typing.proofs.Values.{met_back, under_unit}
 use Rattle.lk_typing.specs.Law.{Become}
 use Rattle.lk_typing.specs.Names.{Named, Entry}
 use Rattle.lk_typing.specs.Steps.{Meets, Holds}
@@ -39,7 +41,7 @@ one_type_sound σ (x ∷ xs) (t ∷ ts) n become met = let first : under σ x �
     later (y ∷ ys) (u ∷ us) x t first become met =
         let this : under σ y ≡ Some u = cc in
         let others : Become σ ys us = cc in
-        (just (sym this ∙ met_back σ y x t first met.0), later ys us x t first others met.1)
+        (same_some (sym this ∙ met_back σ y x t first met.0), later ys us x t first others met.1)
 
 module _ (functions : Named (Entry Ty)) (known_functions : Named (Entry Ground)) (tables : List TableDecl) where
   abbrev IsSound : Walking → Expr → Type 0

@@ -15,8 +15,8 @@ use Rattle.lk_types.specs.declared.ty.Effects.{Effects}
 use Rattle.lk_types.specs.declared.ty.Ty.{Ty}
 use Rattle.lk_types.specs.declared.ty.Ty.TheVariants as ty
 use Rattle.lk_typing.proofs.EffectRows.{has_sound}
-use Rattle.lk_typing.proofs.Instances.{there}
 use Rattle.lk_typing.proofs.Meaning.{HasEffects}
+use Rattle.lk_typing.proofs.Nodes.{there_is as there}
 use Rattle.lk_typing.proofs.Operators.{become_same, known_first}
 use Rattle.lk_typing.proofs.Values.{under_unit, under_base, list_is, list_was, variable_is, function_is, met_back}
 use Rattle.lk_typing.specs.Heads as head

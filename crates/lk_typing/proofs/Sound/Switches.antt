@@ -1,12 +1,13 @@
 -- Where all that is said of a `switch` holds, it has types by the rules if its parts have them.
-use Rattle.std.proofs.Common.{◌≡◌, ℕ, ◌+◌, List, [], ◌∷◌, ◌++◌, refl, sym, subst, ap, ◌∙◌, Option, Some, None}
-use Rattle.std.specs.Option.{option_map}
+use Rattle.std.proofs.Common.{◌≡◌, ℕ, ◌+◌, List, [], ◌∷◌, ◌++◌, refl, sym, subst, ap, ◌∙◌, Some, None}
 use Rattle.lk_ast.specs.Layers.{layer}
 use Rattle.lk_ast.specs.declared.declaration.TableDecl.{TableDecl}
 use Rattle.lk_ast.specs.declared.expression.Case.{Case}
 use Rattle.lk_ast.specs.declared.expression.Expr.{Expr}
 use Rattle.lk_ast.specs.declared.expression.LastCase.{LastCase}
 use Rattle.lk_ast.specs.declared.expression.Node.TheOpen.{Node-F}
+use Rattle.lk_types.proofs.Members.{each_front, each_back}
+use Rattle.lk_types.proofs.Parts.{mapped}
 use Rattle.lk_types.specs.Each.{Each}
 use Rattle.lk_types.specs.Grounding.{Grounding, under, row_tail}
 use Rattle.lk_types.specs.Rows.{Row, EffectSet}
@@ -18,11 +19,11 @@ use Rattle.lk_types.specs.declared.ty.RowTail.{RowTail}
 use Rattle.lk_types.specs.declared.ty.RowTail.TheVariants.{Closed, Var}
 use Rattle.lk_types.specs.declared.ty.Ty.{Ty}
 use Rattle.lk_typing.proofs.EffectRows.{has_sound}
-use Rattle.lk_typing.proofs.Lists.{each_front, each_back, become_both, become_more}
+use Rattle.lk_typing.proofs.Lists.{become_both, become_more}
 use Rattle.lk_typing.proofs.Sound.Sequences.{AreSoundCases, FoundCases, cases_sound, one_type_sound}
 use Rattle.lk_typing.proofs.Meaning.{Names, Found, Sound}
 use Rattle.lk_typing.proofs.Nodes.{EndedMet, ended_met, one_more, nodes_of}
-use Rattle.lk_typing.proofs.Values.{just, met, under_variant}
+use Rattle.lk_typing.proofs.Values.{met, under_variant}
 use Rattle.lk_typing.specs.Equations.{Own, own}
 use Rattle.lk_typing.specs.Names.{Named, Entry}
 use Rattle.lk_typing.specs.Steps.{Meets, Holds}
@@ -31,10 +32,6 @@ use Rattle.lk_typing.specs.Typing.{HasType, switch, switch_open}
 use Rattle.lk_typing.specs.Unknowns as unknown
 use Rattle.lk_typing.specs.Walk.{Walking, Walked, all_types, CaseWalk, WalkedCases, walk_cases, one_type, switch_walked}
 use Rattle.lk_typing.specs.declared.step.Step.{Step}
-
-pub made : {A B : Type 0} (f : A → B) (o : Option A) (b : B) → option_map f o ≡ Some b → (a : A) × (o ≡ Some a) × (b ≡ f a)
-made f None b is = let wrong : None ≡ Some b = is in cc
-made f (Some a) b is = (a, refl, sym (just is))
 
 -- all of two lists
 pub each_parted : {A : Type 0} (P : A → Type 0) (xs ys : List A) → Each P (xs ++ ys) → Each P xs × Each P ys
@@ -50,7 +47,7 @@ looked : (σ : Grounding) (value : Walked) (tags : Named Ty) (known_tags : Named
     → Names σ tags known_tags → under σ value.ty ≡ Some t → IsMet σ (unknown.same value.ty (unknown.variant_of tags tail)) → Looked σ value known_tags tail t
 looked σ value tags known_tags tail t ns ty equal =
     let found : (row : Row) × (with_fields known_tags (row_tail σ tail) ≡ Some row) × (t ≡ variant_of row) =
-    made variant_of (with_fields known_tags (row_tail σ tail)) t (sym (under_variant σ tags known_tags tail ns.same) ∙ met σ value.ty (unknown.variant_of tags tail) t ty equal) in
+    mapped variant_of (with_fields known_tags (row_tail σ tail)) t (sym (under_variant σ tags known_tags tail ns.same) ∙ met σ value.ty (unknown.variant_of tags tail) t ty equal) in
     record { row = found.0; tagged = found.1; is = found.2 }
 
 module _ (functions : Named (Entry Ty)) (known_functions : Named (Entry Ground)) (tables : List TableDecl) where

@@ -2,7 +2,7 @@ use Rattle.std.proofs.Common.{ap, ap₂, ◌∙◌}
 use Rattle.std.specs.FinMap as finite
 use Rattle.std.specs.Iterator.Adapters.{rev_source}
 use Rattle.std.specs.Slice.Iter.{iter_rest}
-use Rattle.lk_bag.proofs.Ascending.{put_all, put_last, put_onto_none}
+use Rattle.lk_bag.proofs.ColumnMaps.{put_all, put_last, put_onto_none}
 use Rattle.lk_bag.proofs.tables.kinds_of.Goals as goal
 
 pub loop-column-init : goal.loop-column-init

@@ -1,6 +1,6 @@
 use Rattle.std.proofs.Common.{◌∙◌, ap₂}
 use Rattle.std.specs.FinMap as finite
-use Rattle.lk_bag.proofs.Ascending.{finite-insert}
+use Rattle.lk_operators.proofs.Ascending.{finite-insert}
 use Rattle.lk_bag.proofs.tables.Kinds.insert.Goals as goal
 
 pub returns : goal.returns

@@ -1,6 +1,6 @@
 use Rattle.std.proofs.Common.{◌++◌, map, sym, ap, ◌∙◌, append-nil}
 use Rattle.lk_bag.specs.Columns.{columns_of}
-use Rattle.lk_bag.proofs.Ascending.{column, columns-finite}
+use Rattle.lk_bag.proofs.ColumnMaps.{column, columns-finite}
 use Rattle.lk_bag.proofs.tables.Kinds.into_columns.Goals as goal
 
 pub returns : goal.returns

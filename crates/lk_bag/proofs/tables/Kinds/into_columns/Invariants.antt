@@ -1,5 +1,5 @@
 use Rattle.std.proofs.Common.{◌≡◌, ◌++◌, map}
-use Rattle.lk_bag.proofs.Ascending.{column}
+use Rattle.lk_bag.proofs.ColumnMaps.{column}
 use Rattle.lk_bag.proofs.tables.Kinds.into_columns.Given as goal
 
 abbrev pub invariant-loop-label : goal.invariant-loop-label

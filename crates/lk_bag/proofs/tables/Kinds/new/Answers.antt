@@ -1,4 +1,4 @@
-use Rattle.lk_bag.proofs.Ascending.{finite-none}
+use Rattle.lk_operators.proofs.Ascending.{finite-none}
 use Rattle.lk_bag.proofs.tables.Kinds.new.Goals as goal
 
 pub returns : goal.returns

@@ -11,7 +11,7 @@ use Rattle.lk_types.specs.Rows.{Label, label_order}
 
 -- ---- equal labels tie, and no others
 
-self_equal : (o : Ordering) → o ≡ ordering_reverse o → is_eq o ≡ true
+pub self_equal : (o : Ordering) → o ≡ ordering_reverse o → is_eq o ≡ true
 self_equal Less e = cc
 self_equal Equal e = refl
 self_equal Greater e = cc
@@ -19,7 +19,7 @@ self_equal Greater e = cc
 pub labels_tie : (l k : Label) → l ≡ k → eq_by_cmp label_order l k ≡ true
 labels_tie l k e = ap (λ k. is_eq (label_order l k)) (sym e) ∙ self_equal (label_order l l) (nat_list_cmp_total.antisymm l l)
 
-not_equal : (o : Ordering) → (o ≡ Equal → ⊥) → is_eq o ≡ false
+pub not_equal : (o : Ordering) → (o ≡ Equal → ⊥) → is_eq o ≡ false
 not_equal Less n = refl
 not_equal Equal n = absurd (n refl)
 not_equal Greater n = refl
@@ -49,17 +49,17 @@ tie_cases l k = by_order (label_order l k) refl
 
 -- ---- tests
 
-both : (a b : Bool) → T a → T b → T (a && b)
-both true b p q = q
-both false b p q = p
+pub both_hold : (a b : Bool) → T a → T b → T (a && b)
+both_hold true b p q = q
+both_hold false b p q = p
 
-first : (a b : Bool) → T (a && b) → T a
-first true b p = tt
-first false b p = p
+pub first_holds : (a b : Bool) → T (a && b) → T a
+first_holds true b p = tt
+first_holds false b p = p
 
-second : (a b : Bool) → T (a && b) → T b
-second true b p = p
-second false b p = absurd p
+pub second_holds : (a b : Bool) → T (a && b) → T b
+second_holds true b p = p
+second_holds false b p = absurd p
 
 less_differs : (o : Ordering) → T (is_lt o) → is_eq o ≡ false
 less_differs Less p = refl
@@ -118,17 +118,17 @@ module _ {X : Type 0} where
   abbrev in_order : List (Label × X) → Bool
   in_order es = fin.is_sorted label_order es
 
-  -- the first label of a list in order stands nowhere in the rest
+  -- the first_holds label of a list in order stands nowhere in the rest
   pub find_rest : (l : Label) (x : X) (es : List (Label × X)) → T (fin.is_sorted label_order ((l, x) ∷ es)) → fin.find label_order l es ≡ None
   find_rest l x [] h = refl
   find_rest l x (e ∷ es) h =
-      let below = first (is_below l (e ∷ es)) (in_order (e ∷ es)) h in
-      let rest = second (is_below l (e ∷ es)) (in_order (e ∷ es)) h in
-      ap (λ b. cond b (Some e.1) (fin.find label_order l es)) (less_differs (label_order l e.0) (first (is_lt (label_order l e.0)) (is_below l es) below))
-      ∙ find_rest l x es (both (is_below l es) (in_order es) (second (is_lt (label_order l e.0)) (is_below l es) below) (second (is_below e.0 es) (in_order es) rest))
+      let below = first_holds (is_below l (e ∷ es)) (in_order (e ∷ es)) h in
+      let rest = second_holds (is_below l (e ∷ es)) (in_order (e ∷ es)) h in
+      ap (λ b. cond b (Some e.1) (fin.find label_order l es)) (less_differs (label_order l e.0) (first_holds (is_lt (label_order l e.0)) (is_below l es) below))
+      ∙ find_rest l x es (both_hold (is_below l es) (in_order es) (second_holds (is_lt (label_order l e.0)) (is_below l es) below) (second_holds (is_below e.0 es) (in_order es) rest))
 
   pub sorted_rest : (e : Label × X) (es : List (Label × X)) → T (fin.is_sorted label_order (e ∷ es)) → T (fin.is_sorted label_order es)
-  sorted_rest e es h = second (is_below e.0 es) (in_order es) h
+  sorted_rest e es h = second_holds (is_below e.0 es) (in_order es) h
 
   -- a list in order is that of its map
   pub entries_back : (es : List (Label × X)) → T (fin.is_sorted label_order es) → fin.entries (fin.from_entries {R = label_order} es) ≡ es
@@ -161,13 +161,13 @@ module _ {X Y : Type 0} (f : X → Y) where
   sorted_after : (k : Label) (x : X) (es : List (Label × X)) → T (fin.is_sorted label_order ((k, x) ∷ es)) → T (fin.is_sorted label_order ((k, f x) ∷ map with_value es))
   sorted_after k x [] h = tt
   sorted_after k x (e ∷ es) h =
-      let below = first (is_below k (e ∷ es)) (in_order (e ∷ es)) h in
-      let rest = second (is_below k (e ∷ es)) (in_order (e ∷ es)) h in
-      let lower = first (is_lt (label_order k e.0)) (is_below k es) below in
-      let a = sorted_after k x es (both (is_below k es) (in_order es) (second (is_lt (label_order k e.0)) (is_below k es) below) (second (is_below e.0 es) (in_order es) rest)) in
+      let below = first_holds (is_below k (e ∷ es)) (in_order (e ∷ es)) h in
+      let rest = second_holds (is_below k (e ∷ es)) (in_order (e ∷ es)) h in
+      let lower = first_holds (is_lt (label_order k e.0)) (is_below k es) below in
+      let a = sorted_after k x es (both_hold (is_below k es) (in_order es) (second_holds (is_lt (label_order k e.0)) (is_below k es) below) (second_holds (is_below e.0 es) (in_order es) rest)) in
       let b = sorted_after e.0 e.1 es rest in
-      let others = first (is_below k (map with_value es)) (in_order (map with_value es)) a in
-      both (is_below k (map with_value (e ∷ es))) (in_order (map with_value (e ∷ es))) (both (is_lt (label_order k e.0)) (is_below k (map with_value es)) lower others) b
+      let others = first_holds (is_below k (map with_value es)) (in_order (map with_value es)) a in
+      both_hold (is_below k (map with_value (e ∷ es))) (in_order (map with_value (e ∷ es))) (both_hold (is_lt (label_order k e.0)) (is_below k (map with_value es)) lower others) b
 
   pub sorted_mapped : (es : List (Label × X)) → T (fin.is_sorted label_order es) → T (fin.is_sorted label_order (map with_value es))
   sorted_mapped [] h = tt
@@ -177,13 +177,13 @@ module _ {X Y : Type 0} (f : X → Y) where
   sorted_before k x [] h = tt
   sorted_before k x (e ∷ es) h =
       let fs = map with_value es in
-      let below = first (is_below k (map with_value (e ∷ es))) (in_order (map with_value (e ∷ es))) h in
-      let rest = second (is_below k (map with_value (e ∷ es))) (in_order (map with_value (e ∷ es))) h in
-      let lower = first (is_lt (label_order k e.0)) (is_below k fs) below in
-      let a = sorted_before k x es (both (is_below k fs) (in_order fs) (second (is_lt (label_order k e.0)) (is_below k fs) below) (second (is_below e.0 fs) (in_order fs) rest)) in
+      let below = first_holds (is_below k (map with_value (e ∷ es))) (in_order (map with_value (e ∷ es))) h in
+      let rest = second_holds (is_below k (map with_value (e ∷ es))) (in_order (map with_value (e ∷ es))) h in
+      let lower = first_holds (is_lt (label_order k e.0)) (is_below k fs) below in
+      let a = sorted_before k x es (both_hold (is_below k fs) (in_order fs) (second_holds (is_lt (label_order k e.0)) (is_below k fs) below) (second_holds (is_below e.0 fs) (in_order fs) rest)) in
       let b = sorted_before e.0 e.1 es rest in
-      let others = first (is_below k es) (in_order es) a in
-      both (is_below k (e ∷ es)) (in_order (e ∷ es)) (both (is_lt (label_order k e.0)) (is_below k es) lower others) b
+      let others = first_holds (is_below k es) (in_order es) a in
+      both_hold (is_below k (e ∷ es)) (in_order (e ∷ es)) (both_hold (is_lt (label_order k e.0)) (is_below k es) lower others) b
 
   pub sorted_back : (es : List (Label × X)) → T (fin.is_sorted label_order (map with_value es)) → T (fin.is_sorted label_order es)
   sorted_back [] h = tt

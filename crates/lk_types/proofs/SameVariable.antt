@@ -1,5 +1,5 @@
--- When two variables are the same one, as the map of variables sees it.
-use Rattle.std.proofs.Common.{◌≡◌, true, refl, ap}
+-- When two variables are the same one, as maps and lists of variables see it.
+use Rattle.std.proofs.Common.{◌≡◌, true, refl, sym, ap}
 use Rattle.std.proofs.lemmas.Bool.{eqb-true, eq-eqb}
 use Rattle.std.proofs.lemmas.Bool.Decides.{nat_tests}
 use Rattle.std.proofs.Common.{arith}
@@ -36,18 +36,21 @@ same_is (variable.Row m) (variable.Effects n) same = cc
 same_is (variable.Effects m) (variable.Plain n) same = cc
 same_is (variable.Effects m) (variable.Row n) same = cc
 
+pub same_sym : (x y : Variable) → same_variable x y ≡ true → y ≡ x
+same_sym x y same = sym (same_is x y same)
+
 pub same_self : (x : Variable) → same_variable x x ≡ true
 same_self (variable.Plain m) = eq-eqb m m refl
 same_self (variable.Row m) = eq-eqb m m refl
 same_self (variable.Effects m) = eq-eqb m m refl
 
-pub same_back : (x y : Variable) → same_variable x y ≡ same_variable y x
-same_back (variable.Plain m) (variable.Plain n) = grind (arith, nat_tests)
-same_back (variable.Plain m) (variable.Row n) = refl
-same_back (variable.Plain m) (variable.Effects n) = refl
-same_back (variable.Row m) (variable.Plain n) = refl
-same_back (variable.Row m) (variable.Row n) = grind (arith, nat_tests)
-same_back (variable.Row m) (variable.Effects n) = refl
-same_back (variable.Effects m) (variable.Plain n) = refl
-same_back (variable.Effects m) (variable.Row n) = refl
-same_back (variable.Effects m) (variable.Effects n) = grind (arith, nat_tests)
+pub same_turned : (x y : Variable) → same_variable x y ≡ same_variable y x
+same_turned (variable.Plain m) (variable.Plain n) = grind (arith, nat_tests)
+same_turned (variable.Plain m) (variable.Row n) = refl
+same_turned (variable.Plain m) (variable.Effects n) = refl
+same_turned (variable.Row m) (variable.Plain n) = refl
+same_turned (variable.Row m) (variable.Row n) = grind (arith, nat_tests)
+same_turned (variable.Row m) (variable.Effects n) = refl
+same_turned (variable.Effects m) (variable.Plain n) = refl
+same_turned (variable.Effects m) (variable.Row n) = refl
+same_turned (variable.Effects m) (variable.Effects n) = grind (arith, nat_tests)

@@ -45,9 +45,9 @@ with_one l (Some t) (Some m) x e = by_test (fin.get m l) refl e
     by_test None is e = (t, m, refl, refl, is, sym (same_some e))
 
 module _ (τ : Grounding) where
-  by_fields : (fields : List TyField) (tail : RowTail) → row_under τ (roll-TyRow (record { fields = fields; tail = tail })) ≡ before_row (map (field_under τ) fields) (row_tail τ tail)
+  pub row_as_fields : (fields : List TyField) (tail : RowTail) → row_under τ (roll-TyRow (record { fields = fields; tail = tail })) ≡ before_row (map (field_under τ) fields) (row_tail τ tail)
   unfolding row_under field_under
-  by_fields fields tail = search the_lemmas
+  row_as_fields fields tail = search the_lemmas
 
   each_under : (fs : List TyField) → map (field_under τ) fs ≡ map (λ f. (f.label, under τ f.ty)) fs
   each_under [] = refl
@@ -55,4 +55,4 @@ module _ (τ : Grounding) where
 
   pub row_rolled : (fields : List TyField) (tail : RowTail)
       → row_under τ (roll-TyRow (record { fields = fields; tail = tail })) ≡ before_row (map (λ f. (f.label, under τ f.ty)) fields) (row_tail τ tail)
-  row_rolled fields tail = by_fields fields tail ∙ ap (λ fs. before_row fs (row_tail τ tail)) (each_under fields)
+  row_rolled fields tail = row_as_fields fields tail ∙ ap (λ fs. before_row fs (row_tail τ tail)) (each_under fields)
