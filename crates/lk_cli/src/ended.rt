@@ -1,6 +1,6 @@
 //! Evaluations that came to an end of their own.
 
-ghost use Rattle.std.specs.Prelude.{◌≡◌, IfSome, None};
+ghost use Rattle.std.specs.Prelude.{◌≡◌, ◌≢◌, IfSome, None};
 ghost use Rattle.lk_cli.specs.Ended.{run_of, source_end};
 ghost use Rattle.lk_sem.specs.declared.run.SourceEnd.TheVariants.{StoreFault};
 
@@ -28,6 +28,7 @@ pub struct Ended {
 pub fn ended_run(run: SourceRun) -> Option<Ended>
     ensures ended { IfSome result (λ ended. run_of ended ≡ run) }
     ensures fault { result ≡ None → run.end ≡ StoreFault }
+    ensures other { IfSome result (λ _. run.end ≢ StoreFault) }
 {
     let SourceRun { end, log, used } = run;
     match own_end(end) {
@@ -40,6 +41,7 @@ pub fn ended_run(run: SourceRun) -> Option<Ended>
 fn own_end(end: SourceEnd) -> Option<End>
     ensures ended { IfSome result (λ own. source_end own ≡ end) }
     ensures fault { result ≡ None → end ≡ StoreFault }
+    ensures other { IfSome result (λ _. end ≢ StoreFault) }
 {
     match end {
         SourceEnd::Value(value) => Some(End::Value(value)),

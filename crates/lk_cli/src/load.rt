@@ -177,9 +177,16 @@ pub fn last_scan(
     ensures cause { HasCause (faults store.old) (faults store.new) result }
 {
     store.begin(alloc)?;
-    let scanned = scan_all(alloc, defs, store);
-    store.abort();
-    scanned
+    match scan_all(alloc, defs, store) {
+        Ok(scanned) => {
+            store.abort();
+            Ok(scanned)
+        }
+        Err(fault) => {
+            store.abort();
+            Err(fault)
+        }
+    }
 }
 
 /// The declared tables with their rows where a transaction is under way.

@@ -1,5 +1,5 @@
 -- Counts of faults, and why a call fails.
-use Rattle.std.specs.Prelude.{ℕ, ◌+◌, ◌-◌, ◌^◌, ◌≤◌, min, Result, Ok, Err, IsErrOf}
+use Rattle.std.specs.Prelude.{◌≡◌, ℕ, ◌+◌, ◌-◌, ◌^◌, ◌≤◌, min, Result, Ok, Err, IsErrOf, OnOk}
 use Rattle.lk_outside.specs.declared.fault.OutFault.{OutFault}
 use Rattle.lk_outside.specs.declared.fault.OutFault.TheVariants.{Failed, NoMemory}
 
@@ -11,10 +11,12 @@ next_count count = min (count + 1) (2 ^ 64 - 1)
 abbrev pub Rose : ℕ → ℕ → Type 0
 Rose before now = next_count before ≤ now
 
--- the count didn't fall, and it rose where the answer is `Failed`
+-- The count didn't fall. It rose where the answer is `Failed`, and is as before where the call passed: so a fault that is passed over
+-- on the way to an answer shows in it, up to the greatest `u64`.
 pub record HasCause {T : Type 0} (before now : ℕ) (result : Result T OutFault) : Type 0 where
   pub later : before ≤ now
   pub failed : IsErrOf result Failed → Rose before now
+  pub passed : OnOk result (now ≡ before)
 
 -- the count after a call, where the calls that answer `Failed` are counted, and no others
 abbrev pub count_after : {T : Type 0} → Result T OutFault → ℕ → ℕ

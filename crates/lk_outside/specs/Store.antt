@@ -1,5 +1,5 @@
 -- What the calls of a store do to its tables.
-use Rattle.std.specs.Prelude.{◌≡◌, ◌≢◌, ◌⊎◌, ◌≤◌, ℕ, List, false, Option, Some, None, Result, IsSomeAnd, IsErrOf}
+use Rattle.std.specs.Prelude.{◌≡◌, ◌≢◌, ◌⊎◌, ◌≤◌, ℕ, List, false, Option, Some, None, Result, IsSomeAnd, IsErrOf, OnOk}
 use Rattle.lk_ast.specs.Tables.{Tables, all_fit}
 use Rattle.lk_ast.specs.declared.table.Row.{Row}
 use Rattle.lk_ast.specs.declared.table.TableDef.{TableDef}
@@ -22,7 +22,9 @@ Changes (Some before) new name change = IsSomeAnd new (λ after. Puts before aft
 abbrev pub HasForeignRow : Option Tables → TableDef → Type 0
 HasForeignRow told table = IsSomeAnd told (λ tables. all_fit table (tables table.name) ≡ false)
 
--- the count of faults didn't fall, and where the answer is `Failed` it rose, or the table holds a row of other columns
+-- The count of faults didn't fall. Where the answer is `Failed` it rose, or the table holds a row of other columns; where the call
+-- passed it is as before.
 pub record ScanHasCause {T : Type 0} (before now : ℕ) (told : Option Tables) (table : TableDef) (result : Result T OutFault) : Type 0 where
   pub later : before ≤ now
   pub failed : IsErrOf result Failed → Rose before now ⊎ HasForeignRow told table
+  pub passed : OnOk result (now ≡ before)

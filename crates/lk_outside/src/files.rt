@@ -14,7 +14,7 @@ pub trait Files {
     /// The name of the last read that answered `Failed`, at first the empty text.
     ghost failed: { Self → List ℕ };
 
-    /// The count of faults. A call that answers `Failed` raises it.
+    /// The count of faults. A call that answers `Failed` raises it, and one that passes leaves it as it was.
     ghost faults: { Self → ℕ };
 
     /// The first `max` bytes of a file, or all of it where it has fewer. A failed read that finds no memory to keep

@@ -9,7 +9,7 @@ pub trait Sink {
     /// The bytes that it took, or `None` where that isn't told.
     ghost taken: { Self → Option (List ℕ) };
 
-    /// The count of faults. A call that answers `Failed` raises it.
+    /// The count of faults. A call that answers `Failed` raises it, and one that passes leaves it as it was.
     ghost faults: { Self → ℕ };
 
     /// Takes a piece. `Ok` says that the whole piece was taken; where it is refused, a first part of it may have been

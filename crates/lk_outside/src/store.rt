@@ -23,7 +23,7 @@ pub trait Store {
     ghost kept: { Self → Option Tables };
 
     /// The count of faults. A call that answers `Failed` raises it, but for a scan of a table that holds a row of other
-    /// columns.
+    /// columns. One that passes leaves it as it was.
     ghost faults: { Self → ℕ };
 
     /// Its name.
@@ -92,7 +92,7 @@ pub trait Store {
         ensures name { name self.new ≡ name self.old }
         ensures closed { is_open self.new ≡ false }
         ensures tables { tables self.new ≡ kept self.old }
-        ensures later { faults self.old ≤ faults self.new };
+        ensures faults { faults self.new ≡ faults self.old };
 
     /// The count of faults, which stays at the greatest `u64` once it is there.
     fn faults(&self) -> u64

@@ -1,6 +1,6 @@
 //! The direct evaluation of a program over a store.
 
-ghost use Rattle.std.specs.Prelude.{◌≡◌, ◌≤◌, [], false, length, IfErr, IfOk, IfSome};
+ghost use Rattle.std.specs.Prelude.{◌≡◌, ◌≢◌, ◌≤◌, [], false, length, IfErr, IfOk, IfSome};
 ghost use Rattle.lk_ast.specs.Functions.{main_of as main_in};
 ghost use Rattle.lk_evaluation.specs.Source.{session};
 ghost use Rattle.lk_outside.specs.Causes.{Rose};
@@ -53,6 +53,7 @@ pub fn source_run(
     ensures idle { is_open store.new ≡ false }
     ensures later { faults store.old ≤ faults store.new }
     ensures fault { IfOk result (λ run. run.end ≡ StoreFault → Rose (faults store.old) (faults store.new)) }
+    ensures passed { IfOk result (λ run. run.end ≢ StoreFault → faults store.new ≡ faults store.old) }
 {
     soundness_laws();
     let catalog = Catalog::new(alloc, program)?;
@@ -87,6 +88,7 @@ fn run_main<'p>(
     ensures idle { is_open store.new ≡ false }
     ensures later { faults store.old ≤ faults store.new }
     ensures fault { IfOk result (λ run. run.end ≡ StoreFault → Rose (faults store.old) (faults store.new)) }
+    ensures passed { IfOk result (λ run. run.end ≢ StoreFault → faults store.new ≡ faults store.old) }
 {
     let mut args = List::new(alloc);
     args.push(Value::Base(Base::Text(arg.copy(alloc)?)))?;
@@ -131,6 +133,7 @@ fn run<'p>(
     ensures idle { is_open store.new ≡ false }
     ensures later { faults store.old ≤ faults store.new }
     ensures fault { IfOk result (λ end. end ≡ StoreFault → Rose (faults store.old) (faults store.new)) }
+    ensures passed { IfOk result (λ end. end ≢ StoreFault → faults store.new ≡ faults store.old) }
 {
     let mut next = first;
     loop {

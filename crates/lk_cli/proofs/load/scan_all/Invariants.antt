@@ -1,4 +1,4 @@
-use Rattle.std.proofs.Common.{◌≡◌, ◌≤◌, true, take}
+use Rattle.std.proofs.Common.{◌≡◌, true, take}
 use Rattle.std.specs.List.{AllZip}
 use Rattle.lk_cli.specs.Loading.{IsScanned}
 use Rattle.lk_cli.proofs.load.scan_all.Given as goal
@@ -9,6 +9,6 @@ invariant-loop-def g l = record {
   under_way : (goal.Store-dyn g l.store.now).is_open l.store.now.1 ≡ true;
   tables : (goal.Store-dyn g l.store.now).tables l.store.now.1 ≡ (goal.Store-dyn g l.fn.store.now).tables l.fn.store.now.1;
   kept : (goal.Store-dyn g l.store.now).kept l.store.now.1 ≡ (goal.Store-dyn g l.fn.store.now).kept l.fn.store.now.1;
-  later : (goal.Store-dyn g l.fn.store.now).faults l.fn.store.now.1 ≤ (goal.Store-dyn g l.store.now).faults l.store.now.1;
+  faults : (goal.Store-dyn g l.store.now).faults l.store.now.1 ≡ (goal.Store-dyn g l.fn.store.now).faults l.fn.store.now.1;
   scanned : AllZip (IsScanned ((goal.Store-dyn g l.fn.store.now).tables l.fn.store.now.1)) (take l.def-index l.defs) l.scanned;
 }

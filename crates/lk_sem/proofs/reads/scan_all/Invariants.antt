@@ -1,4 +1,4 @@
-use Rattle.std.proofs.Common.{◌≡◌, ◌≤◌, true, take}
+use Rattle.std.proofs.Common.{◌≡◌, true, take}
 use Rattle.lk_sem.specs.Scans.{AreScanned}
 use Rattle.lk_sem.proofs.reads.scan_all.Given as goal
 
@@ -8,6 +8,6 @@ invariant-loop-def g l = record {
   under_way : (goal.Store-dyn g l.store.now).is_open l.store.now.1 ≡ true;
   tables : (goal.Store-dyn g l.store.now).tables l.store.now.1 ≡ (goal.Store-dyn g l.fn.store.now).tables l.fn.store.now.1;
   kept : (goal.Store-dyn g l.store.now).kept l.store.now.1 ≡ (goal.Store-dyn g l.fn.store.now).kept l.fn.store.now.1;
-  later : (goal.Store-dyn g l.fn.store.now).faults l.fn.store.now.1 ≤ (goal.Store-dyn g l.store.now).faults l.store.now.1;
+  faults : (goal.Store-dyn g l.store.now).faults l.store.now.1 ≡ (goal.Store-dyn g l.fn.store.now).faults l.fn.store.now.1;
   scanned : AreScanned ((goal.Store-dyn g l.fn.store.now).tables l.fn.store.now.1) (take l.def-index l.defs) l.scanned;
 }

@@ -60,7 +60,7 @@ loop-next-preserved-in_ok-next-in-Enter g c = record {
   stands = stands_enter _ _ _ _ _ c.loop-next.machine _ _ _ c.in-Enter.e c.in-Enter.scope c.in-Enter.place c.in-Enter.is c.loop-next.invariant.stands (rw c.index.ensures at c.in_ok-next-in-Enter.ensures.leads);
   name = c.loop-next.invariant.name;
   idle = c.loop-next.invariant.idle;
-  later = c.loop-next.invariant.later;
+  faults = c.loop-next.invariant.faults;
 }
 
 pub loop-next-smaller-in_ok-next-in-Some : goal.loop-next-smaller-in_ok-next-in-Some
@@ -71,7 +71,7 @@ loop-next-preserved-in_ok-next-in-Some g c = record {
   stands = stands_give _ _ _ _ _ c.loop-next.machine _ _ _ c.in-Some.frame c.in-Give.value c.pop.new.self c.in-Give.is c.in-Some.ensures c.loop-next.invariant.stands (rw c.index-in-Some.ensures at c.in_ok-next-in-Some.ensures.leads);
   name = c.loop-next.invariant.name;
   idle = c.loop-next.invariant.idle;
-  later = c.loop-next.invariant.later;
+  faults = c.loop-next.invariant.faults;
 }
 
 pub loop-next-preserved-in_ok-next-in-Ok : goal.loop-next-preserved-in_ok-next-in-Ok
@@ -83,7 +83,7 @@ loop-next-preserved-in_ok-next-in-Ok g c = record {
       (rw c.index-in-Ok.ensures at c.in_ok-next-in-Ok.ensures.leads));
   name = search rules;
   idle = search rules;
-  later = search rules;
+  faults = search rules;
 }
 
 pub loop-next-preserved : goal.loop-next-preserved
@@ -93,12 +93,15 @@ loop-next-preserved g c = record {
       (rw c.index-in-Ok-Done.ensures at c.in_ok-next-in-Ok-Done.ensures.leads);
   name = search rules;
   idle = search rules;
-  later = search rules;
+  faults = search rules;
 }
 
 pub returns-in-Err-clause-ends : goal.returns-in-Err-clause-ends
 returns-in-Err-clause-ends g c =
     ends_as _ _ _ _ _ _ _ _ _ c.read_at.ensures.tables c.in_ok-refused-in-Err.ensures.0 (ends_read c.args.catalog.now c.args.machine.now c.loop-next.machine (outcome c.args.catalog.now c.args.first) c.args.machine.now.fuel c.requires.log refl c.requires.sound c.loop-next.next _ _ c.loop-next.invariant.stands c.in-Read.back c.in-Read.site c.in-Read.args c.in-Read.is)
+
+pub returns-in-Err-clause-passed : goal.returns-in-Err-clause-passed
+returns-in-Err-clause-passed g c = λ other. absurd (other c.in_ok-refused-in-Err.ensures.0)
 
 pub returns-in_err-refused-in-Err-write_at-clause-refused : goal.returns-in_err-refused-in-Err-write_at-clause-refused
 returns-in_err-refused-in-Err-write_at-clause-refused g c =
@@ -107,3 +110,6 @@ returns-in_err-refused-in-Err-write_at-clause-refused g c =
 pub returns-in-Err-write_at-clause-ends : goal.returns-in-Err-write_at-clause-ends
 returns-in-Err-write_at-clause-ends g c =
     ends_as _ _ _ _ _ _ _ _ _ c.in-Err-write_at.ensures.refused c.in_ok-refused-in-Err-write_at.ensures.0 (ends_write c.args.catalog.now c.args.machine.now c.loop-next.machine (outcome c.args.catalog.now c.args.first) c.args.machine.now.fuel c.requires.log refl c.requires.sound c.loop-next.next _ _ c.loop-next.invariant.stands c.in-Write.back c.in-Write.site c.in-Write.args c.in-Write.is)
+
+pub returns-in-Err-write_at-clause-passed : goal.returns-in-Err-write_at-clause-passed
+returns-in-Err-write_at-clause-passed g c = λ other. absurd (other c.in_ok-refused-in-Err-write_at.ensures.0)
