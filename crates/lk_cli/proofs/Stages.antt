@@ -9,7 +9,7 @@ use Rattle.lk_outside.specs.Causes.{HasCause, Rose}
 use Rattle.lk_outside.specs.Files.{Contents}
 use Rattle.lk_outside.specs.declared.fault.OutFault.{OutFault}
 use Rattle.lk_outside.specs.declared.fault.OutFault.TheVariants.{Failed, NoMemory}
-use Rattle.lk_cli.specs.Answers.{Answers, AnswersSession, HasBrokenOff, HasNoRows, IsAcceptedOf, IsSessionOver, answer_of}
+use Rattle.lk_cli.specs.Answers.{Answers, AnswersSession, HasBrokenOff, HasNoRows, IsAcceptedOf, IsSessionOver, TellsReads, answer_of}
 use Rattle.lk_cli.specs.Loading.{AreLeft, AreLoaded}
 use Rattle.lk_cli.specs.Seen.{CameBack, FilesSeen, StoreSeen, StoresSeen, store_seen, stores_seen}
 use Rattle.lk_words.specs.Words.{store_of}
@@ -59,7 +59,7 @@ tried_answer files stores command program loaded outcome before after answer is 
   where
     by_outcome : (outcome : Result Done OutFault) → IfOk outcome (λ done. IsSessionOver program command loaded done before.tables after.tables)
         → IfErr outcome (λ fault. AreLeft program command loaded fault before.tables after.tables) → HasCause before.faults after.faults outcome → AnswersSession files stores command program (answer_of outcome)
-    by_outcome (Ok done) session left cause = (loaded, are, came_back stores before after (λ b a. IsSessionOver program command loaded done b.tables a.tables) given back cause.later session)
+    by_outcome (Ok done) session left cause = (loaded, are, came_back stores before after (λ b a. (a.faults ≡ b.faults) × IsSessionOver program command loaded done b.tables a.tables) given back cause.later (cause.passed, session))
     by_outcome (Err Failed) session left cause = inr (inr (loaded, are, came_back stores before after (λ b a. Rose b.faults a.faults × AreLeft program command loaded Failed b.tables a.tables) given back cause.later (cause.failed refl, left)))
     by_outcome (Err NoMemory) session left cause = inr (inr (loaded, are, came_back stores before after (λ b a. AreLeft program command loaded NoMemory b.tables a.tables) given back cause.later left))
 
@@ -112,6 +112,15 @@ module _ (contents : Option Contents) (failed : List ℕ) (before middle after :
   answer_earlier stores command program (Err why) accepted (inl none) = inr (program, accepted, inl none)
   answer_earlier stores command program (Err why) accepted (inr (inl rows)) = inr (program, accepted, inr (inl (rows_earlier command.tables (table_defs program) why rows.0, rows.1)))
   answer_earlier stores command program (Err why) accepted (inr (inr broken)) = inr (program, accepted, inr (inr (broken_earlier stores command program why broken)))
+
+-- where the count is as before, that is so whatever the answer is
+pub none_failed : {T : Type 0} (before after : ℕ) (answer : Result T Refusal) → after ≡ before → TellsReads before after answer
+none_failed before after (Ok x) same = same
+none_failed before after (Err why) same = inr same
+
+-- what is told from a point on, up to which the count was as before, is told of the whole
+pub reads_earlier : {T : Type 0} (before middle after : ℕ) (answer : Result T Refusal) → middle ≡ before → TellsReads middle after answer → TellsReads before after answer
+reads_earlier before middle after answer same told = subst (λ count. TellsReads count after answer) same told
 
 -- the answer of a session as that of its command, whose program was read before
 pub whole_answer : (contents between : Option Contents) (failed : List ℕ) (before middle after : ℕ) → between ≡ contents → before ≤ middle

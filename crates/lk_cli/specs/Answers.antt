@@ -104,11 +104,11 @@ pub record IsSessionOver (program : Program) (command : SourceCommand) (loaded :
   pub tables : AllZip IsOfTable (table_defs program) done.tables
   pub told : HasToldSession program loaded done.run.log done.tables before after
 
--- the same over the store that is asked for, with the rows that are asked for
+-- the same over the store that is asked for, whose count of faults is as before, with the rows that are asked for
 abbrev pub IsSession : FilesSeen → StoresSeen → SourceCommand → Program → Done → Type 0
 IsSession files stores command program done =
     (loaded : List TableRows) × AreLoaded files command.tables (table_defs program) loaded
-    × CameBack stores (λ before after. IsSessionOver program command loaded done before.tables after.tables)
+    × CameBack stores (λ before after. (after.faults ≡ before.faults) × IsSessionOver program command loaded done before.tables after.tables)
 
 -- What a command comes to where nothing refuses it. `check` and `sql`: the program of the file, accepted with its schemes and
 -- types and its SQL; no store comes back. `source`: a session of that program.
@@ -136,6 +136,16 @@ HasNoProgram files name (TooNested at) = IsRefusedText files name (parse.TooNest
 HasNoProgram files name (Unexpected at) = IsRefusedText files name (parse.Unexpected at)
 HasNoProgram files name NoMemory = Unit {0}
 HasNoProgram files name refusal = ⊥
+
+-- the refusals behind which a read may have failed: that it did, and want of memory
+abbrev pub IsOfReads : Refusal → Type 0
+IsOfReads (ReadFault name) = Unit {0}
+IsOfReads NoMemory = Unit {0}
+IsOfReads refusal = ⊥
+
+-- the files' count of faults is as before, unless this is refused since a read failed, or for want of memory
+abbrev pub TellsReads : {T : Type 0} → ℕ → ℕ → Result T Refusal → Type 0
+TellsReads before after result = MatchResult result (λ _. after ≡ before) (λ refusal. IsOfReads refusal ⊎ (after ≡ before))
 
 -- a reason of the parser as a refusal
 abbrev pub refusal_of : ParseError → Refusal
@@ -393,11 +403,11 @@ status_of (Err (BadTables why)) = 6
 status_of (Err (NoStore name)) = 11
 status_of (Err StoreFault) = 13
 
--- How a run ends that has this to print for an answer: it was taken whole, and the status is the answer's; or a first part of it
--- was taken, and the status is 4, since the sink failed, or 5, for want of memory.
+-- How a run ends that has this to print for an answer: it was taken whole, the sink's count is as before, and the status is the answer's;
+-- or a first part of it was taken, and the status is 4, since the sink failed, or 5, for want of memory.
 abbrev pub IsWritten : Result Answer Refusal → List ℕ → Option (List ℕ) → Option (List ℕ) → ℕ → ℕ → ℕ → Type 0
 IsWritten answer text before after faults_before faults_after status =
-    ((status ≡ status_of answer) × Appends before after text)
+    ((status ≡ status_of answer) × (faults_after ≡ faults_before) × Appends before after text)
     ⊎ (((status ≡ 4) × Rose faults_before faults_after × AppendsFront before after text)
     ⊎ ((status ≡ 5) × AppendsFront before after text))
 

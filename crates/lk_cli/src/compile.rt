@@ -3,7 +3,7 @@
 ghost use Rattle.std.specs.Prelude.{◌≡◌, ◌≤◌, ◌⊎◌, IfErr, IfOk};
 ghost use Rattle.lk_ast.specs.Tables.{HaveColumns};
 ghost use Rattle.lk_bag.specs.Blocks.{AreBlocksApart};
-ghost use Rattle.lk_cli.specs.Answers.{HasNoProgram, IsAccepted, IsNotAccepted, IsNotGround, IsNotTranslated, IsNotTyped, IsProgram, IsTranslated, IsTyped};
+ghost use Rattle.lk_cli.specs.Answers.{HasNoProgram, IsAccepted, IsNotAccepted, IsNotGround, IsNotTranslated, IsNotTyped, IsProgram, IsTranslated, IsTyped, TellsReads};
 ghost use Rattle.lk_cli.specs.Seen.{seen};
 ghost use Rattle.lk_ground.specs.UsesApart.{AreUsesApart};
 ghost use Rattle.lk_index.specs.Places.{ArePlaced};
@@ -25,6 +25,7 @@ use std::alloc::Global;
 pub fn read_program<F: Files>(alloc: Global, name: &str, files: &mut F) -> Result<Program, Refusal>
     ensures contents { F.contents files.new ≡ F.contents files.old }
     ensures later { F.faults files.old ≤ F.faults files.new }
+    ensures reads { TellsReads (F.faults files.old) (F.faults files.new) result }
     ensures program { IfOk result (IsProgram (seen F.contents F.failed F.faults files.old files.new) name.now) }
     ensures placed { IfOk result ArePlaced }
     ensures apart { IfOk result AreUsesApart }

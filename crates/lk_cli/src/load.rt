@@ -5,7 +5,7 @@ ghost use Rattle.std.specs.Prelude.{◌≡◌, ◌≤◌, false, true, IfErr, If
 ghost use Rattle.lk_ast.specs.Tables.{all_fit};
 ghost use Rattle.lk_ast.specs.declared.table.TableDef.{TableDef as TheTableDef};
 ghost use Rattle.lk_bag.specs.Change.{with_rows};
-ghost use Rattle.lk_cli.specs.Answers.{HasNoRows};
+ghost use Rattle.lk_cli.specs.Answers.{HasNoRows, TellsReads};
 ghost use Rattle.lk_cli.specs.Loading.{AreLoaded, IsOfTable, IsScanned, all_put, empty_table, FitsTold, loaded_over};
 ghost use Rattle.lk_cli.specs.Seen.{seen};
 ghost use Rattle.lk_outside.specs.Causes.{HasCause};
@@ -30,6 +30,7 @@ pub fn rows_to_load<F: Files>(
 ) -> Result<List<TableRows>, Refusal>
     ensures contents { F.contents files.new ≡ F.contents files.old }
     ensures later { F.faults files.old ≤ F.faults files.new }
+    ensures reads { TellsReads (F.faults files.old) (F.faults files.new) result }
     ensures loaded { IfOk result (AreLoaded (seen F.contents F.failed F.faults files.old files.new) (option_map (λ name. name.now) file.entry) defs.now) }
     ensures fit { IfOk result (AllZip IsOfTable defs.now) }
     ensures refused { IfErr result (HasNoRows (seen F.contents F.failed F.faults files.old files.new) (option_map (λ name. name.now) file.entry) defs.now) }
@@ -49,6 +50,7 @@ fn rows_in_file<F: Files>(
 ) -> Result<List<TableRows>, Refusal>
     ensures contents { F.contents files.new ≡ F.contents files.old }
     ensures later { F.faults files.old ≤ F.faults files.new }
+    ensures reads { TellsReads (F.faults files.old) (F.faults files.new) result }
     ensures loaded { IfOk result (AreLoaded (seen F.contents F.failed F.faults files.old files.new) (Some name.now) defs.now) }
     ensures fit { IfOk result (AllZip IsOfTable defs.now) }
     ensures refused { IfErr result (HasNoRows (seen F.contents F.failed F.faults files.old files.new) (Some name.now) defs.now) }

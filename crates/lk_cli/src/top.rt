@@ -4,7 +4,7 @@ ghost use Rattle.std.specs.List.{AllZip};
 ghost use Rattle.std.specs.Prelude.{◌≡◌, ◌≤◌, false, All, IfErr, IfOk, IfSome, None, Result, Some, bytes_eq, find, map, string_bytes};
 ghost use Rattle.lk_ast.specs.Tables.{table_defs as declared_tables};
 ghost use Rattle.lk_bag.specs.Blocks.{AreBlocksApart};
-ghost use Rattle.lk_cli.specs.Answers.{Answers, AnswersSession, Ends, HasNoAccepted, HasNoRows, HasNoStore, IsAccepted, IsProgram, IsShown, answer_of};
+ghost use Rattle.lk_cli.specs.Answers.{Answers, AnswersSession, Ends, HasNoAccepted, HasNoRows, HasNoStore, IsAccepted, IsProgram, IsShown, TellsReads, answer_of};
 ghost use Rattle.lk_cli.specs.Loading.{AreLoaded, IsOfTable};
 ghost use Rattle.lk_cli.specs.Seen.{StoresSeen, seen, stores_seen};
 ghost use Rattle.lk_words.specs.Words.{form_of, store_of};
@@ -57,6 +57,7 @@ pub fn links_main<F: Files, O: Sink>(
         × Answers (seen F.contents F.failed F.faults files.old files.new)
         (stores_seen (λ store. name store) (λ store. tables store) (λ store. (⟦<dyn Store as Store>⟧ store.vtable).faults store.value) stores.items result.store (store_of (form_of (map string_bytes words.now))))
         (form_of (map string_bytes words.now)) answer
+        × TellsReads (F.faults files.old) (F.faults files.new) answer
         × Ends answer (O.taken out.old) (O.taken out.new) (O.faults out.old) (O.faults out.new) result.status }
     ensures idle { IfSome result.store (λ store. is_open store ≡ false) }
     ensures named { IfSome result.store (λ store. name store ≡ store_of (form_of (map string_bytes words.now))) }
@@ -92,6 +93,7 @@ fn answer_words<F: Files>(
     requires idle { All (λ store. is_open store ≡ false) stores.items }
     ensures contents { F.contents files.new ≡ F.contents files.old }
     ensures later { F.faults files.old ≤ F.faults files.new }
+    ensures reads { TellsReads (F.faults files.old) (F.faults files.new) result.answer }
     ensures shown { IsShown result.answer }
     ensures answers { Answers (seen F.contents F.failed F.faults files.old files.new)
         (stores_seen (λ store. name store) (λ store. tables store) (λ store. (⟦<dyn Store as Store>⟧ store.vtable).faults store.value) stores.items result.store (store_of (form_of (map string_bytes words.now))))
@@ -128,6 +130,7 @@ fn answer_check<F: Files>(
 ) -> Result<Answer, Refusal>
     ensures contents { F.contents files.new ≡ F.contents files.old }
     ensures later { F.faults files.old ≤ F.faults files.new }
+    ensures reads { TellsReads (F.faults files.old) (F.faults files.new) result }
     ensures shown { IsShown result }
     ensures answers { (stores : StoresSeen) → stores.back ≡ None → Answers (seen F.contents F.failed F.faults files.old files.new) stores (Some (Check command.now)) result }
 {
@@ -142,6 +145,7 @@ fn answer_sql<F: Files>(
 ) -> Result<Answer, Refusal>
     ensures contents { F.contents files.new ≡ F.contents files.old }
     ensures later { F.faults files.old ≤ F.faults files.new }
+    ensures reads { TellsReads (F.faults files.old) (F.faults files.new) result }
     ensures shown { IsShown result }
     ensures answers { (stores : StoresSeen) → stores.back ≡ None → Answers (seen F.contents F.failed F.faults files.old files.new) stores (Some (Sql command.now)) result }
 {
@@ -158,6 +162,7 @@ fn answer_source<F: Files>(
     requires idle { All (λ store. is_open store ≡ false) stores.items }
     ensures contents { F.contents files.new ≡ F.contents files.old }
     ensures later { F.faults files.old ≤ F.faults files.new }
+    ensures reads { TellsReads (F.faults files.old) (F.faults files.new) result.answer }
     ensures shown { IsShown result.answer }
     ensures answers { Answers (seen F.contents F.failed F.faults files.old files.new)
         (stores_seen (λ store. name store) (λ store. tables store) (λ store. (⟦<dyn Store as Store>⟧ store.vtable).faults store.value) stores.items result.store command.now.store)
@@ -187,6 +192,7 @@ fn answer_session<F: Files>(
     requires idle { All (λ store. is_open store ≡ false) stores.items }
     ensures contents { F.contents files.new ≡ F.contents files.old }
     ensures later { F.faults files.old ≤ F.faults files.new }
+    ensures reads { TellsReads (F.faults files.old) (F.faults files.new) result.answer }
     ensures shown { IsShown result.answer }
     ensures answers { AnswersSession (seen F.contents F.failed F.faults files.old files.new)
         (stores_seen (λ store. name store) (λ store. tables store) (λ store. (⟦<dyn Store as Store>⟧ store.vtable).faults store.value) stores.items result.store command.now.store)
@@ -239,6 +245,7 @@ fn tell(tried: Tried) -> Answered
 fn accepted_program<F: Files>(alloc: Global, file: &str, files: &mut F) -> Result<Checked, Refusal>
     ensures contents { F.contents files.new ≡ F.contents files.old }
     ensures later { F.faults files.old ≤ F.faults files.new }
+    ensures reads { TellsReads (F.faults files.old) (F.faults files.new) result }
     ensures program { IfOk result (λ checked. IsProgram (seen F.contents F.failed F.faults files.old files.new) file.now checked.program) }
     ensures accepted { IfOk result (λ checked. IsAccepted checked.program checked.typed checked.queries) }
     ensures placed { IfOk result (λ checked. ArePlaced checked.program) }
@@ -278,6 +285,7 @@ fn rows_of_session<F: Files>(
 ) -> Result<Rows, Refusal>
     ensures contents { F.contents files.new ≡ F.contents files.old }
     ensures later { F.faults files.old ≤ F.faults files.new }
+    ensures reads { TellsReads (F.faults files.old) (F.faults files.new) result }
     ensures declared { IfOk result (λ rows. rows.defs ≡ declared_tables program.now) }
     ensures loaded { IfOk result (λ rows. AreLoaded (seen F.contents F.failed F.faults files.old files.new) command.now.tables (declared_tables program.now) rows.loaded) }
     ensures fit { IfOk result (λ rows. AllZip IsOfTable rows.defs rows.loaded) }

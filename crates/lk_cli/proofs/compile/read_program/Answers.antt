@@ -1,6 +1,7 @@
 use Rattle.std.proofs.lemmas.Result.{err_from_is_err_and}
 use Rattle.lk_cli.specs.Seen.{seen}
 use Rattle.lk_cli.proofs.Limits.{whole_program, whole_reason}
+use Rattle.lk_cli.proofs.Stages.{none_failed}
 use Rattle.lk_cli.proofs.compile.read_program.Goals as goal
 
 pub returns-in_err-parse-clause-refused : goal.returns-in_err-parse-clause-refused
@@ -9,6 +10,9 @@ returns-in_err-parse-clause-refused g c =
     let why = whole_reason files c.args.name.now c.in-Ok.text c.in_err-parse.field-0.0 c.in-Ok.ensures.front (rw c.as_slice.ensures at c.in_err-parse.ensures.refused) in
     let error = err_from_is_err_and c.from_residual-in_err-parse.result c.from_residual-in_err-parse.ensures.1 in
     rw (error.1, error.2) why
+
+pub returns-in_err-parse-clause-reads : goal.returns-in_err-parse-clause-reads
+returns-in_err-parse-clause-reads g c = none_failed _ _ c.from_residual-in_err-parse.result c.in-Ok.ensures.cause.passed
 
 pub returns-clause-program : goal.returns-clause-program
 returns-clause-program g c =

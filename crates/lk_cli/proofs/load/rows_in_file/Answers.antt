@@ -1,6 +1,7 @@
 use Rattle.std.proofs.lemmas.Result.{err_from_is_err_and}
 use Rattle.lk_cli.specs.Seen.{seen}
 use Rattle.lk_cli.proofs.Limits.{rows_fit, whole_refusal, whole_tables}
+use Rattle.lk_cli.proofs.Stages.{none_failed}
 use Rattle.lk_cli.proofs.load.rows_in_file.Goals as goal
 
 pub returns-in_err-read_tables-clause-refused : goal.returns-in_err-read_tables-clause-refused
@@ -9,6 +10,9 @@ returns-in_err-read_tables-clause-refused g c =
     let why = whole_refusal files c.args.name.now c.in-Ok.text c.args.defs.now c.in_err-read_tables.field-0.0 (rw c.as_str.ensures at c.in-Ok.ensures.front) (rw c.as_slice.ensures at c.in_err-read_tables.ensures.refused) in
     let error = err_from_is_err_and c.from_residual-in_err-read_tables.result c.from_residual-in_err-read_tables.ensures.1 in
     rw (error.1, error.2) why
+
+pub returns-in_err-read_tables-clause-reads : goal.returns-in_err-read_tables-clause-reads
+returns-in_err-read_tables-clause-reads g c = none_failed _ _ c.from_residual-in_err-read_tables.result c.in-Ok.ensures.cause.passed
 
 pub returns-clause-loaded : goal.returns-clause-loaded
 returns-clause-loaded g c =

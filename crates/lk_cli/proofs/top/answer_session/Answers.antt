@@ -1,5 +1,5 @@
 use Rattle.std.proofs.Common.{◌≡◌, arith, refl, inl, inr, Some, None}
-use Rattle.lk_cli.proofs.Stages.{came_back, given_none, given_some, told_back, tried_answer}
+use Rattle.lk_cli.proofs.Stages.{came_back, given_none, given_some, none_failed, told_back, tried_answer}
 use Rattle.lk_cli.specs.Seen.{seen, store_seen, stores_seen}
 use Rattle.lk_cli.proofs.top.answer_session.Goals as goal
 
@@ -24,3 +24,6 @@ returns-clause-answers g c =
     tried_answer files stores c.args.command.now c.args.program.now c.in-Ok.rows.loaded c.run_in_box.result.outcome before after c.tell.result.answer
     c.tell.ensures.answer (given_some (λ store. (goal.Store-dyn g (store.vtable, store.value)).name store.value) (λ store. (goal.Store-dyn g (store.vtable, store.value)).tables store.value) (λ store. (goal.Store-dyn g (store.vtable, store.value)).faults store.value) c.args.stores.items c.args.command.now.store c.in-Some.store (rw c.as_str.ensures at c.in-Some.ensures.first)) (told_back _ _ _ _ c.tell.ensures.store)
     c.in-Ok.ensures.loaded c.run_in_box.ensures.session c.run_in_box.ensures.refused c.run_in_box.ensures.cause
+
+pub returns-clause-reads : goal.returns-clause-reads
+returns-clause-reads g c = none_failed _ _ c.tell.result.answer c.in-Ok.ensures.reads

@@ -1,5 +1,5 @@
 use Rattle.std.proofs.Common.{inl, refl, subst, sym}
-use Rattle.lk_cli.proofs.Stages.{whole_answer}
+use Rattle.lk_cli.proofs.Stages.{reads_earlier, whole_answer}
 use Rattle.lk_sound.specs.Instances.{IsShaped}
 use Rattle.lk_cli.proofs.top.answer_source.Goals as goal
 
@@ -12,6 +12,11 @@ returns-in-Ok-clause-answers g c =
     c.in-Ok.ensures.contents c.in-Ok.ensures.later _ c.args.command.now c.in-Ok.checked.program c.answer_session.result.answer
     (rw c.as_str.ensures at c.in-Ok.ensures.program, (c.in-Ok.checked.typed, c.in-Ok.checked.queries, c.in-Ok.ensures.accepted))
     (rw c.program.ensures.same at c.answer_session.ensures.answers)
+
+pub returns-in-Ok-clause-reads : goal.returns-in-Ok-clause-reads
+returns-in-Ok-clause-reads g c =
+    reads_earlier (g.F.Files.faults c.args.files.now) (g.F.Files.faults c.accepted_program.new.files) (g.F.Files.faults c.answer_session.new.files)
+    c.answer_session.result.answer c.in-Ok.ensures.reads c.answer_session.ensures.reads
 
 pub returns-in-Err-clause-answers : goal.returns-in-Err-clause-answers
 returns-in-Err-clause-answers g c = inl (refl, rw c.as_str.ensures at c.in-Err.ensures.refused)
