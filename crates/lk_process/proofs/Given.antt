@@ -1,0 +1,39 @@
+-- The store that is handed in, and answers for want of memory.
+use Rattle.std.proofs.Common.{◌≡◌, refl, inl, ap, ap₂, arith, ◌∙◌, ℕ, List, [], ◌∷◌, All, Bool, true, false, bytes_eq, find, cond, length, if◌then◌else◌, codes}
+use Rattle.std.specs.Prelude.{Option, Some, None, option_map}
+use Rattle.std.specs.List.{AllByRecursion}
+use Rattle.std.proofs.lemmas.List.Elements.{recursion_from_All}
+use Rattle.lk_ast.specs.Tables.{Tables}
+use Rattle.lk_cli.specs.Answers.{RefusedBy}
+use Rattle.lk_cli.specs.Seen.{FilesSeen, StoreSeen, StoresSeen, store_seen}
+use Rattle.lk_cli.specs.declared.answer.Refusal.TheVariants.{NoMemory}
+use Rattle.lk_process.specs.Statuses.{memory_for}
+use Rattle.lk_words.specs.declared.command.Command.{Command}
+use Rattle.lk_words.specs.declared.command.Command.TheVariants.{Check, Source, Sql}
+
+-- want of memory is an answer to any words
+pub no_memory : (files : FilesSeen) (given : Option StoreSeen) (form : Option Command) → RefusedBy files (record { given = given; back = None }) form NoMemory
+no_memory files given None = (refl, tt)
+no_memory files given (Some (Check command)) = (refl, inl tt)
+no_memory files given (Some (Sql command)) = (refl, inl tt)
+no_memory files given (Some (Source command)) = inl (refl, inl tt)
+
+module _ {S : Type 0} (name : S → List ℕ) (tables : S → Option Tables) (faults : S → ℕ) (wanted : List ℕ) where
+  -- what is picked of one store in memory
+  picked : (store : S) (b : Bool) → tables store ≡ Some (λ x. []) → faults store ≡ 0
+      → option_map (store_seen tables faults) (cond b (Some store) None) ≡ (if b then Some (record { tables = Some (λ x. []); faults = 0 }) else None)
+  picked store true told none = ap₂ (λ t n. Some (record { tables = t; faults = n })) told none
+  picked store false told none = refl
+
+  by_one : (stores : List S) → length stores ≡ 1 → AllByRecursion (λ s. name s ≡ codes "memory") stores → AllByRecursion (λ s. tables s ≡ Some (λ x. [])) stores
+      → AllByRecursion (λ s. faults s ≡ 0) stores → option_map (store_seen tables faults) (find (λ s. bytes_eq wanted (name s)) stores) ≡ memory_for wanted
+  by_one [] one named told none = absurd cc
+  by_one (store ∷ []) one named told none =
+      ap (λ n. option_map (store_seen tables faults) (cond (bytes_eq wanted n) (Some store) None)) named.0 ∙ picked store (bytes_eq wanted (codes "memory")) told.0 none.0
+  by_one (store ∷ other ∷ stores) one named told none = absurd (omega (arith, one))
+
+  -- of one store in memory without tables that one is seen, where it is wanted
+  pub given_is : (stores : List S) → length stores ≡ 1 → All (λ s. name s ≡ codes "memory") stores → All (λ s. tables s ≡ Some (λ x. [])) stores → All (λ s. faults s ≡ 0) stores
+      → option_map (store_seen tables faults) (find (λ s. bytes_eq wanted (name s)) stores) ≡ memory_for wanted
+  given_is stores one named told none =
+      by_one stores one (recursion_from_All _ stores named) (recursion_from_All _ stores told) (recursion_from_All _ stores none)

@@ -1,0 +1,81 @@
+//! What the process does, and the status that it ends with.
+
+ghost use Rattle.std.specs.Prelude.{◌≡◌, ◌≢◌, ◌≤◌, [], false, All, Err, IfErr, IfOk, Some, codes, length, map, string_bytes};
+ghost use Rattle.lk_cli.specs.Seen.{seen};
+ghost use Rattle.lk_process.specs.Statuses.{EndsFor};
+
+use lk_ast::NoMemory;
+use lk_cli::links_main;
+use lk_outside::{Files, OsFiles, Sink, StdSink, Store};
+use lk_store::MemoryStore;
+use std::alloc::Global;
+use std::io::ErrorKind;
+use std::process::ExitCode;
+use std::rt::{Env, Files as SystemFiles};
+use std::{env, io};
+
+/// Does what the words of the command line ask for over the system's files and standard output, and gives the status.
+pub fn run<R: Env + Print + SystemFiles + AllocGlobal>(rt: &R) -> ExitCode {
+    let alloc = rt.alloc();
+    let mut files = OsFiles::new(rt);
+    let mut out = StdSink::new(rt);
+    let words = words(rt, alloc).map_err(|error| error.kind());
+    ExitCode::from(status_of(alloc, words, &mut files, &mut out))
+}
+
+/// The words of the command line, without the program's own name.
+fn words(rt: &(impl Env + AllocGlobal), alloc: Global) -> io::Result<Vec<String>> {
+    let mut words = Vec::new(alloc);
+    for word in env::args(rt)?.skip(1) {
+        words.push(word)?;
+    }
+    Ok(words)
+}
+
+/// Does what these words ask for over files, a sink and a store in memory without tables, and gives the status. Where the
+/// system gave no words for another reason than want of memory, as where they aren't UTF-8, they are as no words at all.
+pub fn status_of<F: Files, O: Sink>(
+    alloc: Global,
+    words: Result<Vec<String>, ErrorKind>,
+    files: &mut F,
+    out: &mut O,
+) -> u8
+    ensures contents { F.contents files.new ≡ F.contents files.old }
+    ensures files_later { F.faults files.old ≤ F.faults files.new }
+    ensures sink_later { O.faults out.old ≤ O.faults out.new }
+    ensures given { IfOk words (λ words. EndsFor (seen F.contents F.failed F.faults files.old files.new) (O.taken out.old) (O.taken out.new) (O.faults out.old) (O.faults out.new) (map string_bytes words.items) result) }
+    ensures none { IfErr words (λ kind. kind ≢ ErrorKind.OutOfMemory → EndsFor (seen F.contents F.failed F.faults files.old files.new) (O.taken out.old) (O.taken out.new) (O.faults out.old) (O.faults out.new) [] result) }
+    ensures memory { words ≡ Err ErrorKind.OutOfMemory → result ≡ 5 }
+{
+    match words {
+        Ok(words) => status_over(alloc, &words, files, out),
+        Err(ErrorKind::OutOfMemory) => 5,
+        Err(_) => status_over(alloc, &[], files, out),
+    }
+}
+
+/// The status for words that were given.
+fn status_over<F: Files, O: Sink>(alloc: Global, words: &[String], files: &mut F, out: &mut O) -> u8
+    ensures contents { F.contents files.new ≡ F.contents files.old }
+    ensures files_later { F.faults files.old ≤ F.faults files.new }
+    ensures sink_later { O.faults out.old ≤ O.faults out.new }
+    ensures ends { EndsFor (seen F.contents F.failed F.faults files.old files.new) (O.taken out.old) (O.taken out.new) (O.faults out.old) (O.faults out.new) (map string_bytes words.now) result }
+{
+    match stores(alloc) {
+        Ok(stores) => links_main(alloc, words, files, stores, out).status,
+        Err(_) => 5,
+    }
+}
+
+/// The stores that a command may ask for: one in memory, without tables.
+fn stores(alloc: Global) -> Result<Vec<Box<dyn Store + Drop>>, NoMemory>
+    ensures one { IfOk result (λ stores. length stores.items ≡ 1) }
+    ensures idle { IfOk result (λ stores. All (λ store. is_open store ≡ false) stores.items) }
+    ensures named { IfOk result (λ stores. All (λ store. name store ≡ codes "memory") stores.items) }
+    ensures empty { IfOk result (λ stores. All (λ store. tables store ≡ Some (λ _. [])) stores.items) }
+    ensures faults { IfOk result (λ stores. All (λ store. faults store ≡ 0) stores.items) }
+{
+    let mut stores: Vec<Box<dyn Store + Drop>> = Vec::new(alloc);
+    stores.push(Box::new(alloc, MemoryStore::new(alloc))?)?;
+    Ok(stores)
+}
