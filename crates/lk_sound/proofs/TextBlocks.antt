@@ -20,7 +20,6 @@ use Rattle.lk_sound.specs.Points.{AreBlocksOf}
 use Rattle.lk_sound.specs.Within.{IsFunctionOf, IsLambdaOf}
 
 module _ {A B : Type 0} (P : B → Type 0) (f : A → List B) where
-
   one_of_all : (xs : List A) → OneOf (λ x. OneOf P (f x)) xs → OneOf P (flat_map f xs)
   one_of_all [] one = one
   one_of_all (x ∷ xs) (inl here) = one_in_front P (f x) (flat_map f xs) here

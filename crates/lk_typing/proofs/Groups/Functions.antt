@@ -58,7 +58,6 @@ if_letters true s e = effects (without e s) ∷ []
 if_letters false s e = []
 
 module _ (σ : Grounding) where
-
   -- all that is said holds, and the numbers end there
   abbrev ToldMet : Told → ℕ → Type 0
   ToldMet said last = (said.next ≡ last) × Each (IsMet σ) said.equations
