@@ -4,7 +4,7 @@ use Rattle.std.proofs.lemmas.List.{take_more}
 use Rattle.std.specs.Prelude.{IsSome}
 use Rattle.lk_types.proofs.Members.{each_both, each_front, each_back}
 use Rattle.lk_types.specs.Each.{Each}
-use Rattle.lk_types.specs.Solutions.{HasSolution}
+use Rattle.lk_types.specs.Solutions.{HasSolution, IsMet}
 use Rattle.lk_types.specs.Variables.{variables_of, equation_variables}
 use Rattle.lk_types.specs.declared.equation.Equation.{Equation}
 use Rattle.lk_types.specs.declared.ty.Variable.{Variable}

@@ -127,8 +127,8 @@ fn count_unsolvable(alloc: Global, equations: &[Equation]) -> Result<usize, NoMe
     Ok(equations.len())
 }
 
-/// The first equation with which those up to it have no solution, if there is one. It is looked for where merging ends, and then
-/// searched for by halves.
+/// The first equation with which those up to it have no solution, if there is one. It is looked for where merging ends, and
+/// before that searched for by halves.
 pub fn first_unsolvable(alloc: Global, equations: &[Equation]) -> Result<Option<usize>, NoMemory>
     ensures solvable { IfOk result (λ found. IfNone found (HasSolution equations.now)) }
     ensures first { IfOk result (λ found. IfSome found (λ k. IsFirstWithout equations.now k)) }
@@ -136,16 +136,20 @@ pub fn first_unsolvable(alloc: Global, equations: &[Equation]) -> Result<Option<
     if is_solvable(alloc, equations)? {
         return Ok(None);
     }
+    let merged = count_unsolvable(alloc, equations)?;
+    let last = merged - 1;
+    if is_solvable(alloc, &equations[..last])? {
+        return Ok(Some(last));
+    }
     let mut low = 0;
-    let mut high = count_unsolvable(alloc, equations)?;
-    let mut middle = high - 1;
+    let mut high = last;
     'halving: while high - low > 1 {
+        let middle = low + (high - low) / 2;
         if is_solvable(alloc, &equations[..middle])? {
             low = middle;
         } else {
             high = middle;
         }
-        middle = low + (high - low) / 2;
     }
     Ok(Some(low))
 }

@@ -6,8 +6,6 @@ abbrev pub invariant-halving : goal.invariant-halving
 invariant-halving l = record {
   ordered : l.low < l.high;
   within : l.high ≤ length l.equations;
-  upto : l.middle ≤ l.high;
-  between : 1 < l.high - l.low → (l.low < l.middle) × (l.middle < l.high);
   solvable : HasSolution (take l.low l.equations);
   never : HasSolution (take l.high l.equations) → ⊥;
 }
