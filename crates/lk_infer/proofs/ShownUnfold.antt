@@ -4,6 +4,7 @@ use Rattle.std.specs.Prelude.{flat_map}
 use Rattle.lk_types.proofs.Lists.{joined_map}
 use Rattle.lk_types.proofs.Unfold.{variables_field}
 use Rattle.lk_types.specs.Variables.{before_tail, joined, variables_of, variables_of_field, variables_of_row}
+use Rattle.lk_types.specs.declared.scheme.Lack.{Lack}
 use Rattle.lk_types.specs.declared.ty.Effects.{Effects}
 use Rattle.lk_types.specs.declared.ty.RowTail.{RowTail}
 use Rattle.lk_types.specs.declared.ty.Ty.{Ty}
@@ -12,7 +13,7 @@ use Rattle.lk_types.specs.declared.ty.Ty.TheVariants as ty
 use Rattle.lk_types.specs.declared.ty.TyField.{TyField}
 use Rattle.lk_types.specs.declared.ty.TyRow.{TyRow, out-TyRow, roll-TyRow}
 use Rattle.lk_types.specs.declared.ty.Variable.TheVariants as variable
-use Rattle.lk_infer.specs.Lacks.{shown, shown_in_field, shown_in_row, tail_lacks}
+use Rattle.lk_infer.specs.Lacks.{ShownField, shown, shown_in_field, shown_in_row, tail_lacks}
 
 pub shown_int : shown ty.Int ≡ []
 unfolding shown
@@ -53,9 +54,16 @@ field_is : (f : TyField) → shown_in_field f ≡ record { label = f.label; insi
 unfolding shown shown_in_field
 field_is f = search the_lemmas
 
-by_fields : (r : TyRow) → shown_in_row r ≡ flat_map (λ f. f.inside) (map shown_in_field (out-TyRow r).fields) ++ tail_lacks (map (λ f. f.label) (map shown_in_field (out-TyRow r).fields)) (out-TyRow r).tail
+abbrev lacks_in : List ShownField → RowTail → List Lack
+lacks_in fs tail = flat_map (λ f. f.inside) fs ++ tail_lacks (map (λ f. f.label) fs) tail
+
+by_fields : (r : TyRow) → shown_in_row r ≡ lacks_in (map shown_in_field (out-TyRow r).fields) (out-TyRow r).tail
 unfolding shown_in_row shown_in_field
 by_fields r = search the_lemmas
+
+by_rolled : (fs : List TyField) (tail : RowTail) → shown_in_row (roll-TyRow (record { fields = fs; tail = tail })) ≡ lacks_in (map shown_in_field fs) tail
+unfolding shown_in_row shown_in_field
+by_rolled fs tail = search the_lemmas
 
 insides : (fs : List TyField) → flat_map (λ f. f.inside) (map shown_in_field fs) ≡ flat_map (λ f. shown f.ty) fs
 insides [] = refl
@@ -70,7 +78,7 @@ shown_row r = by_fields r ∙ (λ i. insides (out-TyRow r).fields i ++ tail_lack
 
 pub shown_rolled : (fs : List TyField) (tail : RowTail)
     → shown_in_row (roll-TyRow (record { fields = fs; tail = tail })) ≡ flat_map (λ f. shown f.ty) fs ++ tail_lacks (map (λ f. f.label) fs) tail
-shown_rolled fs tail = shown_row (roll-TyRow (record { fields = fs; tail = tail }))
+shown_rolled fs tail = by_rolled fs tail ∙ (λ i. insides fs i ++ tail_lacks (labels fs i) tail)
 
 -- ---- the variables of a row
 
