@@ -1,2 +1,3 @@
 pub mod FailingStore
+pub mod Listed
 pub mod MemoryStore

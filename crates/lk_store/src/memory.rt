@@ -4,28 +4,30 @@ ghost use Rattle.lk_outside.specs.Store.{Puts};
 ghost use Rattle.lk_store.specs.MemoryStore.{ChangesTables, aborted, begun, committed};
 ghost use Rattle.lk_ast.specs.Tables.{rows_of};
 
-use crate::named_tables;
-use lk_ast::{List, Row, TableDef, TableRows, all_fit, copy_rows};
+use crate::named_tables::{self, NamedTables};
+use lk_ast::{List, Row, TableDef, all_fit, copy_rows};
 use lk_outside::{OutFault, Store};
 use std::alloc::Global;
+use std::collections::BTreeMap;
 use std::marker::Model;
 use std::mem;
 
 /// A store in memory, named `memory`. No call answers `Failed` but a scan of a table that holds a row of other columns.
 #[derive(Debug, Drop)]
 pub struct MemoryStore {
-    tables: Vec<TableRows>,
-    kept: Vec<TableRows>,
+    tables: NamedTables,
+    kept: NamedTables,
     is_open: bool,
 }
 
 impl Model for MemoryStore {
+    ghost use Rattle.lk_store.specs.Listed.{listed};
     ghost use Rattle.lk_store.specs.MemoryStore.{MemoryState};
 
     ghost Value = { MemoryState };
 
     ghost view = { λ store.
-        record { tables = store.tables.items; kept = store.kept.items; is_open = store.is_open } };
+        record { tables = listed store.tables; kept = listed store.kept; is_open = store.is_open } };
 }
 
 impl MemoryStore {
@@ -37,8 +39,8 @@ impl MemoryStore {
         ensures faults { ⟦<MemoryStore as Store>⟧.faults result ≡ 0 }
     {
         MemoryStore {
-            tables: Vec::new(alloc),
-            kept: Vec::new(alloc),
+            tables: BTreeMap::new(alloc),
+            kept: BTreeMap::new(alloc),
             is_open: false,
         }
     }
@@ -107,7 +109,7 @@ impl Store for MemoryStore {
         ensures accepted { IsOk result }
         ensures after { self.new ≡ committed result self.old }
     {
-        self.kept = Vec::new(alloc);
+        self.kept = BTreeMap::new(alloc);
         self.is_open = false;
         Ok(())
     }

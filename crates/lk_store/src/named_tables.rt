@@ -1,26 +1,23 @@
-//! Tables in a list, each with its name.
+//! Tables by their names.
 
-ghost use Rattle.std.specs.Prelude.{◌≡◌, ◌<◌, ◌++◌, length, OnOk, IfOk, IfSome, bytes_eq, position};
-ghost use Rattle.lk_outside.specs.Store.{Puts};
+ghost use Rattle.std.specs.Prelude.{◌≡◌, ◌++◌, OnOk, IfOk};
 ghost use Rattle.lk_ast.specs.Tables.{rows_of};
+ghost use Rattle.lk_outside.specs.Store.{Puts};
+ghost use Rattle.lk_store.specs.Listed.{listed};
 
-use lk_ast::{List, NoMemory, Row, TableRows, Text, copy_rows};
+use lk_ast::{List, NoMemory, Row, copy_rows};
 use std::alloc::Global;
+use std::collections::BTreeMap;
 
-// The place of the first table of this name.
-fn place_of(tables: &[TableRows], name: &str) -> Option<usize>
-    ensures first { result ≡ position (λ table. bytes_eq name.now table.name) tables.now }
-    ensures bound { IfSome result (λ place. place < length tables.now) }
-{
-    tables.iter().position(|table| name == table.name.as_str())
-}
+/// The rows of each table by its name.
+pub(crate) type NamedTables = BTreeMap<String, List<Row>>;
 
 /// The rows of the table of this name. An absent table has none.
-pub(crate) fn rows_of<'a>(tables: &'a [TableRows], name: &str) -> &'a [Row]
-    ensures { result.now ≡ rows_of tables.now name.now }
+pub(crate) fn rows_of<'a>(tables: &'a NamedTables, name: &str) -> &'a [Row]
+    ensures { result.now ≡ rows_of (listed tables.now) name.now }
 {
-    match place_of(tables, name) {
-        Some(place) => tables[place].rows.as_slice(),
+    match tables.get(name) {
+        Some(rows) => rows.as_slice(),
         None => &[],
     }
 }
@@ -28,47 +25,32 @@ pub(crate) fn rows_of<'a>(tables: &'a [TableRows], name: &str) -> &'a [Row]
 /// Gives the table of this name these rows in place of its own. A refusal is for want of memory.
 pub(crate) fn set_rows(
     alloc: Global,
-    tables: &mut Vec<TableRows>,
+    tables: &mut NamedTables,
     name: &str,
     rows: List<Row>,
 ) -> Result<(), NoMemory>
-    ensures { OnOk result (Puts (rows_of tables.old.items) (rows_of tables.new.items)
+    ensures { OnOk result (Puts (rows_of (listed tables.old)) (rows_of (listed tables.new))
         name.now rows) }
 {
-    match place_of(tables, name) {
-        Some(place) => {
-            let table = &mut tables[place];
-            table.rows = rows;
-        }
-        None => {
-            let name = Text::from_str(alloc, name)?;
-            tables.push(TableRows { name, rows })?;
-        }
-    }
+    let key = String::from_str(alloc, name)?;
+    drop(tables.insert(key, rows)?);
     Ok(())
 }
 
 /// Adds these rows behind those of the table of this name. A refusal, for want of memory, may have added some.
 pub(crate) fn add_rows(
     alloc: Global,
-    tables: &mut Vec<TableRows>,
+    tables: &mut NamedTables,
     name: &str,
     rows: List<Row>,
 ) -> Result<(), NoMemory>
-    ensures { OnOk result (Puts (rows_of tables.old.items) (rows_of tables.new.items)
-        name.now (rows_of tables.old.items name.now ++ rows)) }
+    ensures { OnOk result (Puts (rows_of (listed tables.old)) (rows_of (listed tables.new))
+        name.now (rows_of (listed tables.old) name.now ++ rows)) }
 {
-    match place_of(tables, name) {
-        Some(place) => {
-            let table = &mut tables[place];
-            append(&mut table.rows, rows)?;
-        }
-        None => {
-            let name = Text::from_str(alloc, name)?;
-            tables.push(TableRows { name, rows })?;
-        }
+    match tables.get_mut(name) {
+        Some(there) => Ok(append(there, rows)?),
+        None => Ok(set_rows(alloc, tables, name, rows)?),
     }
-    Ok(())
 }
 
 // Adds more rows at the end.
@@ -82,14 +64,14 @@ fn append(rows: &mut List<Row>, more: List<Row>) -> Result<(), NoMemory>
 }
 
 /// The same tables once more.
-pub(crate) fn copy_tables(alloc: Global, tables: &[TableRows]) -> Result<Vec<TableRows>, NoMemory>
-    ensures { IfOk result (λ copies. copies.items ≡ tables.now) }
+pub(crate) fn copy_tables(alloc: Global, tables: &NamedTables) -> Result<NamedTables, NoMemory>
+    ensures { IfOk result (λ copies. listed copies ≡ listed tables.now) }
 {
-    let mut copies = Vec::new(alloc);
-    for table in tables {
-        let name = table.name.copy(alloc)?;
-        let rows = copy_rows(alloc, table.rows.as_slice())?;
-        copies.push(TableRows { name, rows })?;
+    let mut copies = BTreeMap::new(alloc);
+    for (name, rows) in tables {
+        let key = String::from_str(alloc, name.as_str())?;
+        let rows = copy_rows(alloc, rows.as_slice())?;
+        drop(copies.insert(key, rows)?);
     }
     Ok(copies)
 }

@@ -1,13 +1,13 @@
-use Rattle.std.proofs.Common.{rules, refl}
-use Rattle.lk_store.proofs.Places.{adds_from_set, adds_from_push}
+use Rattle.std.proofs.Common.{rules}
+use Rattle.lk_store.proofs.Listed.{adds, adds_first}
 use Rattle.lk_store.proofs.named_tables.add_rows.Goals as goal
 
 pub returns-in_ok-append-in-Some : goal.returns-in_ok-append-in-Some
 returns-in_ok-append-in-Some c =
-    adds_from_set c.args.tables.now.items _ c.args.name.now c.args.rows c.append.new.rows c.in-Some.place c.index_mut-table.result.now
-    (cc (c.deref.ensures.value, c.in-Some.ensures.first)) (search rules) c.index_mut-table.ensures.value c.in_ok-append-in-Some.ensures refl
+    adds c.args.tables.now (c.get_mut.follows.lender c.append.new.rows) c.args.name.now c.in-Some.there.now c.append.new.rows c.args.rows
+    c.in-Some.ensures.value c.in_ok-append-in-Some.ensures ((c.get_mut.follows.holds c.append.new.rows).3 (search rules))
 
-pub returns-in_ok-push-in-None : goal.returns-in_ok-push-in-None
-returns-in_ok-push-in-None c =
-    adds_from_push c.args.tables.now.items c.push.new.self.items c.args.name.now c.in_ok-name-in-None.name c.args.rows
-    (cc (c.deref.ensures.value, c.in-None.ensures.first)) c.in_ok-name-in-None.ensures c.in_ok-push-in-None.ensures.items
+pub returns-in_ok-set_rows-in-None : goal.returns-in_ok-set_rows-in-None
+returns-in_ok-set_rows-in-None c =
+    adds_first c.args.tables.now c.get_mut.follows.lender-at-none _ c.args.name.now c.args.rows
+    c.in-None.ensures.value c.get_mut.follows.holds-at-none c.in_ok-set_rows-in-None.ensures

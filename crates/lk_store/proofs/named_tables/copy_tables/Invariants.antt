@@ -1,5 +1,6 @@
-use Rattle.std.proofs.Common.{◌≡◌, take}
+use Rattle.std.proofs.Common.{◌≡◌, ◌++◌, map}
+use Rattle.lk_store.specs.Listed.{listed, shown}
 use Rattle.lk_store.proofs.named_tables.copy_tables.Given as goal
 
-abbrev pub invariant-loop-table : goal.invariant-loop-table
-invariant-loop-table l = l.copies.items ≡ take l.table-index l.tables
+abbrev pub invariant-loop-name : goal.invariant-loop-name
+invariant-loop-name l = listed l.copies ++ map shown l.name-iterator ≡ listed l.tables

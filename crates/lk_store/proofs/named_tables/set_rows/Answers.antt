@@ -1,13 +1,5 @@
-use Rattle.std.proofs.Common.{rules, refl}
-use Rattle.lk_store.proofs.Places.{puts_from_set, puts_from_push}
+use Rattle.lk_store.proofs.Listed.{puts_key}
 use Rattle.lk_store.proofs.named_tables.set_rows.Goals as goal
 
-pub returns-in-Some : goal.returns-in-Some
-returns-in-Some c =
-    puts_from_set c.args.tables.now.items _ c.args.name.now c.args.rows c.in-Some.place c.index_mut-table.result.now
-    (cc (c.deref.ensures.value, c.in-Some.ensures.first)) (search rules) c.index_mut-table.ensures.value refl
-
-pub returns-in_ok-push-in-None : goal.returns-in_ok-push-in-None
-returns-in_ok-push-in-None c =
-    puts_from_push c.args.tables.now.items c.push.new.self.items c.args.name.now c.in_ok-name-in-None.name c.args.rows
-    (cc (c.deref.ensures.value, c.in-None.ensures.first)) c.in_ok-name-in-None.ensures c.in_ok-push-in-None.ensures.items
+pub returns : goal.returns
+returns c = puts_key c.args.tables.now c.insert.new.self c.in_ok-key.key c.args.name.now c.args.rows c.in_ok-key.ensures.ok c.in_ok-insert.ensures.updates
