@@ -5,6 +5,7 @@ pub mod Going
 pub mod Leading
 pub mod Legality
 pub mod MainParams
+pub mod PlacesFound
 pub mod Reading
 pub mod RowsBack
 pub mod SameBag

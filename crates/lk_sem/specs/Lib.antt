@@ -7,4 +7,5 @@ pub mod RowValues
 pub mod Scans
 pub mod SourceRuns
 pub mod Standing
+pub mod TablePlaces
 pub mod Writings
