@@ -5,6 +5,7 @@ pub mod Exact
 pub mod Fits
 pub mod Lists
 pub mod Members
+pub mod NamesFound
 pub mod Objects
 pub mod Puts
 pub mod ReadsBack

@@ -1,28 +1,39 @@
 //! Why values aren't the rows of tables. Nothing is copied.
 
-ghost use Rattle.lk_tables.specs.Reading.{base_of, cell_of, has_members as has_so_many, is_named as is_its_name, member_refusal as refusal_of_member, object_refusal as refusal_of_object, row_of, rows_of, rows_refusal as refusal_of_rows, table_refusal};
+ghost use Rattle.lk_tables.specs.Reading.{base_of, cell_of, has_members as has_so_many, member_refusal as refusal_of_member, object_refusal as refusal_of_object, row_of, rows_of, rows_refusal as refusal_of_rows};
 ghost use Rattle.lk_tables.specs.Choices.{first_some};
+ghost use Rattle.lk_tables.specs.Named.{own_refusal, shown};
 ghost use Rattle.lk_tables.specs.Reading.{entries};
 ghost use Rattle.serde_json.specs.View.{view, members_view};
-ghost use Rattle.std.specs.List.{list_all, list_any};
+ghost use Rattle.std.specs.List.{list_all};
 ghost use Rattle.std.specs.Option.{is_some};
-ghost use Rattle.std.specs.Prelude.{◌≡◌};
+ghost use Rattle.std.specs.Prelude.{◌≡◌, IfOk};
 
 use crate::error::TablesError;
-use lk_ast::{BaseKind, Column, TableDef};
+use crate::named::NamedTables;
+use lk_ast::{BaseKind, Column, NoMemory, TableDef};
 use serde_json::{Map, Value as Json};
+use std::alloc::Global;
 
 /// How many rows a table may have.
 const MAX_ROWS: usize = 65_536;
 
 /// Why the object isn't one from names of tables to their rows, its members being looked at in byte order of their keys.
-pub fn object_refusal(tables: &[TableDef], file: &Json) -> Option<TablesError>
-    ensures { result ≡ refusal_of_object tables.now (view file.now) }
+pub fn object_refusal(
+    alloc: Global,
+    tables: &[TableDef],
+    file: &Json,
+) -> Result<Option<TablesError>, NoMemory>
+    ensures { IfOk result (λ refusal. refusal ≡ refusal_of_object tables.now (view file.now)) }
 {
-    members_refusal(tables, file.as_object()?)
+    let Some(members) = file.as_object() else {
+        return Ok(None);
+    };
+    let named = NamedTables::new(alloc, tables)?;
+    Ok(members_refusal(&named, members))
 }
 
-fn members_refusal(tables: &[TableDef], members: &Map<String, Json>) -> Option<TablesError>
+fn members_refusal<'t>(tables: &NamedTables<'t>, members: &Map<String, Json>) -> Option<TablesError>
     ensures { result ≡ first_some (refusal_of_member tables.now) (entries (members_view members.now.entries)) }
 {
     for (name, value) in members.iter() {
@@ -35,42 +46,26 @@ fn members_refusal(tables: &[TableDef], members: &Map<String, Json>) -> Option<T
 }
 
 /// Why this isn't the name of a table with its rows.
-fn member_refusal(tables: &[TableDef], name: &str, value: &Json) -> Option<TablesError>
+fn member_refusal<'t>(tables: &NamedTables<'t>, name: &str, value: &Json) -> Option<TablesError>
     ensures { result ≡ refusal_of_member tables.now (name.now, view value.now) }
 {
-    if is_known(tables, name) {
-        named_refusal(tables, name, value)
-    } else {
-        Some(TablesError::UnknownTable)
+    match tables.get(name) {
+        Some(named) => named_refusal(named.as_slice(), value),
+        None => Some(TablesError::UnknownTable),
     }
 }
 
-fn is_known(tables: &[TableDef], name: &str) -> bool
-    ensures { result ≡ list_any (is_its_name name.now) tables.now }
-{
-    tables.iter().any(|table| is_named(table, name))
-}
-
-/// Why this isn't the rows of a table of that name.
-fn named_refusal(tables: &[TableDef], name: &str, value: &Json) -> Option<TablesError>
-    ensures { result ≡ first_some (table_refusal name.now (view value.now)) tables.now }
+/// Why this isn't the rows of each of these tables.
+fn named_refusal(tables: &[&TableDef], value: &Json) -> Option<TablesError>
+    ensures { result ≡ first_some (own_refusal (view value.now)) (shown tables.now) }
 {
     for table in tables {
-        if !is_named(table, name) {
-            continue;
-        }
         let refusal = rows_refusal(table.columns.as_slice(), value);
         if refusal.is_some() {
             return refusal;
         }
     }
     None
-}
-
-fn is_named(table: &TableDef, name: &str) -> bool
-    ensures { result ≡ is_its_name name.now table.now }
-{
-    table.name.as_str() == name
 }
 
 /// Why this isn't an array of at most 65,536 objects with exactly these columns.

@@ -54,7 +54,7 @@ fn accepted_tables(
     ensures fit { IfOk result (λ read. AllZip AreRowsOf tables.now read) }
     ensures refused { IfErr result (λ error. (error ≡ no_memory) ⊎ (refusal_of_object tables.now (view file.now) ≡ Some error)) }
 {
-    if let Some(refusal) = object_refusal(tables, file) {
+    if let Some(refusal) = object_refusal(alloc, tables, file)? {
         return Err(refusal);
     }
     match tables_of(alloc, file, tables)? {

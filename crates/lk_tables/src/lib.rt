@@ -8,6 +8,7 @@
 mod checks;
 mod error;
 mod file;
+mod named;
 mod printing;
 mod rows;
 
