@@ -66,6 +66,13 @@ all_from_is before (w ∷ walks) names s =
 pub all_more : (w : Walk) (walks : List Walk) (names : Named ℕ) (s : State) → all (w ∷ walks) names s ≡ record { numbers = (w names s).part ∷ (all walks names (w names s).state).numbers; state = (all walks names (w names s).state).state }
 all_more w walks names s = all_from_is ((w names s).part ∷ []) walks names (w names s).state
 
+-- what is within parts is within more of them
+pub within_grows : (ts : List Ground) (numbers : List ℕ) (parts later : List Part) → Grows parts later → AreWithin ts numbers parts → AreWithin ts numbers later
+within_grows [] [] parts later grows within = tt
+within_grows [] (k ∷ numbers) parts later grows within = within
+within_grows (t ∷ ts) [] parts later grows within = within
+within_grows (t ∷ ts) (k ∷ numbers) parts later grows within = (still_within grows k within.0, within_grows ts numbers parts later grows within.1)
+
 module _ (p : Program) (i : Instances) (tables : Tables) (calls : List ℕ → List Value → Value) (makes : Calls) where
   -- the parts of names stand for their values
   abbrev pub AreStanding : Named Ground → Named ℕ → Names → List Part → Values → Type 0
@@ -152,12 +159,6 @@ module _ (p : Program) (i : Instances) (tables : Tables) (calls : List ℕ → L
   }
 
   -- ---- one part more behind several
-
-  pub within_grows : (ts : List Ground) (numbers : List ℕ) (parts later : List Part) → Grows parts later → AreWithin ts numbers parts → AreWithin ts numbers later
-  within_grows [] [] parts later grows within = tt
-  within_grows [] (k ∷ numbers) parts later grows within = within
-  within_grows (t ∷ ts) [] parts later grows within = within
-  within_grows (t ∷ ts) (k ∷ numbers) parts later grows within = (still_within grows k within.0, within_grows ts numbers parts later grows within.1)
 
   each_grows : (ts : List Ground) (vs : List Value) (numbers : List ℕ) (parts later : List Part) (values : Values) → Grows parts later → AreWithin ts numbers parts → StandEach ts vs (map (λ k. gives tables parts k values) numbers)
       → StandEach ts vs (map (λ k. gives tables later k values) numbers)
