@@ -1,6 +1,6 @@
 -- The status that the process ends with.
 use Rattle.std.specs.Prelude.{ℕ, List, [], Option, Some, None, Result, if◌then◌else◌, bytes_eq, codes}
-use Rattle.lk_cli.specs.Answers.{Answers, Ends}
+use Rattle.lk_cli.specs.Answers.{Answers, Ends, TellsReads}
 use Rattle.lk_cli.specs.Seen.{FilesSeen, StoreSeen}
 use Rattle.lk_cli.specs.declared.answer.Answer.{Answer}
 use Rattle.lk_cli.specs.declared.answer.Refusal.{Refusal}
@@ -10,10 +10,11 @@ use Rattle.lk_words.specs.Words.{form_of, store_of}
 abbrev pub memory_for : List ℕ → Option StoreSeen
 memory_for wanted = if bytes_eq wanted (codes "memory") then Some (record { tables = Some (λ name. []); faults = 0 }) else None
 
--- there is an answer to these words, with its cause, and the process ends with it: what the sink took and the status are those of
--- this answer
+-- there is an answer to these words, with its cause, which passes over no fault of the files, and the process ends with it: what the
+-- sink took and the status are those of this answer
 abbrev pub EndsFor : FilesSeen → Option (List ℕ) → Option (List ℕ) → ℕ → ℕ → List (List ℕ) → ℕ → Type 0
 EndsFor files before after faults_before faults_after words status =
     (back : Option StoreSeen) × (answer : Result Answer Refusal)
     × Answers files (record { given = memory_for (store_of (form_of words)); back = back }) (form_of words) answer
+    × TellsReads files.before files.after answer
     × Ends answer before after faults_before faults_after status

@@ -4,7 +4,6 @@ ghost use Rattle.std.specs.Prelude.{◌≡◌, ◌≢◌, ◌≤◌, [], false, 
 ghost use Rattle.lk_cli.specs.Seen.{seen};
 ghost use Rattle.lk_process.specs.Statuses.{EndsFor};
 
-use lk_ast::NoMemory;
 use lk_cli::links_main;
 use lk_outside::{Files, OsFiles, Sink, StdSink, Store};
 use lk_store::MemoryStore;
@@ -61,21 +60,34 @@ fn status_over<F: Files, O: Sink>(alloc: Global, words: &[String], files: &mut F
     ensures sink_later { O.faults out.old ≤ O.faults out.new }
     ensures ends { EndsFor (seen F.contents F.failed F.faults files.old files.new) (O.taken out.old) (O.taken out.new) (O.faults out.old) (O.faults out.new) (map string_bytes words.now) result }
 {
-    match stores(alloc) {
-        Ok(stores) => links_main(alloc, words, files, stores, out).status,
-        Err(_) => 5,
+    // The stores that a command may ask for: one in memory, without tables.
+    let mut stores: Vec<Box<dyn Store + Drop>> = Vec::new(alloc);
+    let Ok(memory) = Box::new(alloc, MemoryStore::new(alloc)) else {
+        return 5;
+    };
+    if stores.push(memory).is_err() {
+        return 5;
     }
+    status_with(alloc, words, files, stores, out)
 }
 
-/// The stores that a command may ask for: one in memory, without tables.
-fn stores(alloc: Global) -> Result<Vec<Box<dyn Store + Drop>>, NoMemory>
-    ensures one { IfOk result (λ stores. length stores.items ≡ 1) }
-    ensures idle { IfOk result (λ stores. All (λ store. is_open store ≡ false) stores.items) }
-    ensures named { IfOk result (λ stores. All (λ store. name store ≡ codes "memory") stores.items) }
-    ensures empty { IfOk result (λ stores. All (λ store. tables store ≡ Some (λ _. [])) stores.items) }
-    ensures faults { IfOk result (λ stores. All (λ store. faults store ≡ 0) stores.items) }
+/// The status for words that were given, where these are the stores: one in memory, without tables.
+fn status_with<F: Files, O: Sink>(
+    alloc: Global,
+    words: &[String],
+    files: &mut F,
+    stores: Vec<Box<dyn Store + Drop>>,
+    out: &mut O,
+) -> u8
+    requires one { length stores.items ≡ 1 }
+    requires idle { All (λ store. is_open store ≡ false) stores.items }
+    requires named { All (λ store. name store ≡ codes "memory") stores.items }
+    requires empty { All (λ store. tables store ≡ Some (λ _. [])) stores.items }
+    requires faults { All (λ store. (⟦<dyn Store as Store>⟧ store.vtable).faults store.value ≡ 0) stores.items }
+    ensures contents { F.contents files.new ≡ F.contents files.old }
+    ensures files_later { F.faults files.old ≤ F.faults files.new }
+    ensures sink_later { O.faults out.old ≤ O.faults out.new }
+    ensures ends { EndsFor (seen F.contents F.failed F.faults files.old files.new) (O.taken out.old) (O.taken out.new) (O.faults out.old) (O.faults out.new) (map string_bytes words.now) result }
 {
-    let mut stores: Vec<Box<dyn Store + Drop>> = Vec::new(alloc);
-    stores.push(Box::new(alloc, MemoryStore::new(alloc))?)?;
-    Ok(stores)
+    links_main(alloc, words, files, stores, out).status
 }
