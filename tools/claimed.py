@@ -1,5 +1,5 @@
 #!/usr/bin/env python3
-"""Says which public call, or which named clause of one, docs/CLAIMS.md doesn't name.
+"""Says which public call, which named clause of one, or which conversion of a public type docs/CLAIMS.md doesn't name.
 
     tools/claimed.py        at the top of the repository
 
@@ -16,6 +16,7 @@ HANDED_ON = re.compile(r"pub use ([\w:]+?)(?:::\{([^}]*)\})?;")
 OWNER = re.compile(r"impl(?:<[^>]*>)? (?:.* for )?(\w+)")
 CALL = re.compile(r"\s*pub fn (\w+)")
 CLAUSE = re.compile(r"\s*(?:ensures|requires)\s+(\w+)\s*\{")
+CONVERSION = re.compile(r"^impl From<\w+> for (\w+)", re.M)
 
 
 def text_of(path):
@@ -60,6 +61,9 @@ def missing(crate, section):
     names = handed_on(library)
     files = [f"{at}/{name}" for at, _, found in os.walk(folder) for name in found if name.endswith(".rt")]
     for path in sorted(files):
+        for target in CONVERSION.findall(text_of(path)):
+            if target in names and not re.search(rf"`From(<\w+>)?`s? of `{target}`", section):
+                yield f"{path} From of {target}"
         for call, named in public_calls(text_of(path), names):
             if not re.search(rf"`(\w+::)*{call}`", section):
                 yield f"{path} {call}"

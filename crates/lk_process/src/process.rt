@@ -1,6 +1,8 @@
 //! What the process does, and the status that it ends with.
 
-ghost use Rattle.std.specs.Prelude.{◌≡◌, ◌≢◌, ◌≤◌, [], false, All, Err, IfErr, IfOk, Some, codes, length, map, string_bytes};
+ghost use Rattle.std.specs.Prelude.{◌≡◌, ◌≢◌, ◌≤◌, [], false, All, Err, IfErr, IfOk, Some, codes, drop, length, map, string_bytes};
+ghost use Rattle.std.specs.IoError.{error_kind};
+ghost use Rattle.std.specs.Vec.Iter.{into_iter_items};
 ghost use Rattle.lk_cli.specs.Seen.{seen};
 ghost use Rattle.lk_process.specs.Statuses.{EndsFor};
 
@@ -8,25 +10,33 @@ use lk_cli::links_main;
 use lk_outside::{Files, OsFiles, Sink, StdSink, Store};
 use lk_store::MemoryStore;
 use std::alloc::Global;
-use std::io::ErrorKind;
+use std::env::{self, Args};
+use std::io::{self, ErrorKind};
 use std::process::ExitCode;
 use std::rt::{Env, Files as SystemFiles};
-use std::{env, io};
 
 /// Does what the words of the command line ask for over the system's files and standard output, and gives the status.
 pub fn run<R: Env + Print + SystemFiles + AllocGlobal>(rt: &R) -> ExitCode {
     let alloc = rt.alloc();
     let mut files = OsFiles::new(rt);
     let mut out = StdSink::new(rt);
-    let words = words(rt, alloc).map_err(|error| error.kind());
+    let words = behind_name(alloc, env::args(rt));
     ExitCode::from(status_of(alloc, words, &mut files, &mut out))
 }
 
-/// The words of the command line, without the program's own name.
-fn words(rt: &(impl Env + AllocGlobal), alloc: Global) -> io::Result<Vec<String>> {
+/// The words behind the first of these, which is the program's own name; or the kind of reason for which there are none.
+fn behind_name(alloc: Global, args: io::Result<Args>) -> Result<Vec<String>, ErrorKind>
+    ensures given { IfOk args (λ args. IfOk result (λ words. words.items ≡ drop 1 (into_iter_items args))) }
+    ensures refused { IfErr args (λ error. result ≡ Err (error_kind error)) }
+    ensures memory { IfOk args (λ args. IfErr result (λ kind. kind ≡ ErrorKind.OutOfMemory)) }
+{
+    let mut args = args.map_err(|error| error.kind())?;
+    let _own_name = args.next();
     let mut words = Vec::new(alloc);
-    for word in env::args(rt)?.skip(1) {
-        words.push(word)?;
+    for word in args {
+        if words.push(word).is_err() {
+            return Err(ErrorKind::OutOfMemory);
+        }
     }
     Ok(words)
 }
@@ -45,6 +55,7 @@ pub fn status_of<F: Files, O: Sink>(
     ensures given { IfOk words (λ words. EndsFor (seen F.contents F.failed F.faults files.old files.new) (O.taken out.old) (O.taken out.new) (O.faults out.old) (O.faults out.new) (map string_bytes words.items) result) }
     ensures none { IfErr words (λ kind. kind ≢ ErrorKind.OutOfMemory → EndsFor (seen F.contents F.failed F.faults files.old files.new) (O.taken out.old) (O.taken out.new) (O.faults out.old) (O.faults out.new) [] result) }
     ensures memory { words ≡ Err ErrorKind.OutOfMemory → result ≡ 5 }
+    ensures untouched { words ≡ Err ErrorKind.OutOfMemory → (O.taken out.new ≡ O.taken out.old) × (O.faults out.new ≡ O.faults out.old) × (F.faults files.new ≡ F.faults files.old) }
 {
     match words {
         Ok(words) => status_over(alloc, &words, files, out),

@@ -27,12 +27,28 @@ fn files_of_the_system(rt: HostRuntime) -> Result<(), Fail> {
     Ok(())
 }
 
+// More bytes than a program's text may have, as a tables file may, under a name with spaces at both ends.
+#[test]
+fn large_file_of_the_system(rt: HostRuntime) -> Result<(), Fail> {
+    let alloc = rt.alloc();
+    let mut content = Vec::new(alloc);
+    content.resize(1_100_000, b'x')?;
+    content.push(b'y')?;
+    fs::write(&rt, " letters ", content.as_slice())?;
+    let whole = OsFiles::new(&rt).read(alloc, " letters ", 16_777_217)?;
+    fs::remove_file(&rt, " letters ")?;
+    assert_eq!(rt; whole.as_slice(), content.as_slice());
+    Ok(())
+}
+
 const LINE: &[u8] = b"one line\n";
 
-// An output that takes the bytes of `LINE`, written at once, and refuses all else.
-struct OneLine;
+// An output that takes this piece, written whole and at once, and refuses all else.
+struct OnlyWhole<'p> {
+    piece: &'p [u8],
+}
 
-impl Print for OneLine {
+impl Print for OnlyWhole<'_> {
     fn print<D: Display + Drop>(&self, _value: D) -> io::Result<()> {
         Err(io::Error::from(ErrorKind::BrokenPipe))
     }
@@ -42,23 +58,37 @@ impl Print for OneLine {
     }
 
     fn write_all(&self, bytes: &[u8]) -> io::Result<()> {
-        if bytes == LINE {
+        if bytes == self.piece {
             Ok(())
         } else {
             Err(io::Error::from(ErrorKind::BrokenPipe))
         }
+    }
+
+    fn write_some(&self, _bytes: &[u8]) -> io::Result<usize> {
+        Err(io::Error::from(ErrorKind::BrokenPipe))
     }
 }
 
 #[test]
 fn standard_output(rt: HostRuntime) -> Result<(), Fail> {
     StdSink::new(&rt).write(LINE)?;
-    let mut out = StdSink::new(&OneLine);
+    let line = OnlyWhole { piece: LINE };
+    let mut out = StdSink::new(&line);
     out.write(LINE)?;
     assert_eq!(rt; out.faults(), 0);
     let refused = out.write(b"another line\n").err();
     assert_eq!(rt; refused, Some(OutFault::Failed));
     assert_eq!(rt; out.faults(), 1);
+    Ok(())
+}
+
+#[test]
+fn long_piece_for_standard_output(rt: HostRuntime) -> Result<(), Fail> {
+    let mut piece = Vec::new(rt.alloc());
+    piece.resize(1_100_000, b'x')?;
+    let whole = OnlyWhole { piece: &piece };
+    StdSink::new(&whole).write(&piece)?;
     Ok(())
 }
 
