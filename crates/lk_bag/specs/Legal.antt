@@ -1,5 +1,6 @@
--- Legal histories. A table is a bag of rows. Each reading answers what its query gives over the tables as they are then, in some
--- order, or sorted by its keys; each change makes of them what its text says, and no insertion leaves too many rows in a table.
+-- Legal histories. A table is a bag of rows. Each reading, a query or a table, answers what it gives over the tables as they are
+-- then, in some order, or sorted by its keys; each change makes of them what its text says, and no insertion leaves too many rows
+-- in a table. There is a value for each name that is captured.
 use Rattle.std.specs.Prelude.{◌≡◌, ℕ, ◌≤◌, Bool, true, false, ◌||◌, ◌&&◌, List, [], ◌∷◌, Option, Some, None, find, length, map, bytes_eq, IsPermutation, if◌then◌else◌}
 use Rattle.std.specs.Ordering.{is_lt, is_gt, is_eq}
 use Rattle.std.specs.declared.cmp.Ordering.{Ordering}
@@ -52,7 +53,17 @@ captured_in block = captured_by (layer block)
 abbrev pub names_in : Expr → List Value → Names
 names_in block args = bind_each locals.no_names (captured_in block) args
 
+-- there is a value for each name that is captured
+abbrev pub AreCaptured : Expr → List Value → Type 0
+AreCaptured block args = length args ≡ length (captured_in block)
+
 -- ---- readings
+
+-- whether what begins there reads tables: a query, or a reading of a table
+abbrev pub reads_tables : Layer → Bool
+reads_tables (Node-F.Query keys e) = true
+reads_tables (Node-F.Table t) = true
+reads_tables other = false
 
 module _ (p : Program) where
   -- what a query gives, or a reading of a table, as records
@@ -107,15 +118,15 @@ pub data IsLegal (p : Program) : Tables → List Event → Tables → Type 0 whe
   enter : {tables others : Tables} {events : List Event} → IsLegal p tables events others → IsLegal p tables (Enter ∷ events) others
   leave : {tables others : Tables} {events : List Event} → IsLegal p tables events others → IsLegal p tables (Leave ∷ events) others
   read : {tables others : Tables} {e : ReadEvent} {events : List Event} (block : Expr)
-      → block_at p e.site ≡ Some block → IsAnswer p tables block e.args e.answer
+      → block_at p e.site ≡ Some block → reads_tables (layer block) ≡ true → AreCaptured block e.args → IsAnswer p tables block e.args e.answer
       → IsLegal p tables events others → IsLegal p tables (Read e ∷ events) others
   insert : {tables others : Tables} {e : WriteEvent} {events : List Event} (block : Expr) (t : Word) (expr : Expr) (rows : List Row)
       → block_at p e.site ≡ Some block → layer block ≡ Node-F.Insert t expr → e.args ≡ rows_value rows ∷ []
       → length (after_insert t.text rows tables t.text) ≤ most_rows
       → IsLegal p (after_insert t.text rows tables) events others → IsLegal p tables (Write e ∷ events) others
   update : {tables others : Tables} {e : WriteEvent} {events : List Event} (block : Expr) (change : ChangeExpr)
-      → block_at p e.site ≡ Some block → layer block ≡ Node-F.Update change
+      → block_at p e.site ≡ Some block → layer block ≡ Node-F.Update change → AreCaptured block e.args
       → IsLegal p (after_update p (names_in block e.args) change tables) events others → IsLegal p tables (Write e ∷ events) others
   delete : {tables others : Tables} {e : WriteEvent} {events : List Event} (block : Expr) (change : ChangeExpr)
-      → block_at p e.site ≡ Some block → layer block ≡ Node-F.Delete change
+      → block_at p e.site ≡ Some block → layer block ≡ Node-F.Delete change → AreCaptured block e.args
       → IsLegal p (after_delete p (names_in block e.args) change tables) events others → IsLegal p tables (Write e ∷ events) others

@@ -14,8 +14,8 @@ use lk_ast::{Expr, List, NoMemory, Node, Row, SortKey, TableRows, Value, copy_ro
 use lk_index::Index;
 use std::alloc::Global;
 
-/// The answer of a reading (a query, or a table) with what it captured: its rows in the order of its keys. None where what
-/// it gives isn't a list of rows. `NoMemory` as for `query_value`.
+/// The answer of a reading (a query, or a table) with what it captured: its rows in the order of its keys, and no rows where
+/// it gives no list. None where it gives a list in which something isn't a record of bases. `NoMemory` as for `query_value`.
 pub fn answer<'p>(
     alloc: Global,
     index: &Index<'p>,
