@@ -1,6 +1,6 @@
 -- What a lambda captures are its free names, and what it keeps are their values: with the types of these its body has the type
 -- that it had where the lambda stands. So it is with queries and changes of tables, which capture names of flat types.
-use Rattle.std.proofs.Common.{◌≡◌, refl, sym, ap, ap₂, ◌∙◌, subst, Bool, true, false, cond, List, [], ◌∷◌, ◌++◌, inl, inr, Option, Some, None, IsSome}
+use Rattle.std.proofs.Common.{◌≡◌, refl, sym, ap, ap₂, ◌∙◌, subst, Bool, true, false, cond, List, [], ◌∷◌, ◌++◌, length, inl, inr, Option, Some, None, IsSome}
 use Rattle.std.specs.Cmp.Lexicographic.{bytes_decides}
 use Rattle.std.specs.Str.{bytes_eq}
 use Rattle.lk_ast.specs.declared.declaration.Program.{Program}
@@ -18,7 +18,8 @@ use Rattle.lk_types.specs.declared.ground.Ground.{Ground}
 use Rattle.lk_typing.specs.Names.{Named, named, names_of, types_of, texts, Entry}
 use Rattle.lk_sound.proofs.Standing.{binds_all}
 use Rattle.lk_sound.proofs.Apart.{ordered_apart}
-use Rattle.lk_sound.proofs.Calls.{kept_fit}
+use Rattle.lk_sound.proofs.Calls.{kept_fit, length_names}
+use Rattle.lk_sound.proofs.Fitting.{as_many}
 use Rattle.lk_sound.proofs.Free.{AreKnown, outside_known, known_in}
 use Rattle.lk_sound.proofs.FreeLevels.{lambda_level}
 use Rattle.lk_sound.proofs.Names.{IsAmong}
@@ -118,12 +119,13 @@ closure_kept p i functions locals names l params own b are body fit =
 
 -- ---- queries and changes of tables
 
--- What a query or a change with these free names captures where local names have these values: plain values, and names that
--- stand for them have the types that they had.
+-- What a query or a change with these free names captures where local names have these values: plain values, one for each name,
+-- and names that stand for them have the types that they had.
 pub record IsCaptured (p : Program) (i : Instances) (locals : Named Ground) (names : Names) (words : List Label) : Type 0 where
   pub values : List Value
   pub kept : Named Ground
   pub found : lookup_all names (in_byte_order words) ≡ Some values
+  pub many : length values ≡ length (in_byte_order words)
   pub plain : ArePlain values
   pub fit : AreLocals p i kept (bind_each outer.no_names (in_byte_order words) values)
   pub same : (y : Label) → IsAmong y words → named y kept ≡ named y locals
@@ -148,6 +150,7 @@ captured_kept p i locals names words fit known flat =
       values = all.values;
       kept = all.kept;
       found = all.found;
+      many = as_many p i all.values (types_of all.kept) all.fit ∙ sym (length_names all.kept) ∙ ap length all.named_are;
       plain = all_plain p i all.values (types_of all.kept) all.fit all.each;
       fit = kept_fit p i all.kept (in_byte_order words) all.values all.named_are (ordered_apart words) all.fit;
       same = λ y among. all.same y (ordered_holds words y among);

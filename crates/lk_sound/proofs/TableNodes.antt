@@ -1,6 +1,6 @@
 -- Nodes that read and change tables: readings give rows over all tables that fit, and what is answered fits; changes leave rows
 -- that fit.
-use Rattle.std.proofs.Common.{◌≡◌, refl, sym, ap, ap₂, ◌∙◌, subst, ℕ, Bool, true, false, ◌&&◌, ◌||◌, List, [], ◌∷◌, map, Some}
+use Rattle.std.proofs.Common.{◌≡◌, refl, sym, ap, ap₂, ◌∙◌, subst, ℕ, Bool, true, false, ◌&&◌, ◌||◌, List, [], ◌∷◌, length, map, Some}
 use Rattle.lk_ast.specs.Layers.{Layer, layer}
 use Rattle.lk_ast.specs.Rows.{row_value, rows_value}
 use Rattle.lk_ast.specs.Tables.{Tables, tables_of, all_fit, row_fits}
@@ -17,7 +17,7 @@ use Rattle.lk_ast.specs.declared.value.Value.{Value}
 use Rattle.lk_ast.specs.declared.value.Value.TheVariants as value
 use Rattle.lk_bag.specs.Bag.{gives, items}
 use Rattle.lk_bag.specs.Blocks.{acts_on_tables, block_at, AreBlocksApart}
-use Rattle.lk_bag.specs.Legal.{bag, captured_by, names_in}
+use Rattle.lk_bag.specs.Legal.{AreCaptured, bag, captured_by, names_in, reads_tables}
 use Rattle.lk_evaluation.specs.Source.{Point, act, reads, writes}
 use Rattle.lk_evaluation.specs.Syntax.{parts_of}
 use Rattle.lk_ground_types.specs.Shapes.{base_level, row_level, rows_level, is_flat, is_flat_row, is_query_type}
@@ -57,7 +57,7 @@ use Rattle.lk_sound.proofs.TableRows.{table_found, rows_of_table, flat_rows, all
 use Rattle.lk_sound.proofs.TextBlocks.{own_block, block_found}
 use Rattle.lk_sound.proofs.UpdatedRows.{updated_fits}
 
--- ---- bags by layers
+-- ---- bags and captured names by layers
 
 abbrev by_layer : Program → Tables → Expr → Layer → List Value → List Value
 by_layer p tables block (Node-F.Query keys e) args = items (gives p tables e (names_in block args))
@@ -66,6 +66,9 @@ by_layer p tables block other args = []
 
 bag_of : (p : Program) (tables : Tables) (block : Expr) (l : Layer) (args : List Value) → layer block ≡ l → bag p tables block args ≡ by_layer p tables block l args
 bag_of p tables block l args is = ap (λ k. by_layer p tables block k args) is
+
+captured_of : (block : Expr) (l : Layer) (args : List Value) → layer block ≡ l → length args ≡ length (captured_by l) → AreCaptured block args
+captured_of block l args is many = many ∙ sym (ap (λ k. length (captured_by k)) is)
 
 -- ---- rows that are inserted
 
@@ -111,7 +114,14 @@ module _ (p : Program) (i : Instances) (bound : IsBound p) (apart : AreBlocksApa
   table_node x row is has scans =
       let there : block_at p site ≡ Some point.expr = found (Node-F.Table x) is refl in
       let bags : (tables : Tables) → bag p tables point.expr [] ≡ map row_value (tables x.text) = λ tables. bag_of p tables point.expr (Node-F.Table x) [] is in
-      let reading : IsReading p site [] = record { block = point.expr; found = there; plain = refl; rows = λ tables are. (tables x.text, bags tables) } in
+      let reading : IsReading p site [] = record {
+        block = point.expr;
+        found = there;
+        reads = ap reads_tables is;
+        captured = captured_of point.expr (Node-F.Table x) [] is refl;
+        plain = refl;
+        rows = λ tables are. (tables x.text, bags tables);
+      } in
       alone (known.List (record_of row)) (Node-F.Table x) is refl
       (scans, reading, nothing_captured p i site point.expr there [] (Node-F.Table x) is refl, answered p i point.expr site [] (record_of row) there (λ tables are. subst (λ vs. AllFit p i vs (record_of row)) (sym (bags tables)) (rows_of_table p i tables are x.text row has)))
 
@@ -135,6 +145,8 @@ module _ (p : Program) (i : Instances) (bound : IsBound p) (apart : AreBlocksApa
       let reading : IsReading p site all.values = record {
         block = point.expr;
         found = there;
+        reads = ap reads_tables is;
+        captured = captured_of point.expr (Node-F.Query keys body) all.values is all.many;
         plain = all.plain;
         rows = λ tables are. flat_rows p i a (flat_list a block.parts.0.type) (bag p tables point.expr all.values) (bags tables are);
       } in
@@ -175,7 +187,7 @@ module _ (p : Program) (i : Instances) (bound : IsBound p) (apart : AreBlocksApa
       alone unit (Node-F.Update change) is refl
       (subst (λ o. IsAct p i effects unit (writes point.expr.span o)) (sym all.found) (
         writes_them,
-        IsWriting.update point.expr change table.0 there is table.1 all.plain (updated_fits p i bound closed functions all.kept change inside again flat (names_in point.expr all.values) names_fit table.0 table.1),
+        IsWriting.update point.expr change table.0 there is table.1 (captured_of point.expr (Node-F.Update change) all.values is all.many) all.plain (updated_fits p i bound closed functions all.kept change inside again flat (names_in point.expr all.values) names_fit table.0 table.1),
         block_captured p i site point.expr there locals point.names fit (Node-F.Update change) is _ _ refl refl fine.listed (change_known d scope.no_names) all.values all.found,
         refl,
       ))
@@ -190,7 +202,7 @@ module _ (p : Program) (i : Instances) (bound : IsBound p) (apart : AreBlocksApa
       alone unit (Node-F.Delete change) is refl
       (subst (λ o. IsAct p i effects unit (writes point.expr.span o)) (sym all.found) (
         writes_them,
-        IsWriting.delete point.expr change table.0 there is table.1 all.plain,
+        IsWriting.delete point.expr change table.0 there is table.1 (captured_of point.expr (Node-F.Delete change) all.values is all.many) all.plain,
         block_captured p i site point.expr there locals point.names fit (Node-F.Delete change) is _ _ refl refl fine.listed (change_known d scope.no_names) all.values all.found,
         refl,
       ))

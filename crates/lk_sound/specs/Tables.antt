@@ -17,7 +17,7 @@ use Rattle.lk_ast.specs.declared.table.TableDef.{TableDef}
 use Rattle.lk_ast.specs.declared.value.Value.{Value}
 use Rattle.lk_bag.specs.Blocks.{block_at}
 use Rattle.lk_bag.specs.Change.{updated}
-use Rattle.lk_bag.specs.Legal.{bag, names_in}
+use Rattle.lk_bag.specs.Legal.{AreCaptured, bag, names_in, reads_tables}
 use Rattle.lk_types.specs.Each.{Each}
 
 -- the rows of each declared table fit it
@@ -32,21 +32,24 @@ table_at p x = find (λ (def : TableDef). bytes_eq def.name x) (table_defs p)
 abbrev pub ArePlain : List Value → Type 0
 ArePlain args = list_any holds_function args ≡ false
 
--- a reading of the program, with what it captured: over all tables that fit it gives rows
+-- a query or a table of the program, with a value for each name that it captures: over all tables that fit it gives rows
 pub record IsReading (p : Program) (site : ℕ) (args : List Value) : Type 0 where
   pub block : Expr
   pub found : block_at p site ≡ Some block
+  pub reads : reads_tables (layer block) ≡ true
+  pub captured : AreCaptured block args
   pub plain : ArePlain args
   pub rows : (tables : Tables) → AreTables p tables → (rows : List Row) × (bag p tables block args ≡ map row_value rows)
 
--- A writing of the program, with the rows to be inserted or what it captured: the rows of its table fit behind it, too.
+-- A writing of the program, with the rows to be inserted or a value for each name that it captures: the rows of its table fit
+-- behind it, too.
 pub data IsWriting (p : Program) (site : ℕ) (args : List Value) : Type 0 where
   insert : (block : Expr) (t : Word) (e : Expr) (def : TableDef) (rows : List Row) → block_at p site ≡ Some block → layer block ≡ Node-F.Insert t e → table_at p t.text ≡ Some def
       → args ≡ rows_value rows ∷ [] → all_fit def rows ≡ true → IsWriting p site args
   update : (block : Expr) (change : ChangeExpr) (def : TableDef) → block_at p site ≡ Some block → layer block ≡ Node-F.Update change → table_at p (out-ChangeExpr change).table.text ≡ Some def
-      → ArePlain args → ((row : Row) → row_fits def row ≡ true → row_fits def (updated p (names_in block args) change row) ≡ true) → IsWriting p site args
+      → AreCaptured block args → ArePlain args → ((row : Row) → row_fits def row ≡ true → row_fits def (updated p (names_in block args) change row) ≡ true) → IsWriting p site args
   delete : (block : Expr) (change : ChangeExpr) (def : TableDef) → block_at p site ≡ Some block → layer block ≡ Node-F.Delete change → table_at p (out-ChangeExpr change).table.text ≡ Some def
-      → ArePlain args → IsWriting p site args
+      → AreCaptured block args → ArePlain args → IsWriting p site args
 
 -- a reading was answered by its bag over tables that fit, in some order
 abbrev pub IsAnswered : Program → Event → Type 0
