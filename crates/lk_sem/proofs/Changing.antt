@@ -19,7 +19,7 @@ use Rattle.lk_ast.specs.declared.table.TableDef.{TableDef}
 use Rattle.lk_ast.specs.declared.value.Value.{Value}
 use Rattle.lk_bag.specs.Blocks.{block_at}
 use Rattle.lk_bag.specs.Change.{with_rows, updated, is_met, after_insert, after_update, after_delete}
-use Rattle.lk_bag.specs.Legal.{AreSame, IsLegal, insert, update, delete, most_rows, names_in}
+use Rattle.lk_bag.specs.Legal.{AreCaptured, AreSame, IsLegal, insert, update, delete, most_rows, names_in}
 use Rattle.lk_names.specs.Programs.{IsBound}
 use Rattle.lk_outside.specs.Store.{Changes, Puts}
 use Rattle.lk_types.proofs.Members.{each_in, each_of_in, found_in}
@@ -135,12 +135,12 @@ module _ (p : Program) (bound : IsBound p) (site : ℕ) (args : List Value) (blo
       let shuffled : IsPermutation (map new_row (before x)) rows = subst (IsPermutation (map new_row (before x))) (sym are) (IsPermutation-map new_row (before x) there (was_there before scanned)) in
       let same = same_puts x before after (map new_row (before x)) rows at shuffled in
       record {
-        follows = record { on = λ more last legal. update block change u.found u.updates (legal_same p (after_update p (names_in block args) change before) after more last same legal) };
+        follows = record { on = λ more last legal. update block change u.found u.updates u.captured (legal_same p (after_update p (names_in block args) change before) after more last same legal) };
         fit = fit_after p bound x def found before after rows at (update_fits u are);
         others = leaves_others p x def found before after rows at;
       }
 
-  pub changed_delete : IsDeletion p site block change → (old new : Option Tables) → IfSome old (λ told. IsPermutation (told def.name) there) → rows ≡ filter stays there → Changes old new def.name (λ r. rows) → HasChanged p site args old new
+  pub changed_delete : IsDeletion p site args block change → (old new : Option Tables) → IfSome old (λ told. IsPermutation (told def.name) there) → rows ≡ filter stays there → Changes old new def.name (λ r. rows) → HasChanged p site args old new
   changed_delete u None new scanned are puts = puts
   changed_delete u (Some before) None scanned are puts = absurd puts
   changed_delete u (Some before) (Some after) scanned are puts =
@@ -148,7 +148,7 @@ module _ (p : Program) (bound : IsBound p) (site : ℕ) (args : List Value) (blo
       let shuffled : IsPermutation (filter stays (before x)) rows = subst (IsPermutation (filter stays (before x))) (sym are) (IsPermutation-filter stays (before x) there (was_there before scanned)) in
       let same = same_puts x before after (filter stays (before x)) rows at shuffled in
       record {
-        follows = record { on = λ more last legal. delete block change u.found u.deletes (legal_same p (after_delete p (names_in block args) change before) after more last same legal) };
+        follows = record { on = λ more last legal. delete block change u.found u.deletes u.captured (legal_same p (after_delete p (names_in block args) change before) after more last same legal) };
         fit = fit_after p bound x def found before after rows at (delete_fits are);
         others = leaves_others p x def found before after rows at;
       }
@@ -230,15 +230,15 @@ is_insertion p site args block t e found is (sound.IsWriting.insert b t' e' def 
     let both : Node-F.Insert t' e' ≡ Node-F.Insert t e = sym is' ∙ ap layer same ∙ is in
     let words : t' ≡ t = cc in
     record { block = b; expr = e; def = def; rows = rows; found = found'; inserts = ap layer same ∙ is; declared = ap (λ (w : Word). table_at p w.text) (sym words) ∙ declared; are = are; fit = fit }
-is_insertion p site args block t e found is (sound.IsWriting.update b change def found' is' declared plain fit) =
+is_insertion p site args block t e found is (sound.IsWriting.update b change def found' is' declared captured plain fit) =
     let same : b ≡ block = same_some (sym found' ∙ found) in
     let both : Node-F.Update change ≡ Node-F.Insert t e = sym is' ∙ ap layer same ∙ is in absurd cc
-is_insertion p site args block t e found is (sound.IsWriting.delete b change def found' is' declared plain) =
+is_insertion p site args block t e found is (sound.IsWriting.delete b change def found' is' declared captured plain) =
     let same : b ≡ block = same_some (sym found' ∙ found) in
     let both : Node-F.Delete change ≡ Node-F.Insert t e = sym is' ∙ ap layer same ∙ is in absurd cc
 
 pub is_update : (p : Program) (site : ℕ) (args : List Value) (block : Expr) (change : ChangeExpr) → block_at p site ≡ Some block → layer block ≡ Node-F.Update change → IsWriting p site args → IsUpdate p site args block change
-is_update p site args block change found is (sound.IsWriting.update b other def found' is' declared plain fit) =
+is_update p site args block change found is (sound.IsWriting.update b other def found' is' declared captured plain fit) =
     let same : b ≡ block = same_some (sym found' ∙ found) in
     let both : Node-F.Update other ≡ Node-F.Update change = sym is' ∙ ap layer same ∙ is in
     let changes : other ≡ change = cc in
@@ -246,25 +246,26 @@ is_update p site args block change found is (sound.IsWriting.update b other def 
       def = def;
       found = found;
       updates = is;
+      captured = subst (λ e. AreCaptured e args) same captured;
       declared = ap (λ c. table_at p (out-ChangeExpr c).table.text) (sym changes) ∙ declared;
       fit = λ row one. subst (λ e. row_fits def (updated p (names_in e args) change row) ≡ true) same (subst (λ c. row_fits def (updated p (names_in b args) c row) ≡ true) changes (fit row one));
     }
 is_update p site args block change found is (sound.IsWriting.insert b t e def rows found' is' declared are fit) =
     let same : b ≡ block = same_some (sym found' ∙ found) in
     let both : Node-F.Insert t e ≡ Node-F.Update change = sym is' ∙ ap layer same ∙ is in absurd cc
-is_update p site args block change found is (sound.IsWriting.delete b other def found' is' declared plain) =
+is_update p site args block change found is (sound.IsWriting.delete b other def found' is' declared captured plain) =
     let same : b ≡ block = same_some (sym found' ∙ found) in
     let both : Node-F.Delete other ≡ Node-F.Update change = sym is' ∙ ap layer same ∙ is in absurd cc
 
-pub is_deletion : (p : Program) (site : ℕ) (args : List Value) (block : Expr) (change : ChangeExpr) → block_at p site ≡ Some block → layer block ≡ Node-F.Delete change → IsWriting p site args → IsDeletion p site block change
-is_deletion p site args block change found is (sound.IsWriting.delete b other def found' is' declared plain) =
+pub is_deletion : (p : Program) (site : ℕ) (args : List Value) (block : Expr) (change : ChangeExpr) → block_at p site ≡ Some block → layer block ≡ Node-F.Delete change → IsWriting p site args → IsDeletion p site args block change
+is_deletion p site args block change found is (sound.IsWriting.delete b other def found' is' declared captured plain) =
     let same : b ≡ block = same_some (sym found' ∙ found) in
     let both : Node-F.Delete other ≡ Node-F.Delete change = sym is' ∙ ap layer same ∙ is in
     let changes : other ≡ change = cc in
-    record { def = def; found = found; deletes = is; declared = ap (λ c. table_at p (out-ChangeExpr c).table.text) (sym changes) ∙ declared }
+    record { def = def; found = found; deletes = is; captured = subst (λ e. AreCaptured e args) same captured; declared = ap (λ c. table_at p (out-ChangeExpr c).table.text) (sym changes) ∙ declared }
 is_deletion p site args block change found is (sound.IsWriting.insert b t e def rows found' is' declared are fit) =
     let same : b ≡ block = same_some (sym found' ∙ found) in
     let both : Node-F.Insert t e ≡ Node-F.Delete change = sym is' ∙ ap layer same ∙ is in absurd cc
-is_deletion p site args block change found is (sound.IsWriting.update b other def found' is' declared plain fit) =
+is_deletion p site args block change found is (sound.IsWriting.update b other def found' is' declared captured plain fit) =
     let same : b ≡ block = same_some (sym found' ∙ found) in
     let both : Node-F.Update other ≡ Node-F.Delete change = sym is' ∙ ap layer same ∙ is in absurd cc

@@ -44,16 +44,16 @@ module _ (p : Program) where
   legal_same x y _ last same (print rest) = print (legal_same x y _ last same rest)
   legal_same x y _ last same (enter rest) = enter (legal_same x y _ last same rest)
   legal_same x y _ last same (leave rest) = leave (legal_same x y _ last same rest)
-  legal_same x y _ last same (read block found a rest) = read block found (same_answer x y block _ _ same a) (legal_same x y _ last same rest)
+  legal_same x y _ last same (read block found reads captured a rest) = read block found reads captured (same_answer x y block _ _ same a) (legal_same x y _ last same rest)
   legal_same x y _ last same (insert block t expr rows found is are few rest) =
       let same_after = same_insert t.text rows x y same in
       insert block t expr rows found is are (subst (λ n. n ≤ most_rows) (length_permutation _ _ (same_after t.text)) few) (legal_same (after_insert t.text rows x) (after_insert t.text rows y) _ last same_after rest)
-  legal_same x y _ last same (update {e = e} block change found is rest) =
+  legal_same x y _ last same (update {e = e} block change found is captured rest) =
       let name = (out-ChangeExpr change).table.text in
-      update block change found is (legal_same (after_update p (names_in block e.args) change x) (after_update p (names_in block e.args) change y) _ last (same_with_rows name _ _ x y (IsPermutation-map _ _ _ (same name)) same) rest)
-  legal_same x y _ last same (delete {e = e} block change found is rest) =
+      update block change found is captured (legal_same (after_update p (names_in block e.args) change x) (after_update p (names_in block e.args) change y) _ last (same_with_rows name _ _ x y (IsPermutation-map _ _ _ (same name)) same) rest)
+  legal_same x y _ last same (delete {e = e} block change found is captured rest) =
       let name = (out-ChangeExpr change).table.text in
-      delete block change found is (legal_same (after_delete p (names_in block e.args) change x) (after_delete p (names_in block e.args) change y) _ last (same_with_rows name _ _ x y (IsPermutation-filter _ _ _ (same name)) same) rest)
+      delete block change found is captured (legal_same (after_delete p (names_in block e.args) change x) (after_delete p (names_in block e.args) change y) _ last (same_with_rows name _ _ x y (IsPermutation-filter _ _ _ (same name)) same) rest)
 
   -- ---- histories
 

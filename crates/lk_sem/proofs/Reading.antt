@@ -14,7 +14,7 @@ use Rattle.lk_ast.specs.declared.table.TableDef.{TableDef}
 use Rattle.lk_ast.specs.declared.table.TableRows.{TableRows}
 use Rattle.lk_ast.specs.declared.value.Value.{Value}
 use Rattle.lk_bag.specs.Blocks.{block_at}
-use Rattle.lk_bag.specs.Legal.{AreSame, AreSorted, bag, keys_at, read}
+use Rattle.lk_bag.specs.Legal.{AreCaptured, AreSame, AreSorted, bag, keys_at, read, reads_tables}
 use Rattle.lk_names.specs.Programs.{IsBound}
 use Rattle.lk_sound.proofs.Names.{AreDistinct, IsAmong}
 use Rattle.lk_sound.specs.Tables.{AreTables, IsAnswered, IsReading}
@@ -98,7 +98,12 @@ module _ (p : Program) (bound : IsBound p) (told : Option Tables) (site : ℕ) (
   follows_told block found rows same sorted tables scanned =
       let whole : Tables = filled ts tables in
       let bags : bag p whole block args ≡ bag p (rows_of ts) block args = same_bag p whole (rows_of ts) (agree_filled (Some tables) tables (table_defs p) ts scanned) bound site block found args in
-      record { on = λ more last legal. read block found (whole, same_filled tables (table_defs p) ts scanned, subst (λ b. IsPermutation b (map row_value rows)) (sym bags) same, sorted) legal }
+      let is : reading.block ≡ block = same_block p site args reading block found in
+      let reads : reads_tables (layer block) ≡ true = subst (λ b. reads_tables (layer b) ≡ true) is reading.reads in
+      let captured : AreCaptured block args = subst (λ b. AreCaptured b args) is reading.captured in
+      record {
+        on = λ more last legal. read block found reads captured (whole, same_filled tables (table_defs p) ts scanned, subst (λ b. IsPermutation b (map row_value rows)) (sym bags) same, sorted) legal;
+      }
 
 pub followed_answer : (p : Program) → IsBound p → (told : Option Tables) (site : ℕ) (args : List Value) → IsReading p site args → (ts : List TableRows) → AreScanned told (table_defs p) ts → (block : Expr) → block_at p site ≡ Some block
     → (rows : List Row) → IsPermutation (bag p (rows_of ts) block args) (map row_value rows) → AreSorted (keys_at (layer block)) rows → HasFollowed p told told (read_event site args rows)

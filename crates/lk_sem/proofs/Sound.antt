@@ -73,8 +73,8 @@ unread_answered p (entry ∷ log) all = (go entry.event all.0, unread_answered p
 
 plain_args : (p : Program) (site : ℕ) (args : List Value) → IsWriting p site args → ArePlain args
 plain_args p site args (sound.IsWriting.insert b t e def rows found is declared are fit) = subst ArePlain (sym are) (plain_rows rows)
-plain_args p site args (sound.IsWriting.update b change def found is declared plain fit) = plain
-plain_args p site args (sound.IsWriting.delete b change def found is declared plain) = plain
+plain_args p site args (sound.IsWriting.update b change def found is declared captured plain fit) = plain
+plain_args p site args (sound.IsWriting.delete b change def found is declared captured plain) = plain
 
 plain_event : (p : Program) (i : Instances) (effects : EffectSet) (e : Event) → Allows p i effects e → IsPlainEvent e
 plain_event p i effects (Print bytes) h = tt

@@ -211,7 +211,7 @@ fn delete_rows<'p>(
     requires apart { AreBoundAndApart catalog.now }
     requires under_way { is_open store.old ≡ true }
     requires fit { AreFit catalog.now (tables store.old) }
-    requires deletion { IsDeletion catalog.now site block.now change.now }
+    requires deletion { IsDeletion catalog.now site args.now block.now change.now }
     ensures name { name store.new ≡ name store.old }
     ensures under_way { is_open store.new ≡ true }
     ensures kept { kept store.new ≡ kept store.old }
