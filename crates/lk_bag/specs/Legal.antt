@@ -54,8 +54,8 @@ abbrev pub names_in : Expr → List Value → Names
 names_in block args = bind_each locals.no_names (captured_in block) args
 
 -- there is a value for each name that is captured
-abbrev pub AreCaptured : Expr → List Value → Type 0
-AreCaptured block args = length args ≡ length (captured_in block)
+abbrev pub AreAllCaptured : Expr → List Value → Type 0
+AreAllCaptured block args = length args ≡ length (captured_in block)
 
 -- ---- readings
 
@@ -118,15 +118,15 @@ pub data IsLegal (p : Program) : Tables → List Event → Tables → Type 0 whe
   enter : {tables others : Tables} {events : List Event} → IsLegal p tables events others → IsLegal p tables (Enter ∷ events) others
   leave : {tables others : Tables} {events : List Event} → IsLegal p tables events others → IsLegal p tables (Leave ∷ events) others
   read : {tables others : Tables} {e : ReadEvent} {events : List Event} (block : Expr)
-      → block_at p e.site ≡ Some block → reads_tables (layer block) ≡ true → AreCaptured block e.args → IsAnswer p tables block e.args e.answer
+      → block_at p e.site ≡ Some block → reads_tables (layer block) ≡ true → AreAllCaptured block e.args → IsAnswer p tables block e.args e.answer
       → IsLegal p tables events others → IsLegal p tables (Read e ∷ events) others
   insert : {tables others : Tables} {e : WriteEvent} {events : List Event} (block : Expr) (t : Word) (expr : Expr) (rows : List Row)
       → block_at p e.site ≡ Some block → layer block ≡ Node-F.Insert t expr → e.args ≡ rows_value rows ∷ []
       → length (after_insert t.text rows tables t.text) ≤ most_rows
       → IsLegal p (after_insert t.text rows tables) events others → IsLegal p tables (Write e ∷ events) others
   update : {tables others : Tables} {e : WriteEvent} {events : List Event} (block : Expr) (change : ChangeExpr)
-      → block_at p e.site ≡ Some block → layer block ≡ Node-F.Update change → AreCaptured block e.args
+      → block_at p e.site ≡ Some block → layer block ≡ Node-F.Update change → AreAllCaptured block e.args
       → IsLegal p (after_update p (names_in block e.args) change tables) events others → IsLegal p tables (Write e ∷ events) others
   delete : {tables others : Tables} {e : WriteEvent} {events : List Event} (block : Expr) (change : ChangeExpr)
-      → block_at p e.site ≡ Some block → layer block ≡ Node-F.Delete change → AreCaptured block e.args
+      → block_at p e.site ≡ Some block → layer block ≡ Node-F.Delete change → AreAllCaptured block e.args
       → IsLegal p (after_delete p (names_in block e.args) change tables) events others → IsLegal p tables (Write e ∷ events) others

@@ -40,8 +40,8 @@ rows_alone rows = λ i. rows_plain rows i || false
 
 written_plain : (p : Program) (site : ℕ) (args : List Value) → IsWriting p site args → ArePlain args
 written_plain p site args (IsWriting.insert block t e def rows found inserts at are fit) = subst ArePlain (sym are) (rows_alone rows)
-written_plain p site args (IsWriting.update block change def found updates at plain fit) = plain
-written_plain p site args (IsWriting.delete block change def found deletes at plain) = plain
+written_plain p site args (IsWriting.update block change def found updates at captured plain fit) = plain
+written_plain p site args (IsWriting.delete block change def found deletes at captured plain) = plain
 
 module _ (p : Program) (i : Instances) (effects : EffectSet) where
   event_plain : (e : Event) → Allows p i effects e → IsPlainEvent e

@@ -19,7 +19,7 @@ use Rattle.lk_ast.specs.declared.table.TableDef.{TableDef}
 use Rattle.lk_ast.specs.declared.value.Value.{Value}
 use Rattle.lk_bag.specs.Blocks.{block_at}
 use Rattle.lk_bag.specs.Change.{with_rows, updated, is_met, after_insert, after_update, after_delete}
-use Rattle.lk_bag.specs.Legal.{AreCaptured, AreSame, IsLegal, insert, update, delete, most_rows, names_in}
+use Rattle.lk_bag.specs.Legal.{AreAllCaptured, AreSame, IsLegal, insert, update, delete, most_rows, names_in}
 use Rattle.lk_names.specs.Programs.{IsBound}
 use Rattle.lk_outside.specs.Store.{Changes, Puts}
 use Rattle.lk_types.proofs.Members.{each_in, each_of_in, found_in}
@@ -246,7 +246,7 @@ is_update p site args block change found is (sound.IsWriting.update b other def 
       def = def;
       found = found;
       updates = is;
-      captured = subst (λ e. AreCaptured e args) same captured;
+      captured = subst (λ e. AreAllCaptured e args) same captured;
       declared = ap (λ c. table_at p (out-ChangeExpr c).table.text) (sym changes) ∙ declared;
       fit = λ row one. subst (λ e. row_fits def (updated p (names_in e args) change row) ≡ true) same (subst (λ c. row_fits def (updated p (names_in b args) c row) ≡ true) changes (fit row one));
     }
@@ -262,7 +262,7 @@ is_deletion p site args block change found is (sound.IsWriting.delete b other de
     let same : b ≡ block = same_some (sym found' ∙ found) in
     let both : Node-F.Delete other ≡ Node-F.Delete change = sym is' ∙ ap layer same ∙ is in
     let changes : other ≡ change = cc in
-    record { def = def; found = found; deletes = is; captured = subst (λ e. AreCaptured e args) same captured; declared = ap (λ c. table_at p (out-ChangeExpr c).table.text) (sym changes) ∙ declared }
+    record { def = def; found = found; deletes = is; captured = subst (λ e. AreAllCaptured e args) same captured; declared = ap (λ c. table_at p (out-ChangeExpr c).table.text) (sym changes) ∙ declared }
 is_deletion p site args block change found is (sound.IsWriting.insert b t e def rows found' is' declared are fit) =
     let same : b ≡ block = same_some (sym found' ∙ found) in
     let both : Node-F.Insert t e ≡ Node-F.Delete change = sym is' ∙ ap layer same ∙ is in absurd cc

@@ -14,7 +14,7 @@ use Rattle.lk_ast.specs.declared.table.TableDef.{TableDef}
 use Rattle.lk_ast.specs.declared.table.TableRows.{TableRows}
 use Rattle.lk_ast.specs.declared.value.Value.{Value}
 use Rattle.lk_bag.specs.Blocks.{block_at}
-use Rattle.lk_bag.specs.Legal.{AreCaptured, AreSame, AreSorted, bag, keys_at, read, reads_tables}
+use Rattle.lk_bag.specs.Legal.{AreAllCaptured, AreSame, AreSorted, bag, keys_at, read, reads_tables}
 use Rattle.lk_names.specs.Programs.{IsBound}
 use Rattle.lk_sound.proofs.Names.{AreDistinct, IsAmong}
 use Rattle.lk_sound.specs.Tables.{AreTables, IsAnswered, IsReading}
@@ -100,7 +100,7 @@ module _ (p : Program) (bound : IsBound p) (told : Option Tables) (site : ℕ) (
       let bags : bag p whole block args ≡ bag p (rows_of ts) block args = same_bag p whole (rows_of ts) (agree_filled (Some tables) tables (table_defs p) ts scanned) bound site block found args in
       let is : reading.block ≡ block = same_block p site args reading block found in
       let reads : reads_tables (layer block) ≡ true = subst (λ b. reads_tables (layer b) ≡ true) is reading.reads in
-      let captured : AreCaptured block args = subst (λ b. AreCaptured b args) is reading.captured in
+      let captured : AreAllCaptured block args = subst (λ b. AreAllCaptured b args) is reading.captured in
       record {
         on = λ more last legal. read block found reads captured (whole, same_filled tables (table_defs p) ts scanned, subst (λ b. IsPermutation b (map row_value rows)) (sym bags) same, sorted) legal;
       }

@@ -13,7 +13,7 @@ use Rattle.lk_ast.specs.declared.table.TableDef.{TableDef}
 use Rattle.lk_ast.specs.declared.value.Value.{Value}
 use Rattle.lk_bag.specs.Blocks.{block_at}
 use Rattle.lk_bag.specs.Change.{updated}
-use Rattle.lk_bag.specs.Legal.{AreCaptured, most_rows, names_in}
+use Rattle.lk_bag.specs.Legal.{AreAllCaptured, most_rows, names_in}
 use Rattle.lk_outside.specs.Store.{Changes}
 use Rattle.lk_sound.specs.Tables.{AreTables, table_at}
 use Rattle.lk_sem.specs.Histories.{Follows, write_event}
@@ -40,7 +40,7 @@ pub record IsUpdate (p : Program) (site : ℕ) (args : List Value) (block : Expr
   pub def : TableDef
   pub found : block_at p site ≡ Some block
   pub updates : layer block ≡ Node-F.Update change
-  pub captured : AreCaptured block args
+  pub captured : AreAllCaptured block args
   pub declared : table_at p (out-ChangeExpr change).table.text ≡ Some def
   pub fit : (row : Row) → row_fits def row ≡ true → row_fits def (updated p (names_in block args) change row) ≡ true
 
@@ -49,7 +49,7 @@ pub record IsDeletion (p : Program) (site : ℕ) (args : List Value) (block : Ex
   pub def : TableDef
   pub found : block_at p site ≡ Some block
   pub deletes : layer block ≡ Node-F.Delete change
-  pub captured : AreCaptured block args
+  pub captured : AreAllCaptured block args
   pub declared : table_at p (out-ChangeExpr change).table.text ≡ Some def
 
 -- ---- what the tables are then

@@ -17,7 +17,7 @@ use Rattle.lk_ast.specs.declared.value.Value.{Value}
 use Rattle.lk_ast.specs.declared.value.Value.TheVariants as value
 use Rattle.lk_bag.specs.Bag.{gives, items}
 use Rattle.lk_bag.specs.Blocks.{acts_on_tables, block_at, AreBlocksApart}
-use Rattle.lk_bag.specs.Legal.{AreCaptured, bag, captured_by, names_in, reads_tables}
+use Rattle.lk_bag.specs.Legal.{AreAllCaptured, bag, captured_by, names_in, reads_tables}
 use Rattle.lk_evaluation.specs.Source.{Point, act, reads, writes}
 use Rattle.lk_evaluation.specs.Syntax.{parts_of}
 use Rattle.lk_ground_types.specs.Shapes.{base_level, row_level, rows_level, is_flat, is_flat_row, is_query_type}
@@ -67,7 +67,7 @@ by_layer p tables block other args = []
 bag_of : (p : Program) (tables : Tables) (block : Expr) (l : Layer) (args : List Value) → layer block ≡ l → bag p tables block args ≡ by_layer p tables block l args
 bag_of p tables block l args is = ap (λ k. by_layer p tables block k args) is
 
-captured_of : (block : Expr) (l : Layer) (args : List Value) → layer block ≡ l → length args ≡ length (captured_by l) → AreCaptured block args
+captured_of : (block : Expr) (l : Layer) (args : List Value) → layer block ≡ l → length args ≡ length (captured_by l) → AreAllCaptured block args
 captured_of block l args is many = many ∙ sym (ap (λ k. length (captured_by k)) is)
 
 -- ---- rows that are inserted

@@ -17,7 +17,7 @@ use Rattle.lk_ast.specs.declared.table.TableDef.{TableDef}
 use Rattle.lk_ast.specs.declared.value.Value.{Value}
 use Rattle.lk_bag.specs.Blocks.{block_at}
 use Rattle.lk_bag.specs.Change.{updated}
-use Rattle.lk_bag.specs.Legal.{AreCaptured, bag, names_in, reads_tables}
+use Rattle.lk_bag.specs.Legal.{AreAllCaptured, bag, names_in, reads_tables}
 use Rattle.lk_types.specs.Each.{Each}
 
 -- the rows of each declared table fit it
@@ -37,7 +37,7 @@ pub record IsReading (p : Program) (site : ℕ) (args : List Value) : Type 0 whe
   pub block : Expr
   pub found : block_at p site ≡ Some block
   pub reads : reads_tables (layer block) ≡ true
-  pub captured : AreCaptured block args
+  pub captured : AreAllCaptured block args
   pub plain : ArePlain args
   pub rows : (tables : Tables) → AreTables p tables → (rows : List Row) × (bag p tables block args ≡ map row_value rows)
 
@@ -47,9 +47,9 @@ pub data IsWriting (p : Program) (site : ℕ) (args : List Value) : Type 0 where
   insert : (block : Expr) (t : Word) (e : Expr) (def : TableDef) (rows : List Row) → block_at p site ≡ Some block → layer block ≡ Node-F.Insert t e → table_at p t.text ≡ Some def
       → args ≡ rows_value rows ∷ [] → all_fit def rows ≡ true → IsWriting p site args
   update : (block : Expr) (change : ChangeExpr) (def : TableDef) → block_at p site ≡ Some block → layer block ≡ Node-F.Update change → table_at p (out-ChangeExpr change).table.text ≡ Some def
-      → AreCaptured block args → ArePlain args → ((row : Row) → row_fits def row ≡ true → row_fits def (updated p (names_in block args) change row) ≡ true) → IsWriting p site args
+      → AreAllCaptured block args → ArePlain args → ((row : Row) → row_fits def row ≡ true → row_fits def (updated p (names_in block args) change row) ≡ true) → IsWriting p site args
   delete : (block : Expr) (change : ChangeExpr) (def : TableDef) → block_at p site ≡ Some block → layer block ≡ Node-F.Delete change → table_at p (out-ChangeExpr change).table.text ≡ Some def
-      → AreCaptured block args → ArePlain args → IsWriting p site args
+      → AreAllCaptured block args → ArePlain args → IsWriting p site args
 
 -- a reading was answered by its bag over tables that fit, in some order
 abbrev pub IsAnswered : Program → Event → Type 0
