@@ -1,5 +1,6 @@
 -- What operations give on base values: integers of 64 bits in two's complement, which wrap round, truth values, and texts, which
--- are compared by their bytes. All of them are total: at a base of another kind each takes 0, false or the empty text.
+-- are compared by their bytes. All of them are total: at a base of another kind each takes 0, false or the empty text, but that two
+-- bases of different kinds compare as equal.
 use Rattle.std.specs.Prelude.{ℕ, ℤ, pos, Bool, false, not, ◌&&◌, ◌||◌, List, [], ◌∷◌, ◌++◌}
 use Rattle.std.specs.Int.{w64, int_wrapping_add, int_wrapping_sub, int_wrapping_mul, int_wrapping_neg}
 use Rattle.std.specs.Ordering.{is_eq, is_lt, is_le, is_gt, is_ge}
