@@ -44,6 +44,7 @@ fn large_file_of_the_system(rt: HostRuntime) -> Result<(), Fail> {
 const LINE: &[u8] = b"one line\n";
 
 // An output that takes this piece, written whole and at once, and refuses all else.
+#[derive(Drop)]
 struct OnlyWhole<'p> {
     piece: &'p [u8],
 }
