@@ -75,7 +75,7 @@ def missing(crate, section):
 def main():
     sections = dict(HEADING.findall(text_of("docs/CLAIMS.md")))
     crates = [name for name in sorted(os.listdir("crates")) if os.path.exists(f"crates/{name}/src/lib.rt")]
-    crates = [name for name in crates if not name.endswith("_tests")]
+    crates = [name for name in crates if not name.endswith("_tests") and name != "case_files"]
     found = [it for crate in crates for it in missing(crate, sections.get(crate, ""))]
     print("\n".join([*found, f"{len(crates)} crates, {len(found)} names that aren't there"]))
     return 1 if found else 0

@@ -75,15 +75,17 @@ def missing_functions(functions, clause_names):
 
 
 def missing_tests(cell):
-    """What isn't there of tests such as: unit_tests `types.rt`; check_tests `rows.rt`."""
+    """What isn't there of tests such as: cases `check_rows.cases`; unit_tests `texts.rt`; `tools/sqlite.py`."""
     crate = None
-    for match in re.finditer(r"(\w+_tests)|`(\S+\.(?:rt|py))`", cell):
+    for match in re.finditer(r"(\w+)(?= `)|`(\S+\.(?:rt|py|cases))`", cell):
         if match.group(1):
             crate = match.group(1)
-        else:
-            path = match.group(2) if match.group(2).startswith("tools/") else f"crates/{crate}/src/{match.group(2)}"
-            if not os.path.exists(path):
-                yield path
+            continue
+        name = match.group(2)
+        folder = "data" if name.endswith(".cases") else "src"
+        path = name if name.startswith("tools/") else f"crates/{crate}/{folder}/{name}"
+        if not os.path.exists(path):
+            yield path
 
 
 def main():

@@ -1,18 +1,17 @@
-//! Tests of plain data, of queries and of the outside, each public call on values made by hand. They stand apart from what
-//! they test, since a crate with tests of its own is proved twice.
+//! Tests of what no command reaches or shows, on values made by hand: owners and scopes that are shared, the adapters over the
+//! system, the store whose calls fail, the limit of queries, and pieces of text that come of no program. All else that is tested is
+//! cases, which the programs `cases`, `tree_cases` and `type_cases` judge.
 #![tactic(auto)]
 
-#[cfg(test)]
-mod ast;
-#[cfg(test)]
-mod bag;
-#[cfg(test)]
-mod index;
 #[cfg(test)]
 mod locals;
 #[cfg(test)]
 mod outside;
 #[cfg(test)]
+mod queries;
+#[cfg(test)]
 mod store;
 #[cfg(test)]
-mod tables;
+mod texts;
+#[cfg(test)]
+mod trees;

@@ -1,43 +1,56 @@
-//! The forms in memory, and the adapters over real files and standard output.
+//! The adapters over real files and standard output.
 
-use lk_ast::{Bytes, List, Text};
-use lk_outside::{
-    FileEntry, Files, MemFiles, MemSink, NumberedCalls, OsFiles, OutFault, Sink, StdSink, Store,
-};
+use lk_outside::{Files, OsFiles, OutFault, Sink, StdSink};
+use std::alloc::Global;
 use std::fmt::Display;
 use std::io::ErrorKind;
 use std::test::Fail;
 use std::{fs, io};
+
+/// Whether this is what is read of a file, of which so many bytes are asked for.
+fn reads(
+    alloc: Global,
+    files: &mut impl Files,
+    name: &str,
+    max: u64,
+    want: &[u8],
+) -> Result<bool, OutFault> {
+    let bytes = files.read(alloc, name, max)?;
+    Ok(bytes.as_slice() == want)
+}
 
 #[test]
 fn files_of_the_system(rt: HostRuntime) -> Result<(), Fail> {
     let alloc = rt.alloc();
     fs::write(&rt, "letters", "abc")?;
     let mut files = OsFiles::new(&rt);
-    let front = files.read(alloc, "letters", 2)?;
-    assert_eq!(rt; front.as_slice(), b"ab".as_slice());
-    let whole = files.read(alloc, "letters", 9)?;
-    assert_eq!(rt; whole.as_slice(), b"abc".as_slice());
-    assert_eq!(rt; files.failed(), "");
+    assert!(rt; reads(alloc, &mut files, "letters", 2, b"ab")?);
+    assert!(rt; reads(alloc, &mut files, "letters", 9, b"abc")?);
+    assert_eq!(rt; (files.failed(), files.faults()), ("", 0));
     fs::remove_file(&rt, "letters")?;
-    let refused = files.read(alloc, "letters", 9).err();
-    assert_eq!(rt; refused, Some(OutFault::Failed));
-    assert_eq!(rt; files.failed(), "letters");
-    assert_eq!(rt; files.faults(), 1);
+    let refused = reads(alloc, &mut files, "letters", 9, b"abc");
+    assert_eq!(rt; refused.err(), Some(OutFault::Failed));
+    assert_eq!(rt; (files.failed(), files.faults()), ("letters", 1));
     Ok(())
+}
+
+/// 1,100,000 times `x`, and then `y`.
+fn letters(alloc: Global) -> Result<Vec<u8>, Fail> {
+    let mut content = Vec::new(alloc);
+    content.resize(1_100_000, b'x')?;
+    content.push(b'y')?;
+    Ok(content)
 }
 
 // More bytes than a program's text may have, as a tables file may, under a name with spaces at both ends.
 #[test]
 fn large_file_of_the_system(rt: HostRuntime) -> Result<(), Fail> {
     let alloc = rt.alloc();
-    let mut content = Vec::new(alloc);
-    content.resize(1_100_000, b'x')?;
-    content.push(b'y')?;
+    let content = letters(alloc)?;
     fs::write(&rt, " letters ", content.as_slice())?;
-    let whole = OsFiles::new(&rt).read(alloc, " letters ", 16_777_217)?;
+    let mut files = OsFiles::new(&rt);
+    assert!(rt; reads(alloc, &mut files, " letters ", 16_777_217, &content)?);
     fs::remove_file(&rt, " letters ")?;
-    assert_eq!(rt; whole.as_slice(), content.as_slice());
     Ok(())
 }
 
@@ -90,42 +103,5 @@ fn long_piece_for_standard_output(rt: HostRuntime) -> Result<(), Fail> {
     piece.resize(1_100_000, b'x')?;
     let whole = OnlyWhole { piece: &piece };
     StdSink::new(&whole).write(&piece)?;
-    Ok(())
-}
-
-#[test]
-fn files_in_memory(rt: HostRuntime) -> Result<(), Fail> {
-    let alloc = rt.alloc();
-    let mut entries = List::new(alloc);
-    entries.push(FileEntry {
-        name: Text::from_str(alloc, "letters")?,
-        content: Bytes::from_slice(alloc, b"abc")?,
-    })?;
-    let failing = [1u64].to_vec(alloc)?;
-    let mut files = MemFiles::new(entries, List::from_vec(failing));
-    let front = files.read(alloc, "letters", 2)?;
-    assert_eq!(rt; front.as_slice(), b"ab".as_slice());
-    let refused = files.read(alloc, "letters", 2).err();
-    assert_eq!(rt; refused, Some(OutFault::Failed));
-    let whole = files.read(alloc, "letters", 9)?;
-    assert_eq!(rt; whole.as_slice(), b"abc".as_slice());
-    let refused = files.read(alloc, "missing", 2).err();
-    assert_eq!(rt; refused, Some(OutFault::Failed));
-    assert_eq!(rt; files.failed(), "missing");
-    assert_eq!(rt; files.faults(), 2);
-    Ok(())
-}
-
-#[test]
-fn sink_in_memory(rt: HostRuntime) -> Result<(), Fail> {
-    let alloc = rt.alloc();
-    let failing = [1u64].to_vec(alloc)?;
-    let mut out = MemSink::new(alloc, List::from_vec(failing));
-    out.write(b"ab")?;
-    let refused = out.write(b"cd").err();
-    assert_eq!(rt; refused, Some(OutFault::Failed));
-    out.write(b"ef")?;
-    assert_eq!(rt; out.taken().as_slice(), b"abef".as_slice());
-    assert_eq!(rt; out.faults(), 1);
     Ok(())
 }

@@ -1,0 +1,163 @@
+//! What types become where it is known what stands for their variables.
+
+use crate::reader::{read_equation, read_type};
+use lk_ast::NoMemory;
+use lk_ground_types::{
+    Bindings, ground_effects, ground_type, has_function, is_base, is_flat, is_list, is_query_type,
+};
+use lk_types::{Effect, Equation, Ground, Ty, effect_word, print_ground};
+use std::alloc::Global;
+
+/// What is asked of a type.
+#[derive(Clone, Copy)]
+pub enum Asked {
+    Type,
+    Effects,
+    Kinds,
+}
+
+/// The line of a case that says what stands for variables, if one does.
+fn where_line(case: &str) -> Option<&str> {
+    for line in case.split('\n') {
+        if let Some(rest) = line.strip_prefix("where ") {
+            return Some(rest);
+        }
+    }
+    None
+}
+
+/// The answer to what is asked of a type, none where the text is no type.
+pub fn ground_answer(
+    alloc: Global,
+    case: &str,
+    asked: Asked,
+    shown: &str,
+) -> Result<Option<String>, NoMemory> {
+    match read_type(alloc, shown) {
+        None => Ok(None),
+        Some(ty) => type_answer(alloc, case, asked, &ty),
+    }
+}
+
+fn type_answer(
+    alloc: Global,
+    case: &str,
+    asked: Asked,
+    ty: &Ty,
+) -> Result<Option<String>, NoMemory> {
+    match where_line(case).and_then(|line| read_equation(alloc, line)) {
+        None => answer(alloc, &Bindings::none(alloc), asked, ty),
+        Some(equation) => bound_answer(alloc, &equation, asked, ty),
+    }
+}
+
+/// The answer where the left side of an equation becomes the right one, which has no variables.
+fn bound_answer(
+    alloc: Global,
+    equation: &Equation,
+    asked: Asked,
+    ty: &Ty,
+) -> Result<Option<String>, NoMemory> {
+    match ground_alone(alloc, &equation.right)? {
+        None => Ok(None),
+        Some(right) => matched_answer(alloc, (&equation.left, &right), asked, ty),
+    }
+}
+
+/// A type as one without variables, none where it is too large.
+fn ground_alone(alloc: Global, ty: &Ty) -> Result<Option<Ground>, NoMemory> {
+    ground_type(alloc, &Bindings::none(alloc), ty)
+}
+
+/// The answer where a type becomes another one.
+fn matched_answer(
+    alloc: Global,
+    stands: (&Ty, &Ground),
+    asked: Asked,
+    ty: &Ty,
+) -> Result<Option<String>, NoMemory> {
+    let (left, right) = stands;
+    let bindings = Bindings::of(alloc, left, right)?;
+    answer(alloc, &bindings, asked, ty)
+}
+
+fn answer(
+    alloc: Global,
+    bindings: &Bindings,
+    asked: Asked,
+    ty: &Ty,
+) -> Result<Option<String>, NoMemory> {
+    match asked {
+        Asked::Effects => effects_answer(alloc, bindings, ty),
+        Asked::Type | Asked::Kinds => ground_text(alloc, asked, &ground_type(alloc, bindings, ty)?),
+    }
+}
+
+fn effects_answer(alloc: Global, bindings: &Bindings, ty: &Ty) -> Result<Option<String>, NoMemory> {
+    let effects = ground_effects(alloc, bindings, ty)?;
+    effects_text(alloc, effects.as_slice())
+}
+
+/// The text of a type, or of its kinds, if it isn't too large.
+fn ground_text(
+    alloc: Global,
+    asked: Asked,
+    found: &Option<Ground>,
+) -> Result<Option<String>, NoMemory> {
+    match (found, asked) {
+        (None, _) => Ok(Some(String::from_str(alloc, "too large")?)),
+        (Some(ground), Asked::Kinds) => kinds_text(alloc, ground),
+        (Some(ground), _) => printed(alloc, ground),
+    }
+}
+
+fn printed(alloc: Global, ground: &Ground) -> Result<Option<String>, NoMemory> {
+    let text = print_ground(alloc, ground)?;
+    Ok(Some(String::from_str(alloc, text.as_str())?))
+}
+
+/// `e,e`, or `none`.
+fn effects_text(alloc: Global, effects: &[Effect]) -> Result<Option<String>, NoMemory> {
+    let mut text = String::new(alloc);
+    for effect in effects {
+        push_word(&mut text, ",", effect_word(*effect))?;
+    }
+    push_none(&mut text)?;
+    Ok(Some(text))
+}
+
+/// The kinds that a type is of.
+fn kinds_text(alloc: Global, ground: &Ground) -> Result<Option<String>, NoMemory> {
+    let kinds = [
+        (is_base(ground), "base"),
+        (is_flat(ground), "flat"),
+        (is_list(ground), "list"),
+        (is_query_type(ground), "query"),
+        (has_function(ground), "function"),
+    ];
+    let mut text = String::new(alloc);
+    for (is_of_kind, word) in kinds {
+        if is_of_kind {
+            push_word(&mut text, " ", word)?;
+        }
+    }
+    push_none(&mut text)?;
+    Ok(Some(text))
+}
+
+/// Writes `none` where there is no word.
+fn push_none(text: &mut String) -> Result<(), NoMemory> {
+    if text.is_empty() {
+        text.push_str("none")?;
+    }
+    Ok(())
+}
+
+/// Adds a word, behind this where it isn't the first.
+fn push_word(text: &mut String, between: &str, word: &str) -> Result<(), NoMemory> {
+    if !text.is_empty() {
+        text.push_str(between)?;
+    }
+    text.push_str(word)?;
+    Ok(())
+}
