@@ -13,7 +13,7 @@ use std::mem;
 
 /// Nodes, with what is known of each and the name of its class. The name is the number of one of the nodes in the class, and
 /// what is known of the class is what is known of that node.
-#[derive(Debug, Drop)]
+#[derive(Drop)]
 pub struct Arena {
     pub shapes: List<Shape>,
     pub classes: Classes,

@@ -127,7 +127,7 @@ pub fn are_distinct(alloc: Global, fields: &[Field]) -> Result<bool, NoMemory>
     if fields.len() <= FEW {
         return Ok(are_few_distinct(fields));
     }
-    Ok(are_many_distinct(alloc, fields)?)
+    are_many_distinct(alloc, fields)
 }
 
 /// Notes the labels of fields.

@@ -14,7 +14,7 @@ use std::alloc::Global;
 
 /// How many nodes: of a type or a row of fields, and of a row of effects, in which an effect counts one and its unit type nothing.
 /// From `most_nodes + 1` on it is only that.
-#[derive(Clone, Copy, Debug)]
+#[derive(Clone, Copy)]
 pub struct Count {
     pub as_type: usize,
     pub as_effects: usize,

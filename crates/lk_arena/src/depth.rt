@@ -12,7 +12,7 @@ use lk_classes::Classes;
 use std::alloc::Global;
 
 /// How often each node was looked at, the nodes on the way down, and those whose parts are all done, parts first.
-#[derive(Debug, Drop)]
+#[derive(Drop)]
 struct Search {
     looks: Vec<usize>,
     path: Vec<usize>,

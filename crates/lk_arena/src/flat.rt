@@ -16,7 +16,7 @@ use std::alloc::Global;
 use std::collections::BTreeMap;
 
 /// All fields of a row, and the class of a tail without fields of its own.
-#[derive(Debug, Drop)]
+#[derive(Drop)]
 pub struct Flat {
     pub row: usize,
     pub fields: List<Field>,

@@ -2,7 +2,7 @@ use lk_ast::{List, Text};
 
 /// The constructors of types. Their parts are: of a list its element; of a record and of a variant its row; of a function its
 /// effects, its result and then its parameters.
-#[derive(Clone, Copy, Debug, PartialEq, Eq)]
+#[derive(Clone, Copy, PartialEq, Eq)]
 pub enum Head {
     Int,
     Bool,
@@ -14,14 +14,14 @@ pub enum Head {
 }
 
 /// A field of a row, with the node of its type. In a row of effects each effect is a field too, of the type `()`.
-#[derive(Debug, Drop)]
+#[derive(Drop)]
 pub struct Field {
     pub label: Text,
     pub node: usize,
 }
 
 /// What is known of a node.
-#[derive(Debug, Drop)]
+#[derive(Drop)]
 pub enum Shape {
     /// A type of which nothing is known.
     Free,
@@ -36,7 +36,7 @@ pub enum Shape {
 }
 
 /// Two nodes that are to be equal.
-#[derive(Clone, Copy, Debug)]
+#[derive(Clone, Copy)]
 pub struct Pair {
     pub left: usize,
     pub right: usize,

@@ -75,7 +75,7 @@ fn all_known(shape: &Shape, classes: &Classes, ranks: &[Option<usize>]) -> bool
 }
 
 /// The ranks of the nodes that have one, and these nodes in the order of their ranks.
-#[derive(Debug, Drop)]
+#[derive(Drop)]
 struct Ranking {
     ranks: Vec<Option<usize>>,
     order: Vec<usize>,

@@ -5,9 +5,14 @@ use std::alloc::Global;
 use std::marker::Model;
 
 /// A box that contracts see as the value in it, and not as the place of that value.
-#[derive(Debug, Drop)]
 pub struct Boxed<T> {
     inner: Box<T>,
+}
+
+impl<T: Drop> Drop for Boxed<T> {
+    fn drop(self) {
+        let Self { inner: _ } = self;
+    }
 }
 
 impl<T> Model for Boxed<T> {

@@ -12,26 +12,46 @@ pub enum Trap {
 }
 
 /// A query or the reading of a table: its place in the text, the values that it captured, and its answer.
-#[derive(Debug, Drop)]
 pub struct ReadEvent {
     pub site: u32,
     pub args: List<Value>,
     pub answer: List<Row>,
 }
 
+impl Drop for ReadEvent {
+    fn drop(self) {
+        let Self {
+            site: _,
+            args: _,
+            answer: _,
+        } = self;
+    }
+}
+
 /// An insertion, update or deletion: its place in the text and the values that it takes.
-#[derive(Debug, Drop)]
+#[derive(Drop)]
 pub struct WriteEvent {
     pub site: u32,
     pub args: List<Value>,
 }
 
 /// What an evaluation does that others can see. `Enter` is control passing from client to server, `Leave` the reverse.
-#[derive(Debug, Drop)]
 pub enum Event {
     Print(Text),
     Enter,
     Leave,
     Read(ReadEvent),
     Write(WriteEvent),
+}
+
+impl Drop for Event {
+    fn drop(self) {
+        match self {
+            Self::Print(_) => {}
+            Self::Enter => {}
+            Self::Leave => {}
+            Self::Read(_) => {}
+            Self::Write(_) => {}
+        }
+    }
 }

@@ -6,7 +6,6 @@ use std::alloc::Global;
 use std::marker::Model;
 
 /// A vector that contracts see as the list of its elements.
-#[derive(Debug)]
 pub struct List<T> {
     items: Vec<T>,
 }

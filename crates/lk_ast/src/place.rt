@@ -16,8 +16,13 @@ pub enum Loc {
 }
 
 /// A name, label or tag with its place in the text.
-#[derive(Debug, Drop)]
 pub struct Word {
     pub at: Span,
     pub text: Text,
+}
+
+impl Drop for Word {
+    fn drop(self) {
+        let Self { at: _, text: _ } = self;
+    }
 }

@@ -6,7 +6,7 @@ use std::marker::Model;
 use std::rc::Rc;
 
 /// A counted reference that contracts see as the value behind it, for a value with several owners.
-#[derive(Debug, Drop)]
+#[derive(Drop)]
 pub struct Shared<T: Drop> {
     inner: Rc<T>,
 }

@@ -4,15 +4,20 @@ use crate::place::Word;
 
 /// A label with its type in a record type, or a tag with its type in a variant type.
 #[cycle(signature)]
-#[derive(Debug, Drop)]
 pub struct SigField {
     pub label: Word,
     pub ty: SigType,
 }
 
+impl Drop for SigField {
+    #[cycle(signature)]
+    fn drop(self) {
+        let Self { label: _, ty: _ } = self;
+    }
+}
+
 /// The type of a signature, its fields and tags in text order.
 #[cycle(signature)]
-#[derive(Debug, Drop)]
 pub enum SigType {
     Int,
     Bool,
@@ -23,9 +28,29 @@ pub enum SigType {
     Fun(List<SigType>, Boxed<SigType>),
 }
 
+impl Drop for SigType {
+    #[cycle(signature)]
+    fn drop(self) {
+        match self {
+            Self::Int => {}
+            Self::Bool => {}
+            Self::Text => {}
+            Self::List(_) => {}
+            Self::Fields(_) => {}
+            Self::Tags(_) => {}
+            Self::Fun(_, _) => {}
+        }
+    }
+}
+
 /// A signature: the function that it names, and the type that it gives.
-#[derive(Debug, Drop)]
 pub struct Sig {
     pub name: Word,
     pub ty: SigType,
+}
+
+impl Drop for Sig {
+    fn drop(self) {
+        let Self { name: _, ty: _ } = self;
+    }
 }

@@ -14,7 +14,7 @@ use crate::place::{Span, Word};
 use std::alloc::Global;
 
 /// `var x = e;` or `e;`, with the span of the block that begins with it.
-#[derive(Debug, Drop)]
+#[derive(Drop)]
 pub struct Statement {
     pub span: Span,
     pub name: Option<Word>,

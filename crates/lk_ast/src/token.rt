@@ -2,14 +2,13 @@ use crate::place::Span;
 use crate::text::Text;
 
 /// A token of a program's text: the bytes that it stands in, and what it is.
-#[derive(Debug, Drop)]
+#[derive(Drop)]
 pub struct Token {
     pub span: Span,
     pub kind: TokenKind,
 }
 
 /// What a token is.
-#[derive(Debug, Drop)]
 pub enum TokenKind {
     /// A word from a small letter on, a keyword or a name.
     Word(Text),
@@ -21,4 +20,16 @@ pub enum TokenKind {
     Text(Text),
     /// A bracket, an operator or another sign.
     Sign(Text),
+}
+
+impl Drop for TokenKind {
+    fn drop(self) {
+        match self {
+            Self::Word(_) => {}
+            Self::Tag(_) => {}
+            Self::Int(_) => {}
+            Self::Text(_) => {}
+            Self::Sign(_) => {}
+        }
+    }
 }

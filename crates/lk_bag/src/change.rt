@@ -163,7 +163,7 @@ fn set_cell<'p>(
 ) -> Result<Cell, NoMemory>
     ensures { IfOk result (λ after. after ≡ cell_set index.now change.now inner.now cell) }
 {
-    let Cell { label, value } = cell;
+    let (label, value) = cell.into_parts();
     match part_for(&label, change.sets.as_slice()) {
         Some(part) => {
             let value = new_value(alloc, index, part, inner, value)?;

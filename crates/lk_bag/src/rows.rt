@@ -56,7 +56,7 @@ fn cell_in(field: Field) -> Option<Cell>
     ensures cell { IfSome result (λ cell. cell_field cell ≡ field) }
     ensures some { (cell : Cell) → field ≡ cell_field cell → IsSome result }
 {
-    let Field { label, value } = field;
+    let (label, value) = field.into_parts();
     match value {
         Value::Base(value) => Some(Cell { label, value }),
         _ => None,

@@ -4,9 +4,11 @@
 //! `specs/Nodes` counts, `specs/Uses` and `specs/Captured` say what is captured, `specs/Walk` which parts there are.
 #![tactic(auto)]
 
+mod arms;
 mod captured;
 mod names;
 mod nodes;
+mod parts;
 mod room;
 mod shapes;
 mod uses;
@@ -14,6 +16,7 @@ mod walk;
 
 pub use captured::{bound_parts, captured_at, numbered};
 pub use nodes::count_nodes;
+pub use parts::{labelled, table};
 pub use shapes::element_columns;
 pub use uses::{NameUse, change_uses, query_uses};
-pub use walk::{Over, Walked, labelled, table, walk_expr, walk_fields};
+pub use walk::{Over, Walked, walk_expr, walk_fields};

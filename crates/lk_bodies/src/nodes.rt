@@ -9,12 +9,20 @@ use crate::room::ROOM;
 use lk_ast::{Case, ChangeExpr, Expr, LastCase, NoMemory, Node, PartExpr, Text, first_statement};
 use lk_index::Index;
 
+/// Where a count stands: in which program, and how many calls may stand one in the other.
+#[derive(Clone, Copy)]
+struct At<'i, 'p> {
+    index: &'i Index<'p>,
+    calls: usize,
+}
+
 /// What is left of so many nodes behind those of a query and of the bodies that it calls, and `None` where there are more.
 /// `NoMemory` where parts and calls stand more than 2,048 deep in one another, since each takes a piece of the stack.
 pub fn count_nodes<'p>(index: &Index<'p>, e: &'p Expr, most: u32) -> Result<Option<u32>, NoMemory>
     ensures { IfOk result (λ found. found ≡ spent most (query_nodes index.now e.now)) }
 {
-    Ok(expr(index, index.function_count(), ROOM, e, most)?)
+    let calls = index.function_count();
+    expr(&At { index, calls }, ROOM, e, most)
 }
 
 /// What is left behind one more node.
@@ -28,14 +36,8 @@ fn take_one(left: u32) -> Option<u32>
 /// What is left behind the nodes of an expression, where so many calls may stand one in the other. The loop goes down the rests
 /// of a block, of which there may be more than the stack has room for.
 #[cycle(nodes)]
-fn expr<'p>(
-    index: &Index<'p>,
-    calls: usize,
-    room: usize,
-    e: &'p Expr,
-    most: u32,
-) -> Result<Option<u32>, NoMemory>
-    ensures { IfOk result (λ found. found ≡ spent most (nodes (counted index.now calls) e.now)) }
+fn expr<'p>(at: &At<'_, 'p>, room: usize, e: &'p Expr, most: u32) -> Result<Option<u32>, NoMemory>
+    ensures { IfOk result (λ found. found ≡ spent most (nodes (counted at.now.index.now at.now.calls) e.now)) }
 {
     if room == 0 {
         return Err(NoMemory);
@@ -46,7 +48,7 @@ fn expr<'p>(
         let Some(behind) = take_one(left) else {
             return Ok(None);
         };
-        let Some(behind) = expr(index, calls, room - 1, statement, behind)? else {
+        let Some(behind) = expr(at, room - 1, statement, behind)? else {
             return Ok(None);
         };
         left = behind;
@@ -55,20 +57,19 @@ fn expr<'p>(
     let Some(behind) = take_one(left) else {
         return Ok(None);
     };
-    Ok(node(index, calls, room - 1, rest.node.get(), behind)?)
+    node(at, room - 1, rest.node.get(), behind)
 }
 
 /// What is left behind the nodes inside a node.
 #[cycle(nodes)]
 #[tactic(auto, using(crate::proofs::NodeCounts::spent_none))]
 fn node<'p>(
-    index: &Index<'p>,
-    calls: usize,
+    at: &At<'_, 'p>,
     room: usize,
     node: &'p Node,
     left: u32,
 ) -> Result<Option<u32>, NoMemory>
-    ensures { IfOk result (λ found. found ≡ spent left (inside (counted index.now calls) (out-Node node.now))) }
+    ensures { IfOk result (λ found. found ≡ spent left (inside (counted at.now.index.now at.now.calls) (out-Node node.now))) }
 {
     match node {
         Node::Int(_)
@@ -77,11 +78,9 @@ fn node<'p>(
         | Node::Name(_)
         | Node::Function(_)
         | Node::Table(_) => Ok(Some(left)),
-        Node::Lambda(lambda) => Ok(expr(index, calls, room, &lambda.body, left)?),
-        Node::Call(name, args) => {
-            Ok(call(index, calls, room, &name.text, args.as_slice(), left)?)
-        }
-        Node::Apply(f, args) => Ok(apply(index, calls, room, f, args.as_slice(), left)?),
+        Node::Lambda(lambda) => expr(at, room, &lambda.body, left),
+        Node::Call(name, args) => { call(at, room, &name.text, args.as_slice(), left) }
+        Node::Apply(f, args) => apply(at, room, f, args.as_slice(), left),
         Node::Seq(a, b)
         | Node::And(a, b)
         | Node::Or(a, b)
@@ -102,7 +101,7 @@ fn node<'p>(
         | Node::Where(a, b)
         | Node::Var(_, a, b)
         | Node::ForList(_, a, b)
-        | Node::ForTable(_, a, b) => Ok(two(index, calls, room, a, b, left)?),
+        | Node::ForTable(_, a, b) => Ok(two(at, room, a, b, left)?),
         Node::Neg(e)
         | Node::Not(e)
         | Node::Hd(e)
@@ -113,15 +112,13 @@ fn node<'p>(
         | Node::Project(e, _)
         | Node::Tag(_, e)
         | Node::Query(_, e)
-        | Node::Insert(_, e) => Ok(expr(index, calls, room, e, left)?),
-        Node::If(c, d, e) => Ok(three(index, calls, room, c, d, e, left)?),
-        Node::Record(list) => Ok(parts(index, calls, room, list.as_slice(), left)?),
-        Node::Extend(list, e) => Ok(extension(index, calls, room, list.as_slice(), e, left)?),
-        Node::List(list) => Ok(exprs(index, calls, room, list.as_slice(), left)?),
-        Node::Switch(e, list, last) => {
-            Ok(switch(index, calls, room, e, list.as_slice(), last, left)?)
-        }
-        Node::Update(rows) | Node::Delete(rows) => Ok(change(index, calls, room, rows, left)?),
+        | Node::Insert(_, e) => expr(at, room, e, left),
+        Node::If(c, d, e) => three(at, room, c, d, e, left),
+        Node::Record(list) => parts(at, room, list.as_slice(), left),
+        Node::Extend(list, e) => extension(at, room, list.as_slice(), e, left),
+        Node::List(list) => exprs(at, room, list.as_slice(), left),
+        Node::Switch(e, list, last) => { switch(at, room, e, list.as_slice(), last, left) }
+        Node::Update(rows) | Node::Delete(rows) => change(at, room, rows, left),
     }
 }
 
@@ -129,116 +126,110 @@ fn node<'p>(
 #[cycle(nodes)]
 #[tactic(auto, using(crate::proofs::NodeCounts::spent_sum, crate::proofs::NodeCounts::spent_none))]
 fn two<'p>(
-    index: &Index<'p>,
-    calls: usize,
+    at: &At<'_, 'p>,
     room: usize,
     a: &'p Expr,
     b: &'p Expr,
     left: u32,
 ) -> Result<Option<u32>, NoMemory>
-    ensures { IfOk result (λ found. found ≡ spent left (total (nodes (counted index.now calls) a.now ∷ nodes (counted index.now calls) b.now ∷ []))) }
+    ensures { IfOk result (λ found. found ≡ spent left (total (nodes (counted at.now.index.now at.now.calls) a.now ∷ nodes (counted at.now.index.now at.now.calls) b.now ∷ []))) }
 {
-    let Some(left) = expr(index, calls, room, a, left)? else {
+    let Some(left) = expr(at, room, a, left)? else {
         return Ok(None);
     };
-    Ok(expr(index, calls, room, b, left)?)
+    expr(at, room, b, left)
 }
 
 /// What is left behind the nodes of three expressions.
 #[cycle(nodes)]
 #[tactic(auto, using(crate::proofs::NodeCounts::spent_sum, crate::proofs::NodeCounts::spent_none))]
 fn three<'p>(
-    index: &Index<'p>,
-    calls: usize,
+    at: &At<'_, 'p>,
     room: usize,
     a: &'p Expr,
     b: &'p Expr,
     c: &'p Expr,
     left: u32,
 ) -> Result<Option<u32>, NoMemory>
-    ensures { IfOk result (λ found. found ≡ spent left (nodes (counted index.now calls) a.now + (nodes (counted index.now calls) b.now + nodes (counted index.now calls) c.now))) }
+    ensures { IfOk result (λ found. found ≡ spent left (nodes (counted at.now.index.now at.now.calls) a.now + (nodes (counted at.now.index.now at.now.calls) b.now + nodes (counted at.now.index.now at.now.calls) c.now))) }
 {
-    let Some(left) = expr(index, calls, room, a, left)? else {
+    let Some(left) = expr(at, room, a, left)? else {
         return Ok(None);
     };
-    Ok(two(index, calls, room, b, c, left)?)
+    two(at, room, b, c, left)
 }
 
 /// What is left behind the nodes of a function and of what it is applied to.
 #[cycle(nodes)]
 #[tactic(auto, using(crate::proofs::NodeCounts::spent_sum, crate::proofs::NodeCounts::spent_none))]
 fn apply<'p>(
-    index: &Index<'p>,
-    calls: usize,
+    at: &At<'_, 'p>,
     room: usize,
     f: &'p Expr,
     args: &'p [Expr],
     left: u32,
 ) -> Result<Option<u32>, NoMemory>
-    ensures { IfOk result (λ found. found ≡ spent left (nodes (counted index.now calls) f.now + all_nodes (counted index.now calls) args.now)) }
+    ensures { IfOk result (λ found. found ≡ spent left (nodes (counted at.now.index.now at.now.calls) f.now + all_nodes (counted at.now.index.now at.now.calls) args.now)) }
 {
-    let Some(left) = expr(index, calls, room, f, left)? else {
+    let Some(left) = expr(at, room, f, left)? else {
         return Ok(None);
     };
-    Ok(exprs(index, calls, room, args, left)?)
+    exprs(at, room, args, left)
 }
 
 /// What is left behind the nodes of `(l = e | r)`.
 #[cycle(nodes)]
 #[tactic(auto, using(crate::proofs::NodeCounts::spent_sum, crate::proofs::NodeCounts::spent_none))]
 fn extension<'p>(
-    index: &Index<'p>,
-    calls: usize,
+    at: &At<'_, 'p>,
     room: usize,
     list: &'p [PartExpr],
     e: &'p Expr,
     left: u32,
 ) -> Result<Option<u32>, NoMemory>
-    ensures { IfOk result (λ found. found ≡ spent left (parts_nodes (counted index.now calls) list.now + nodes (counted index.now calls) e.now)) }
+    ensures { IfOk result (λ found. found ≡ spent left (parts_nodes (counted at.now.index.now at.now.calls) list.now + nodes (counted at.now.index.now at.now.calls) e.now)) }
 {
-    let Some(left) = parts(index, calls, room, list, left)? else {
+    let Some(left) = parts(at, room, list, left)? else {
         return Ok(None);
     };
-    Ok(expr(index, calls, room, e, left)?)
+    expr(at, room, e, left)
 }
 
 /// What is left behind the nodes of a switch.
 #[cycle(nodes)]
 #[tactic(auto, using(crate::proofs::NodeCounts::spent_sum, crate::proofs::NodeCounts::spent_none))]
 fn switch<'p>(
-    index: &Index<'p>,
-    calls: usize,
+    at: &At<'_, 'p>,
     room: usize,
     e: &'p Expr,
     list: &'p [Case],
     last: &'p Option<LastCase>,
     left: u32,
 ) -> Result<Option<u32>, NoMemory>
-    ensures { IfOk result (λ found. found ≡ spent left (nodes (counted index.now calls) e.now + (cases_nodes (counted index.now calls) list.now + some_nodes (counted index.now calls) last.now))) }
+    ensures { IfOk result (λ found. found ≡ spent left (nodes (counted at.now.index.now at.now.calls) e.now + (cases_nodes (counted at.now.index.now at.now.calls) list.now + some_nodes (counted at.now.index.now at.now.calls) last.now))) }
 {
-    let Some(left) = expr(index, calls, room, e, left)? else {
+    let Some(left) = expr(at, room, e, left)? else {
         return Ok(None);
     };
-    let Some(left) = cases(index, calls, room, list, left)? else {
+    let Some(left) = cases(at, room, list, left)? else {
         return Ok(None);
     };
-    Ok(last_case(index, calls, room, last, left)?)
+    last_case(at, room, last, left)
 }
 
 /// What is left behind the nodes of expressions.
 #[cycle(nodes)]
 fn exprs<'p>(
-    index: &Index<'p>,
-    calls: usize,
+    at: &At<'_, 'p>,
     room: usize,
     list: &'p [Expr],
     most: u32,
 ) -> Result<Option<u32>, NoMemory>
-    ensures { IfOk result (λ found. found ≡ spent most (all_nodes (counted index.now calls) list.now)) }
+    ensures { IfOk result (λ found. found ≡ spent most (all_nodes (counted at.now.index.now at.now.calls) list.now)) }
 {
     let mut left = most;
     for e in list {
-        let Some(behind) = expr(index, calls, room, e, left)? else {
+        let Some(behind) = expr(at, room, e, left)? else {
             return Ok(None);
         };
         left = behind;
@@ -249,17 +240,16 @@ fn exprs<'p>(
 /// What is left behind the nodes of `l = e, m = d`.
 #[cycle(nodes)]
 fn parts<'p>(
-    index: &Index<'p>,
-    calls: usize,
+    at: &At<'_, 'p>,
     room: usize,
     list: &'p [PartExpr],
     most: u32,
 ) -> Result<Option<u32>, NoMemory>
-    ensures { IfOk result (λ found. found ≡ spent most (parts_nodes (counted index.now calls) list.now)) }
+    ensures { IfOk result (λ found. found ≡ spent most (parts_nodes (counted at.now.index.now at.now.calls) list.now)) }
 {
     let mut left = most;
     for part in list {
-        let Some(behind) = expr(index, calls, room, &part.expr, left)? else {
+        let Some(behind) = expr(at, room, &part.expr, left)? else {
             return Ok(None);
         };
         left = behind;
@@ -270,17 +260,16 @@ fn parts<'p>(
 /// What is left behind the nodes of the cases of a switch but for the last one.
 #[cycle(nodes)]
 fn cases<'p>(
-    index: &Index<'p>,
-    calls: usize,
+    at: &At<'_, 'p>,
     room: usize,
     list: &'p [Case],
     most: u32,
 ) -> Result<Option<u32>, NoMemory>
-    ensures { IfOk result (λ found. found ≡ spent most (cases_nodes (counted index.now calls) list.now)) }
+    ensures { IfOk result (λ found. found ≡ spent most (cases_nodes (counted at.now.index.now at.now.calls) list.now)) }
 {
     let mut left = most;
     for case in list {
-        let Some(behind) = expr(index, calls, room, &case.body, left)? else {
+        let Some(behind) = expr(at, room, &case.body, left)? else {
             return Ok(None);
         };
         left = behind;
@@ -292,17 +281,16 @@ fn cases<'p>(
 #[cycle(nodes)]
 #[tactic(auto, using(crate::proofs::NodeCounts::spent_sum, crate::proofs::NodeCounts::spent_none))]
 fn last_case<'p>(
-    index: &Index<'p>,
-    calls: usize,
+    at: &At<'_, 'p>,
     room: usize,
     last: &'p Option<LastCase>,
     left: u32,
 ) -> Result<Option<u32>, NoMemory>
-    ensures { IfOk result (λ found. found ≡ spent left (some_nodes (counted index.now calls) last.now)) }
+    ensures { IfOk result (λ found. found ≡ spent left (some_nodes (counted at.now.index.now at.now.calls) last.now)) }
 {
     match last {
         None => Ok(Some(left)),
-        Some(last) => Ok(expr(index, calls, room, &last.body, left)?),
+        Some(last) => expr(at, room, &last.body, left),
     }
 }
 
@@ -310,55 +298,52 @@ fn last_case<'p>(
 #[cycle(nodes)]
 #[tactic(auto, using(crate::proofs::NodeCounts::spent_sum, crate::proofs::NodeCounts::spent_none))]
 fn change<'p>(
-    index: &Index<'p>,
-    calls: usize,
+    at: &At<'_, 'p>,
     room: usize,
     rows: &'p ChangeExpr,
     left: u32,
 ) -> Result<Option<u32>, NoMemory>
-    ensures { IfOk result (λ found. found ≡ spent left (changed_nodes (counted index.now calls) rows.now)) }
+    ensures { IfOk result (λ found. found ≡ spent left (changed_nodes (counted at.now.index.now at.now.calls) rows.now)) }
 {
-    let Some(left) = expr(index, calls, room, &rows.cond, left)? else {
+    let Some(left) = expr(at, room, &rows.cond, left)? else {
         return Ok(None);
     };
-    Ok(parts(index, calls, room, rows.sets.as_slice(), left)?)
+    parts(at, room, rows.sets.as_slice(), left)
 }
 
 /// What is left behind the nodes of a call: those of the body of what is called, and those of the arguments.
 #[cycle(nodes)]
 #[tactic(auto, using(crate::proofs::NodeCounts::spent_sum, crate::proofs::NodeCounts::spent_none))]
 fn call<'p>(
-    index: &Index<'p>,
-    calls: usize,
+    at: &At<'_, 'p>,
     room: usize,
     name: &Text,
     args: &'p [Expr],
     left: u32,
 ) -> Result<Option<u32>, NoMemory>
-    ensures { IfOk result (λ found. found ≡ spent left (counted index.now calls name.now + all_nodes (counted index.now calls) args.now)) }
+    ensures { IfOk result (λ found. found ≡ spent left (counted at.now.index.now at.now.calls name.now + all_nodes (counted at.now.index.now at.now.calls) args.now)) }
 {
-    let Some(left) = body(index, calls, room, name, left)? else {
+    let Some(left) = body(at, room, name, left)? else {
         return Ok(None);
     };
-    Ok(exprs(index, calls, room, args, left)?)
+    exprs(at, room, args, left)
 }
 
 /// What is left behind the nodes of the body of the function of that name.
 #[cycle(nodes)]
-fn body<'p>(
-    index: &Index<'p>,
-    calls: usize,
-    room: usize,
-    name: &Text,
-    left: u32,
-) -> Result<Option<u32>, NoMemory>
-    ensures { IfOk result (λ found. found ≡ spent left (counted index.now calls name.now)) }
+fn body<'p>(at: &At<'_, 'p>, room: usize, name: &Text, left: u32) -> Result<Option<u32>, NoMemory>
+    ensures { IfOk result (λ found. found ≡ spent left (counted at.now.index.now at.now.calls name.now)) }
 {
+    let calls = at.calls;
     if calls == 0 {
         return Ok(Some(left));
     }
-    let Some(function) = index.function(name.as_str()) else {
+    let Some(function) = at.index.function(name.as_str()) else {
         return Ok(Some(left));
     };
-    Ok(expr(index, calls - 1, room, &function.body, left)?)
+    let inner = At {
+        index: at.index,
+        calls: calls - 1,
+    };
+    expr(&inner, room, &function.body, left)
 }

@@ -36,7 +36,7 @@ pub fn columns_of(alloc: Global, ty: &Ground) -> Result<List<Column>, NoMemory>
     ensures { IfOk result (λ columns. columns ≡ columns_of ty.now) }
 {
     match ty {
-        Ground::Fields(fields) => Ok(columns(alloc, fields.as_slice())?),
+        Ground::Fields(fields) => columns(alloc, fields.as_slice()),
         _ => Ok(List::new(alloc)),
     }
 }
@@ -46,7 +46,7 @@ pub fn element_columns(alloc: Global, ty: &Ground) -> Result<List<Column>, NoMem
     ensures { IfOk result (λ columns. columns ≡ element_columns ty.now) }
 {
     match ty {
-        Ground::List(element) => Ok(columns_of(alloc, element.get())?),
+        Ground::List(element) => columns_of(alloc, element.get()),
         _ => Ok(List::new(alloc)),
     }
 }

@@ -1,6 +1,6 @@
 //! The local names that a query or a change uses from outside, with the types of the nodes where they stand.
 
-ghost use Rattle.lk_bodies.specs.Uses.{all, change_uses, is_bound, local, query_uses, under, uses, uses_node};
+ghost use Rattle.lk_bodies.specs.Uses.{all, both, change_uses, is_bound, local, query_uses, under, uses, uses_node};
 ghost use Rattle.lk_bodies.specs.UsesSeen.{behind_type, seen_uses, used_of};
 ghost use Rattle.lk_typing.specs.Names.{names_of};
 ghost use Rattle.std.specs.Prelude.{◌≡◌, ◌∷◌, [], map, IfOk, OnOk};
@@ -82,7 +82,7 @@ fn local<'g, 'p>(
         Ok(())
     } else {
         let name = name.as_str();
-        Ok(found.uses.push(NameUse { name, ty })?)
+        found.uses.push(NameUse { name, ty })
     }
 }
 
@@ -142,13 +142,9 @@ fn node<'g, 'p>(
     ensures left { OnOk result (bound.new ≡ bound.old) }
 {
     match node {
-        Node::Name(name) => Ok(local(name, own, bound, found)?),
-        Node::Call(_, list) | Node::List(list) => Ok(exprs(room, list.as_slice(), bound, found)?),
-        Node::If(c, a, b) => {
-            expr(room, c, bound, found)?;
-            expr(room, a, bound, found)?;
-            Ok(expr(room, b, bound, found)?)
-        }
+        Node::Name(name) => local(name, own, bound, found),
+        Node::Call(_, list) | Node::List(list) => exprs(room, list.as_slice(), bound, found),
+        Node::If(c, a, b) => three(room, c, a, b, bound, found),
         Node::Seq(a, b)
         | Node::And(a, b)
         | Node::Or(a, b)
@@ -163,20 +159,13 @@ fn node<'g, 'p>(
         | Node::Le(a, b)
         | Node::Gt(a, b)
         | Node::Ge(a, b)
-        | Node::Where(a, b) => {
-            expr(room, a, bound, found)?;
-            Ok(expr(room, b, bound, found)?)
-        }
+        | Node::Where(a, b) => two(room, a, b, bound, found),
         Node::Neg(e) | Node::Not(e) | Node::Empty(e) | Node::Project(e, _) | Node::Query(_, e) =>
-            Ok(expr(room, e, bound, found)?),
-        Node::Record(items) => Ok(parts(room, items.as_slice(), bound, found)?),
-        Node::Extend(items, e) => {
-            parts(room, items.as_slice(), bound, found)?;
-            Ok(expr(room, e, bound, found)?)
-        }
+            expr(room, e, bound, found),
+        Node::Record(items) => parts(room, items.as_slice(), bound, found),
+        Node::Extend(items, e) => extension(room, items.as_slice(), e, bound, found),
         Node::Var(name, e, body) | Node::ForList(name, e, body) | Node::ForTable(name, e, body) => {
-            expr(room, e, bound, found)?;
-            Ok(inside(room, name, body, bound, found)?)
+            binding(room, name, e, body, bound, found)
         }
         Node::Int(_)
         | Node::Text(_)
@@ -198,6 +187,72 @@ fn node<'g, 'p>(
         | Node::Update(_)
         | Node::Delete(_) => Ok(()),
     }
+}
+
+/// The names in two expressions.
+#[cycle(uses)]
+fn two<'g, 'p>(
+    room: usize,
+    a: &'p Expr,
+    b: &'p Expr,
+    bound: &mut Scope<'p, ()>,
+    found: &mut Found<'g, 'p>,
+) -> Result<(), NoMemory>
+    ensures found { OnOk result (used_of found.new ≡ both (uses a.now) (uses b.now) (names_of bound.old) (used_of found.old)) }
+    ensures left { OnOk result (bound.new ≡ bound.old) }
+{
+    expr(room, a, bound, found)?;
+    expr(room, b, bound, found)
+}
+
+/// The names in three expressions.
+#[cycle(uses)]
+fn three<'g, 'p>(
+    room: usize,
+    a: &'p Expr,
+    b: &'p Expr,
+    c: &'p Expr,
+    bound: &mut Scope<'p, ()>,
+    found: &mut Found<'g, 'p>,
+) -> Result<(), NoMemory>
+    ensures found { OnOk result (used_of found.new ≡ both (uses a.now) (both (uses b.now) (uses c.now)) (names_of bound.old) (used_of found.old)) }
+    ensures left { OnOk result (bound.new ≡ bound.old) }
+{
+    expr(room, a, bound, found)?;
+    two(room, b, c, bound, found)
+}
+
+/// The names in `(l = e | r)`.
+#[cycle(uses)]
+fn extension<'g, 'p>(
+    room: usize,
+    items: &'p [PartExpr],
+    e: &'p Expr,
+    bound: &mut Scope<'p, ()>,
+    found: &mut Found<'g, 'p>,
+) -> Result<(), NoMemory>
+    ensures found { OnOk result (used_of found.new ≡ both (all (map (λ item. uses item.expr) items.now)) (uses e.now) (names_of bound.old) (used_of found.old)) }
+    ensures left { OnOk result (bound.new ≡ bound.old) }
+{
+    parts(room, items, bound, found)?;
+    expr(room, e, bound, found)
+}
+
+/// The names in an expression, and in another one inside which a name is bound.
+#[cycle(uses)]
+fn binding<'g, 'p>(
+    room: usize,
+    name: &'p Word,
+    e: &'p Expr,
+    body: &'p Expr,
+    bound: &mut Scope<'p, ()>,
+    found: &mut Found<'g, 'p>,
+) -> Result<(), NoMemory>
+    ensures found { OnOk result (used_of found.new ≡ both (uses e.now) (under name.now.text (uses body.now)) (names_of bound.old) (used_of found.old)) }
+    ensures left { OnOk result (bound.new ≡ bound.old) }
+{
+    expr(room, e, bound, found)?;
+    inside(room, name, body, bound, found)
 }
 
 /// The names in an expression inside which one more is bound.

@@ -9,7 +9,7 @@ use std::alloc::Global;
 use std::marker::Model;
 
 /// Which of the numbers 0, 1, .. are equal. Contracts see the name of each number's class, which is one of its members.
-#[derive(Debug, Drop)]
+#[derive(Drop)]
 pub struct Classes {
     members: Vec<Member>,
 }

@@ -4,7 +4,7 @@ ghost use Rattle.std.specs.Prelude.{◌≡◌, ◌<◌, ◌≤◌, ◌⊎◌, le
 ghost use Rattle.lk_classes.specs.Forest.{IsForest, IsRootOf, names_of};
 
 /// What stands above a member.
-#[derive(Clone, Copy, Debug)]
+#[derive(Clone, Copy)]
 pub enum Link {
     /// Nothing: it is a root, and its class has this name.
     Name(usize),
@@ -12,7 +12,7 @@ pub enum Link {
 }
 
 /// A member of a class.
-#[derive(Clone, Copy, Debug)]
+#[derive(Clone, Copy)]
 pub struct Member {
     /// How many members its class has, or had when it was put below another.
     pub size: usize,

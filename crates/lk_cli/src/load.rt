@@ -138,7 +138,7 @@ fn put_all(
         let [def, others @ ..] = left else {
             unreachable!();
         };
-        put_rows(alloc, def, table.rows, store)?;
+        put_rows(alloc, def, table.into_rows(), store)?;
         left = others;
     }
     Ok(())

@@ -164,7 +164,7 @@ pub fn change_own(
             fields,
             next,
         )?),
-        _ => Ok(never(alloc, next)?),
+        _ => never(alloc, next),
     }
 }
 

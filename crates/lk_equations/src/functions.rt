@@ -24,7 +24,7 @@ pub fn local(alloc: Global, names: &Scope<Ty>, name: &str, next: u32) -> Result<
 {
     match names.get(name) {
         Some(ty) => Ok(only(alloc, copy_type(alloc, ty)?, next)),
-        None => Ok(never(alloc, next)?),
+        None => never(alloc, next),
     }
 }
 
@@ -36,8 +36,8 @@ pub fn used(alloc: Global, globals: &Globals, name: &str, next: u32) -> Result<O
     match globals.own.get(name) {
         Some(ty) => Ok(only(alloc, copy_type(alloc, ty)?, next)),
         None => match globals.earlier.get(name) {
-            Some(scheme) => Ok(instance(alloc, scheme, next)?),
-            None => Ok(never(alloc, next)?),
+            Some(scheme) => instance(alloc, scheme, next),
+            None => never(alloc, next),
         },
     }
 }

@@ -39,22 +39,22 @@ pub fn own_of(
     match node {
         Node::Call(name, _) => {
             let function = used(alloc, globals, name.text.as_str(), next)?;
-            Ok(called(alloc, effects, types, function)?)
+            called(alloc, effects, types, function)
         }
         Node::Apply(..) => match types.as_slice() {
-            [function, args @ ..] => Ok(applied(alloc, effects, function, args, next)?),
-            [] => Ok(never(alloc, next)?),
+            [function, args @ ..] => applied(alloc, effects, function, args, next),
+            [] => never(alloc, next),
         },
         Node::Record(parts) => {
             let parts = parts.as_slice();
-            Ok(closed_record(alloc, parts, types.as_slice(), next)?)
+            closed_record(alloc, parts, types.as_slice(), next)
         }
         Node::Extend(parts, _) => {
             let parts = parts.as_slice();
-            Ok(extended(alloc, parts, types.as_slice(), next)?)
+            extended(alloc, parts, types.as_slice(), next)
         }
-        Node::List(_) => Ok(items(alloc, types, next)?),
-        _ => Ok(fixed(alloc, globals, names, effects, node, types.as_slice(), next)?),
+        Node::List(_) => items(alloc, types, next),
+        _ => fixed(alloc, globals, names, effects, node, types.as_slice(), next),
     }
 }
 
@@ -72,11 +72,11 @@ fn fixed(
     ensures { IfOk result (λ made. as_own made ≡ fixed_at (functions_seen globals.now.own globals.now.earlier.now) globals.now.tables.now names.now effects.now (head label_of expr_of (out-Node node.now)) types.now next) }
 {
     match types {
-        [] => Ok(leaf(alloc, globals, names, effects, node, next)?),
-        [a] => Ok(unary(alloc, globals, effects, node, a, next)?),
-        [a, b] => Ok(binary(alloc, effects, node, a, b, next)?),
-        [a, b, c] => Ok(ternary(alloc, node, a, b, c, next)?),
-        _ => Ok(never(alloc, next)?),
+        [] => leaf(alloc, globals, names, effects, node, next),
+        [a] => unary(alloc, globals, effects, node, a, next),
+        [a, b] => binary(alloc, effects, node, a, b, next),
+        [a, b, c] => ternary(alloc, node, a, b, c, next),
+        _ => never(alloc, next),
     }
 }
 
@@ -95,13 +95,13 @@ fn leaf(
         Node::Int(_) => Ok(only(alloc, Ty::Int, next)),
         Node::Text(_) => Ok(only(alloc, Ty::Text, next)),
         Node::Bool(_) => Ok(only(alloc, Ty::Bool, next)),
-        Node::Name(name) => Ok(local(alloc, names, name.as_str(), next)?),
-        Node::Function(name) => Ok(used(alloc, globals, name.as_str(), next)?),
+        Node::Name(name) => local(alloc, names, name.as_str(), next),
+        Node::Function(name) => used(alloc, globals, name.as_str(), next),
         Node::Table(name) => {
             let name = name.text.as_str();
-            Ok(rows(alloc, globals.tables, effects, name, next)?)
+            rows(alloc, globals.tables, effects, name, next)
         }
-        _ => Ok(never(alloc, next)?),
+        _ => never(alloc, next),
     }
 }
 
@@ -117,29 +117,29 @@ fn unary(
     ensures { IfOk result (λ made. (functions : Named (Entry Ty)) (names : Named Ty) → as_own made ≡ fixed_at functions globals.now.tables.now names effects.now (head label_of expr_of (out-Node node.now)) (a.now ∷ []) next) }
 {
     match node {
-        Node::Neg(_) => Ok(from_base(alloc, Ty::Int, Ty::Int, a, next)?),
-        Node::Not(_) => Ok(from_base(alloc, Ty::Bool, Ty::Bool, a, next)?),
-        Node::Hd(_) => Ok(part_of_list(alloc, effects, Ty::Var(next), a, next)?),
+        Node::Neg(_) => from_base(alloc, Ty::Int, Ty::Int, a, next),
+        Node::Not(_) => from_base(alloc, Ty::Bool, Ty::Bool, a, next),
+        Node::Hd(_) => part_of_list(alloc, effects, Ty::Var(next), a, next),
         Node::Tl(_) => {
             let rest = list_of(alloc, Ty::Var(next))?;
-            Ok(part_of_list(alloc, effects, rest, a, next)?)
+            part_of_list(alloc, effects, rest, a, next)
         }
-        Node::Empty(_) => Ok(from_list(alloc, Ty::Bool, a, next)?),
+        Node::Empty(_) => from_list(alloc, Ty::Bool, a, next),
         Node::IntToString(_) => {
             let said = from_base(alloc, Ty::Int, Ty::Text, a, next)?;
-            Ok(acting(alloc, said, effects, Effect::Local)?)
+            acting(alloc, said, effects, Effect::Local)
         }
         Node::Print(_) => {
             let said = from_base(alloc, Ty::Text, unit(alloc), a, next)?;
-            Ok(acting(alloc, said, effects, Effect::Print)?)
+            acting(alloc, said, effects, Effect::Print)
         }
-        Node::Project(_, label) => Ok(projection(alloc, label.text.as_str(), a, next)?),
-        Node::Tag(tag, _) => Ok(tagged(alloc, tag.text.as_str(), a, next)?),
+        Node::Project(_, label) => projection(alloc, label.text.as_str(), a, next),
+        Node::Tag(tag, _) => tagged(alloc, tag.text.as_str(), a, next),
         Node::Insert(name, _) => {
             let name = name.text.as_str();
-            Ok(inserted(alloc, globals.tables, effects, name, a, next)?)
+            inserted(alloc, globals.tables, effects, name, a, next)
         }
-        _ => Ok(never(alloc, next)?),
+        _ => never(alloc, next),
     }
 }
 
@@ -155,19 +155,19 @@ fn binary(
     ensures { IfOk result (λ made. IsSaid effects.now (head label_of expr_of (out-Node node.now)) (a.now ∷ b.now ∷ []) next (as_own made)) }
 {
     match node {
-        Node::Seq(..) => Ok(sequence(alloc, a, b, next)?),
-        Node::And(..) | Node::Or(..) => Ok(both(alloc, Ty::Bool, Ty::Bool, a, b, next)?),
-        Node::Concat(..) => Ok(both(alloc, Ty::Text, Ty::Text, a, b, next)?),
-        Node::Append(..) => Ok(append(alloc, a, b, next)?),
-        Node::Cons(..) => Ok(cons(alloc, effects, a, b, next)?),
+        Node::Seq(..) => sequence(alloc, a, b, next),
+        Node::And(..) | Node::Or(..) => both(alloc, Ty::Bool, Ty::Bool, a, b, next),
+        Node::Concat(..) => both(alloc, Ty::Text, Ty::Text, a, b, next),
+        Node::Append(..) => append(alloc, a, b, next),
+        Node::Cons(..) => cons(alloc, effects, a, b, next),
         Node::Add(..) | Node::Sub(..) | Node::Mul(..) => {
-            Ok(both(alloc, Ty::Int, Ty::Int, a, b, next)?)
+            both(alloc, Ty::Int, Ty::Int, a, b, next)
         }
-        Node::Div(..) | Node::Mod(..) => Ok(division(alloc, effects, a, b, next)?),
+        Node::Div(..) | Node::Mod(..) => division(alloc, effects, a, b, next),
         Node::Eq(..) | Node::Ne(..) | Node::Lt(..) | Node::Le(..) | Node::Gt(..) | Node::Ge(..) =>
-            Ok(comparison(alloc, a, b, next)?),
-        Node::Where(..) => Ok(filter(alloc, a, b, next)?),
-        _ => Ok(never(alloc, next)?),
+            comparison(alloc, a, b, next),
+        Node::Where(..) => filter(alloc, a, b, next),
+        _ => never(alloc, next),
     }
 }
 
@@ -176,7 +176,7 @@ fn ternary(alloc: Global, node: &Node, a: &Ty, b: &Ty, c: &Ty, next: u32) -> Res
     ensures { IfOk result (λ made. (effects : TheEffects) → IsSaid effects (head label_of expr_of (out-Node node.now)) (a.now ∷ b.now ∷ c.now ∷ []) next (as_own made)) }
 {
     match node {
-        Node::If(..) => Ok(choice(alloc, a, b, c, next)?),
-        _ => Ok(never(alloc, next)?),
+        Node::If(..) => choice(alloc, a, b, c, next),
+        _ => never(alloc, next),
     }
 }

@@ -186,7 +186,7 @@ pub fn part_of_list(
 {
     let list = from_list(alloc, made, a, next)?;
     let trapping = acting(alloc, list, effects, Effect::Trap)?;
-    Ok(acting(alloc, trapping, effects, Effect::Local)?)
+    acting(alloc, trapping, effects, Effect::Local)
 }
 
 /// `a.l`.

@@ -56,7 +56,7 @@ pub fn closed_record(
 {
     match labelled(alloc, parts, types)? {
         Some((fields, [])) => Ok(only(alloc, record_of(fields, RowTail::Closed), next)),
-        _ => Ok(never(alloc, next)?),
+        _ => never(alloc, next),
     }
 }
 
@@ -65,8 +65,8 @@ pub fn extended(alloc: Global, parts: &[PartExpr], types: &[Ty], next: u32) -> R
     ensures { IfOk result (λ made. as_own made ≡ the_extended (the_labelled (labels_of parts.now) types.now) next) }
 {
     match labelled(alloc, parts, types)? {
-        Some((fields, [other])) => Ok(extend(alloc, fields, other, next)?),
-        _ => Ok(never(alloc, next)?),
+        Some((fields, [other])) => extend(alloc, fields, other, next),
+        _ => never(alloc, next),
     }
 }
 
@@ -127,7 +127,7 @@ pub fn rows(
     ensures { IfOk result (λ made. as_own made ≡ the_rows (table_named tables.now name.now) effects.now next) }
 {
     match tables.get(alloc, name)? {
-        None => Ok(never(alloc, next)?),
+        None => never(alloc, next),
         Some(table) => Ok(Own {
             ty: list_of(alloc, row_of(alloc, table)?)?,
             equations: one(alloc, has(alloc, effects, Effect::Scan, next)?)?,
@@ -148,7 +148,7 @@ pub fn inserted(
     ensures { IfOk result (λ made. as_own made ≡ the_inserted (table_named tables.now name.now) effects.now rows.now next) }
 {
     match tables.get(alloc, name)? {
-        None => Ok(never(alloc, next)?),
+        None => never(alloc, next),
         Some(table) => {
             let rows = copy_type(alloc, rows)?;
             let wanted = list_of(alloc, row_of(alloc, table)?)?;

@@ -121,7 +121,7 @@ pub fn has(
 {
     let all = copy_effects(alloc, effects)?;
     let some = effect_before(alloc, effect, RowTail::Var(next))?;
-    Ok(same_effects(alloc, all, some)?)
+    same_effects(alloc, all, some)
 }
 
 /// A record or a variant with this field before the tail.

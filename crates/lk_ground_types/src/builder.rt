@@ -42,7 +42,7 @@ fn build_boxed(alloc: Global, bindings: &Bindings, ty: &Ty) -> Result<Boxed<Grou
     ensures { IfOk result (λ made. IsIfThere (under (grounding_of bindings.now) ty.now) made) }
 {
     let made = build_type(alloc, bindings, ty)?;
-    Ok(Boxed::new(alloc, made)?)
+    Boxed::new(alloc, made)
 }
 
 #[cycle(building)]

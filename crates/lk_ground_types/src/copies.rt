@@ -31,7 +31,7 @@ fn copy_boxed(alloc: Global, ty: &Ground) -> Result<Boxed<Ground>, NoMemory>
     ensures { IfOk result (λ copy. copy ≡ ty.now) }
 {
     let copy = copy_type(alloc, ty)?;
-    Ok(Boxed::new(alloc, copy)?)
+    Boxed::new(alloc, copy)
 }
 
 #[cycle(copies)]

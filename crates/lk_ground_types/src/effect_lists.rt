@@ -48,7 +48,7 @@ const ALL: [Effect; 7] = [
 pub fn in_order(alloc: Global, labels: &[Effect], more: &[Effect]) -> Result<List<Effect>, NoMemory>
     ensures { IfOk result (λ all. all ≡ effects_of (λ e. is_listed labels.now e || is_listed more.now e)) }
 {
-    Ok(those_in(alloc, &ALL, labels, more)?)
+    those_in(alloc, &ALL, labels, more)
 }
 
 /// Those of the effects that are in one of two lists.

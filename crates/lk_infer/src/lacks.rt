@@ -108,11 +108,11 @@ pub fn insert_shown(alloc: Global, found: &mut Shown, ty: &Ty) -> Result<(), NoM
 {
     match ty {
         Ty::Int | Ty::Bool | Ty::Text | Ty::Var(_) => Ok(()),
-        Ty::List(item) => Ok(insert_shown(alloc, found, item.get())?),
-        Ty::Fields(row) | Ty::Tags(row) => Ok(insert_row(alloc, found, row)?),
+        Ty::List(item) => insert_shown(alloc, found, item.get()),
+        Ty::Fields(row) | Ty::Tags(row) => insert_row(alloc, found, row),
         Ty::Fun(params, _effects, answer) => {
             insert_all(alloc, found, params.as_slice())?;
-            Ok(insert_shown(alloc, found, answer.get())?)
+            insert_shown(alloc, found, answer.get())
         }
     }
 }
@@ -135,7 +135,7 @@ fn insert_row(alloc: Global, found: &mut Shown, row: &TyRow) -> Result<(), NoMem
 {
     let fields = row.fields.as_slice();
     insert_fields(alloc, found, fields)?;
-    Ok(insert_labels(alloc, found, fields, row.tail)?)
+    insert_labels(alloc, found, fields, row.tail)
 }
 
 #[cycle(shown)]
@@ -160,7 +160,7 @@ fn insert_labels(
 {
     match tail {
         RowTail::Closed => Ok(()),
-        RowTail::Var(var) => Ok(insert_before(alloc, found, fields, var)?),
+        RowTail::Var(var) => insert_before(alloc, found, fields, var),
     }
 }
 

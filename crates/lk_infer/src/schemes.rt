@@ -61,7 +61,7 @@ fn lacks_of(alloc: Global, body: &Ty, all: &Shown) -> Result<List<Lack>, NoMemor
     let rows = rows_of(alloc, body)?;
     let mut own = Shown::new(alloc);
     insert_shown(alloc, &mut own, body)?;
-    Ok(all.without(alloc, &rows, &own)?)
+    all.without(alloc, &rows, &own)
 }
 
 /// The numbers of the variables of rows of a type.

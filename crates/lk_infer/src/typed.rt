@@ -2,7 +2,7 @@ use lk_ast::List;
 use lk_types::{Scheme, Ty};
 
 /// What is inferred of a program.
-#[derive(Debug, Drop)]
+#[derive(Drop)]
 pub struct Typed {
     /// The principal scheme of each function, in text order.
     pub schemes: List<Scheme>,

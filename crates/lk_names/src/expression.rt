@@ -1,8 +1,8 @@
 //! Expressions under the local names in scope.
 
 ghost use Rattle.lk_names.specs.Expressions.{local_fault, global_fault, some_in, fault, node_fault, part_item, lambda_fault, case_item, last_fault, change_fault};
-ghost use Rattle.lk_names.specs.Faults.{Answers, first_among};
-ghost use Rattle.lk_names.specs.Repeats.{items_fault};
+ghost use Rattle.lk_names.specs.Faults.{Answers, first_among, first_of};
+ghost use Rattle.lk_names.specs.Repeats.{items_fault, keys_fault};
 ghost use Rattle.lk_scope.specs.Names.{no_names, bind, bind_all, bind_some};
 ghost use Rattle.lk_scope.specs.Scoped.{all_in};
 ghost use Rattle.std.specs.Option.{option_copied, option_map};
@@ -12,7 +12,7 @@ use crate::error::NameError;
 use crate::globals::Globals;
 use crate::repeats::{keys, once, words};
 use lk_ast::{
-    Case, ChangeExpr, Expr, LambdaExpr, LastCase, List, Node, PartExpr, Span, Text, Word,
+    Case, ChangeExpr, Expr, LambdaExpr, LastCase, List, Node, PartExpr, SortKey, Span, Text, Word,
     first_statement,
 };
 use lk_scope::Names;
@@ -72,17 +72,11 @@ fn node(
 {
     match node {
         Node::Int(_) | Node::Text(_) | Node::Bool(_) => Ok(()),
-        Node::Name(name) => Ok(local(names, span, name)?),
-        Node::Function(name) => Ok(global(&globals.functions, names, span, name)?),
-        Node::Lambda(e) => Ok(lambda(alloc, globals, names, e)?),
-        Node::Call(name, args) => {
-            global(&globals.functions, names, name.at, &name.text)?;
-            Ok(exprs(alloc, globals, names, args.as_slice())?)
-        }
-        Node::Apply(f, args) => {
-            expr(alloc, globals, names, f)?;
-            Ok(exprs(alloc, globals, names, args.as_slice())?)
-        }
+        Node::Name(name) => local(names, span, name),
+        Node::Function(name) => global(&globals.functions, names, span, name),
+        Node::Lambda(e) => lambda(alloc, globals, names, e),
+        Node::Call(name, args) => call(alloc, globals, names, name, args.as_slice()),
+        Node::Apply(f, args) => apply(alloc, globals, names, f, args.as_slice()),
         Node::Seq(a, b)
         | Node::And(a, b)
         | Node::Or(a, b)
@@ -100,10 +94,7 @@ fn node(
         | Node::Le(a, b)
         | Node::Gt(a, b)
         | Node::Ge(a, b)
-        | Node::Where(a, b) => {
-            expr(alloc, globals, names, a)?;
-            Ok(expr(alloc, globals, names, b)?)
-        }
+        | Node::Where(a, b) => two(alloc, globals, names, a, b),
         Node::Neg(e)
         | Node::Not(e)
         | Node::Hd(e)
@@ -112,38 +103,169 @@ fn node(
         | Node::IntToString(e)
         | Node::Print(e)
         | Node::Project(e, _)
-        | Node::Tag(_, e) => Ok(expr(alloc, globals, names, e)?),
-        Node::If(c, d, e) => {
-            expr(alloc, globals, names, c)?;
-            expr(alloc, globals, names, d)?;
-            Ok(expr(alloc, globals, names, e)?)
-        }
-        Node::Record(fields) => Ok(parts(alloc, globals, names, fields.as_slice())?),
-        Node::Extend(fields, e) => {
-            parts(alloc, globals, names, fields.as_slice())?;
-            Ok(expr(alloc, globals, names, e)?)
-        }
-        Node::List(items) => Ok(exprs(alloc, globals, names, items.as_slice())?),
-        Node::Switch(e, list, last) => {
-            expr(alloc, globals, names, e)?;
-            cases(alloc, globals, names, list.as_slice())?;
-            Ok(last_case(alloc, globals, names, last)?)
-        }
+        | Node::Tag(_, e) => expr(alloc, globals, names, e),
+        Node::If(c, d, e) => three(alloc, globals, names, c, d, e),
+        Node::Record(fields) => parts(alloc, globals, names, fields.as_slice()),
+        Node::Extend(fields, e) => extend(alloc, globals, names, fields.as_slice(), e),
+        Node::List(items) => exprs(alloc, globals, names, items.as_slice()),
+        Node::Switch(e, list, last) => switch(alloc, globals, names, e, list.as_slice(), last),
         Node::Var(name, e, body) | Node::ForList(name, e, body) | Node::ForTable(name, e, body) => {
-            expr(alloc, globals, names, e)?;
-            Ok(under(alloc, globals, names, name, body)?)
+            binding(alloc, globals, names, name, e, body)
         }
-        Node::Table(table) => Ok(global(&globals.tables, names, table.at, &table.text)?),
-        Node::Query(list, e) => {
-            keys(alloc, list.as_slice())?;
-            Ok(expr(alloc, globals, names, e)?)
-        }
-        Node::Insert(table, e) => {
-            global(&globals.tables, names, table.at, &table.text)?;
-            Ok(expr(alloc, globals, names, e)?)
-        }
-        Node::Update(rows) | Node::Delete(rows) => Ok(change(alloc, globals, names, rows)?),
+        Node::Table(table) => global(&globals.tables, names, table.at, &table.text),
+        Node::Query(list, e) => query(alloc, globals, names, list.as_slice(), e),
+        Node::Insert(table, e) => insert(alloc, globals, names, table, e),
+        Node::Update(rows) | Node::Delete(rows) => change(alloc, globals, names, rows),
     }
+}
+
+/// `g(d, e)`.
+#[cycle(faults)]
+fn call(
+    alloc: Global,
+    globals: &Globals,
+    names: &mut Names,
+    name: &Word,
+    args: &[Expr],
+) -> Result<(), NameError>
+    ensures fault { Answers result (first_of (global_fault globals.now.functions names.old name.now.at name.now.text) (first_among (all_in names.old (map (fault globals.now) args.now)))) }
+    ensures left { OnOk result (names.new ≡ names.old) }
+{
+    global(&globals.functions, names, name.at, &name.text)?;
+    exprs(alloc, globals, names, args)
+}
+
+/// `f(d, e)`, where `f` is any expression.
+#[cycle(faults)]
+fn apply(
+    alloc: Global,
+    globals: &Globals,
+    names: &mut Names,
+    f: &Expr,
+    args: &[Expr],
+) -> Result<(), NameError>
+    ensures fault { Answers result (first_of (fault globals.now f.now names.old) (first_among (all_in names.old (map (fault globals.now) args.now)))) }
+    ensures left { OnOk result (names.new ≡ names.old) }
+{
+    expr(alloc, globals, names, f)?;
+    exprs(alloc, globals, names, args)
+}
+
+/// Two expressions under the same names.
+#[cycle(faults)]
+fn two(
+    alloc: Global,
+    globals: &Globals,
+    names: &mut Names,
+    a: &Expr,
+    b: &Expr,
+) -> Result<(), NameError>
+    ensures fault { Answers result (first_of (fault globals.now a.now names.old) (fault globals.now b.now names.old)) }
+    ensures left { OnOk result (names.new ≡ names.old) }
+{
+    expr(alloc, globals, names, a)?;
+    expr(alloc, globals, names, b)
+}
+
+/// Three expressions under the same names.
+#[cycle(faults)]
+fn three(
+    alloc: Global,
+    globals: &Globals,
+    names: &mut Names,
+    c: &Expr,
+    d: &Expr,
+    e: &Expr,
+) -> Result<(), NameError>
+    ensures fault { Answers result (first_of (fault globals.now c.now names.old) (first_of (fault globals.now d.now names.old) (fault globals.now e.now names.old))) }
+    ensures left { OnOk result (names.new ≡ names.old) }
+{
+    expr(alloc, globals, names, c)?;
+    expr(alloc, globals, names, d)?;
+    expr(alloc, globals, names, e)
+}
+
+/// `(l = d | e)`.
+#[cycle(faults)]
+fn extend(
+    alloc: Global,
+    globals: &Globals,
+    names: &mut Names,
+    fields: &[PartExpr],
+    e: &Expr,
+) -> Result<(), NameError>
+    ensures fault { Answers result (first_of (items_fault no_names (all_in names.old (map (part_item globals.now) fields.now))) (fault globals.now e.now names.old)) }
+    ensures left { OnOk result (names.new ≡ names.old) }
+{
+    parts(alloc, globals, names, fields)?;
+    expr(alloc, globals, names, e)
+}
+
+/// `switch (e) { case T(x) -> d }`.
+#[cycle(faults)]
+fn switch(
+    alloc: Global,
+    globals: &Globals,
+    names: &mut Names,
+    e: &Expr,
+    list: &[Case],
+    last: &Option<LastCase>,
+) -> Result<(), NameError>
+    ensures fault { Answers result (first_of (fault globals.now e.now names.old) (first_of (items_fault no_names (all_in names.old (map (case_item globals.now) list.now))) (some_in (option_map (last_fault globals.now) last.now) names.old))) }
+    ensures left { OnOk result (names.new ≡ names.old) }
+{
+    expr(alloc, globals, names, e)?;
+    cases(alloc, globals, names, list)?;
+    last_case(alloc, globals, names, last)
+}
+
+/// An expression, and another one in which one more name is seen.
+#[cycle(faults)]
+fn binding(
+    alloc: Global,
+    globals: &Globals,
+    names: &mut Names,
+    name: &Word,
+    e: &Expr,
+    body: &Expr,
+) -> Result<(), NameError>
+    ensures fault { Answers result (first_of (fault globals.now e.now names.old) (fault globals.now body.now (bind name.now names.old))) }
+    ensures left { OnOk result (names.new ≡ names.old) }
+{
+    expr(alloc, globals, names, e)?;
+    under(alloc, globals, names, name, body)
+}
+
+/// `query orderby (l) { e }`.
+#[cycle(faults)]
+fn query(
+    alloc: Global,
+    globals: &Globals,
+    names: &mut Names,
+    list: &[SortKey],
+    e: &Expr,
+) -> Result<(), NameError>
+    ensures fault { Answers result (first_of (keys_fault list.now) (fault globals.now e.now names.old)) }
+    ensures left { OnOk result (names.new ≡ names.old) }
+{
+    keys(alloc, list)?;
+    expr(alloc, globals, names, e)
+}
+
+/// `insert t values e`.
+#[cycle(faults)]
+fn insert(
+    alloc: Global,
+    globals: &Globals,
+    names: &mut Names,
+    table: &Word,
+    e: &Expr,
+) -> Result<(), NameError>
+    ensures fault { Answers result (first_of (global_fault globals.now.tables names.old table.now.at table.now.text) (fault globals.now e.now names.old)) }
+    ensures left { OnOk result (names.new ≡ names.old) }
+{
+    global(&globals.tables, names, table.at, &table.text)?;
+    expr(alloc, globals, names, e)
 }
 
 /// An expression in which one more name is seen.
@@ -271,7 +393,7 @@ fn last_case(
 {
     match last {
         None => Ok(()),
-        Some(last) => Ok(under(alloc, globals, names, &last.name, &last.body)?),
+        Some(last) => under(alloc, globals, names, &last.name, &last.body),
     }
 }
 

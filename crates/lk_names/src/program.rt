@@ -68,9 +68,9 @@ fn decl(
 {
     see(alloc, globals, decl)?;
     match decl {
-        Decl::Table(one) => Ok(table(alloc, declared, one)?),
-        Decl::Fun(one) => Ok(function(alloc, declared, globals, one)?),
-        Decl::Mutual(list) => Ok(functions(alloc, declared, globals, list.as_slice())?),
+        Decl::Table(one) => table(alloc, declared, one),
+        Decl::Fun(one) => function(alloc, declared, globals, one),
+        Decl::Mutual(list) => functions(alloc, declared, globals, list.as_slice()),
     }
 }
 
@@ -87,7 +87,7 @@ fn see(alloc: Global, globals: &mut Globals, decl: &Decl) -> Result<(), NoMemory
             let _is_new = globals.functions.insert(alloc, one.name.text.as_str())?;
             Ok(())
         }
-        Decl::Mutual(list) => Ok(see_all(alloc, &mut globals.functions, list.as_slice())?),
+        Decl::Mutual(list) => see_all(alloc, &mut globals.functions, list.as_slice()),
     }
 }
 
@@ -107,7 +107,7 @@ fn table(alloc: Global, declared: &mut Names, table: &TableDecl) -> Result<(), N
     ensures declared { OnOk result (declared.new ≡ bind table.now.name declared.old) }
 {
     once(alloc, declared, &table.name)?;
-    Ok(columns(alloc, table.columns.as_slice())?)
+    columns(alloc, table.columns.as_slice())
 }
 
 /// The functions of a `mutual` block.
@@ -142,7 +142,7 @@ fn function(
     let mut names = Names::new(alloc);
     let mut noted = List::new(alloc);
     names.enter_all(alloc, &mut noted, f.params.as_slice())?;
-    Ok(expr(alloc, globals, &mut names, &f.body)?)
+    expr(alloc, globals, &mut names, &f.body)
 }
 
 /// The signature of the function of this name, if it has one.
@@ -153,7 +153,7 @@ fn signature(alloc: Global, name: &Word, sig: &Option<Sig>) -> Result<(), NameEr
         None => Ok(()),
         Some(sig) => {
             if sig.name.text.equals(&name.text) {
-                Ok(sig_type(alloc, &sig.ty)?)
+                sig_type(alloc, &sig.ty)
             } else {
                 Err(NameError::Unbound(sig.name.at))
             }

@@ -19,11 +19,11 @@ pub fn sig_type(alloc: Global, ty: &SigType) -> Result<(), NameError>
 {
     match ty {
         SigType::Int | SigType::Bool | SigType::Text => Ok(()),
-        SigType::List(item) => Ok(sig_type(alloc, item.get())?),
-        SigType::Fields(list) | SigType::Tags(list) => Ok(fields(alloc, list.as_slice())?),
+        SigType::List(item) => sig_type(alloc, item.get()),
+        SigType::Fields(list) | SigType::Tags(list) => fields(alloc, list.as_slice()),
         SigType::Fun(params, result) => {
             sig_types(alloc, params.as_slice())?;
-            Ok(sig_type(alloc, result.get())?)
+            sig_type(alloc, result.get())
         }
     }
 }

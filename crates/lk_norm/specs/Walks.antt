@@ -62,6 +62,10 @@ module _ (parts : List Part) where
   abbrev pub branches_at : ℕ → Place → Scope → List Branch
   branches_at at place scope = list_at place (norms parts at (names_in parts scope)) (tests_in place.tests.now)
 
+  -- those behind one test more
+  abbrev pub tested_at : ℕ → Bool → ℕ → Place → Scope → List Branch
+  tested_at c negated at place scope = list_at place (norms parts at (names_in parts scope)) (conjunction (tests_in place.tests.now) (test_in c negated (place.outer + length (froms_in place.froms.now)) scope))
+
   -- the branches of these records
   abbrev pub items_at : List ℕ → Place → Scope → List Branch
   items_at items place scope = map (λ item. branch (froms_in place.froms.now) (tests_in place.tests.now) (row_in parts item (place.outer + length (froms_in place.froms.now)) scope)) items

@@ -8,6 +8,7 @@ ghost use Rattle.lk_norm.specs.Sql.{change_sql};
 ghost use Rattle.std.specs.Prelude.{◌≡◌, ◌≤◌, IfErr, IfOk};
 
 use crate::error::NormError;
+use crate::here::Here;
 use crate::limits::{MOST_BYTES, ROOM};
 use crate::names::Scope;
 use crate::over::Over;
@@ -41,7 +42,7 @@ fn change_within(alloc: Global, change: &InlinedChange, left: &mut u64) -> Resul
     let over = Over::new(alloc, &change.parts)?;
     let captured = Scope::Captured(1, change.captured.as_slice());
     let scope = Scope::Columns(0, 1, change.labels.as_slice(), &captured);
-    Ok(change_in(&over, change, &scope, left)?)
+    change_in(&over, change, &scope, left)
 }
 
 /// The same by what names stand for.
@@ -53,19 +54,25 @@ fn change_in(
 ) -> Result<Change, Stop>
     ensures { MakesChange result left.new (change_of over.now change.now (names_in over.now scope.now)) left.old }
 {
-    let cond = scalar(over, ROOM, change.cond, 1, scope, left)?;
-    let sets = sets(over, change.sets.as_slice(), scope, left)?;
+    let here = Here {
+        alloc: over.alloc,
+        over: &*over,
+        count: 1,
+        scope: &*scope,
+    };
+    let cond = scalar(&here, ROOM, change.cond, left)?;
+    let sets = sets(&here, change.sets.as_slice(), left)?;
     Ok(Change { cond, sets })
 }
 
-/// What columns are set to, for the row of generator 1.
-fn sets(over: &Over, items: &[Labelled], scope: &Scope, left: &mut u64) -> Result<List<Out>, Stop>
-    ensures { MakesSets result left.new (outputs (norms over.now) items.now (names_in over.now scope.now) 1) left.old }
+/// What columns are set to.
+fn sets(here: &Here, items: &[Labelled], left: &mut u64) -> Result<List<Out>, Stop>
+    ensures { MakesSets result left.new (outputs (norms here.now.over.now) items.now (names_in here.now.over.now here.now.scope.now) here.now.count) left.old }
 {
-    let mut sets = List::new(over.alloc);
+    let mut sets = List::new(here.alloc);
     for item in items {
-        let scalar = scalar(over, ROOM, item.part, 1, scope, left)?;
-        let label = item.label.copy(over.alloc)?;
+        let scalar = scalar(here, ROOM, item.part, left)?;
+        let label = item.label.copy(here.alloc)?;
         sets.push(Out { label, scalar })?;
     }
     Ok(sets)

@@ -13,6 +13,7 @@
 mod changes;
 mod counting;
 mod error;
+mod here;
 mod law;
 mod lengths;
 mod limits;

@@ -74,19 +74,19 @@ impl<'a> Over<'a> {
         ensures { IfOk result (λ meant. names_in self.now scope.now n ≡ stands self.now meant) }
     {
         match scope {
-            Scope::Captured(first, captured) => Ok(self.captured(*first, captured, n)?),
+            Scope::Captured(first, captured) => self.captured(*first, captured, n),
             Scope::Row(x, item, count, inner, outer) => {
                 if n == *x {
                     Ok(Meant::Row(*item, *count, inner))
                 } else {
-                    Ok(self.meant(outer, n)?)
+                    self.meant(outer, n)
                 }
             }
             Scope::Columns(x, generator, labels, outer) => {
                 if n == *x {
                     Ok(Meant::Columns(*generator, labels))
                 } else {
-                    Ok(self.meant(outer, n)?)
+                    self.meant(outer, n)
                 }
             }
         }

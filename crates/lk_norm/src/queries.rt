@@ -9,6 +9,7 @@ ghost use Rattle.lk_sql.specs.Text.{key_text, keys_text};
 ghost use Rattle.std.specs.Prelude.{◌≡◌, ◌+◌, IfErr, IfOk, length};
 
 use crate::error::NormError;
+use crate::here::Here;
 use crate::lengths::name_length;
 use crate::limits::{MOST_BRANCHES, MOST_BYTES, ROOM};
 use crate::names::Scope;
@@ -65,7 +66,13 @@ fn within(
 {
     charge(left, keys_length(keys)?)?;
     let scope = Scope::Captured(0, captured);
-    let selects = selects_of(over, ROOM, columns, root, 0, &scope, left)?;
+    let here = Here {
+        alloc: over.alloc,
+        over: &*over,
+        count: 0,
+        scope: &scope,
+    };
+    let selects = selects_of(&here, ROOM, columns, root, left)?;
     let keys = copy_keys(over.alloc, keys)?;
     Ok(Sql { selects, keys })
 }

@@ -7,8 +7,9 @@ ghost use Rattle.lk_norm.specs.Walks.{MakesOuts, label_paid, labelled, outs_paid
 ghost use Rattle.lk_sql.specs.declared.tree.Scalar.TheVariants as scalars;
 ghost use Rattle.std.specs.Prelude.{ℕ};
 
+use crate::here::Here;
 use crate::lengths::name_length;
-use crate::names::{Meant, Scope};
+use crate::names::Meant;
 use crate::over::Over;
 use crate::places::Row;
 use crate::scalars::{choice, column, extended_cell, param, scalar};
@@ -24,57 +25,56 @@ pub fn outs(over: &Over, room: usize, row: &Row, left: &mut u64) -> Result<List<
     ensures { MakesOuts result left.new (row_of over.now row.now) left.old }
 {
     match row {
-        Row::Part(item, count, scope) => Ok(part_outs(over, room, *item, *count, scope, left)?),
-        Row::Columns(generator, labels) => Ok(column_outs(over.alloc, *generator, labels, left)?),
+        Row::Part(item, count, scope) => {
+            let here = Here {
+                alloc: over.alloc,
+                over: &*over,
+                count: *count,
+                scope,
+            };
+            part_outs(&here, room, *item, left)
+        }
+        Row::Columns(generator, labels) => column_outs(over.alloc, *generator, labels, left),
     }
 }
 
 /// The outputs of a record, where so many generators are in scope.
 #[cycle(makes)]
-fn part_outs(
-    over: &Over,
-    room: usize,
-    at: u32,
-    count: u32,
-    scope: &Scope,
-    left: &mut u64,
-) -> Result<List<Out>, Stop>
-    ensures { MakesOuts result left.new (row_in over.now at count scope.now) left.old }
+fn part_outs(here: &Here, room: usize, at: u32, left: &mut u64) -> Result<List<Out>, Stop>
+    ensures { MakesOuts result left.new (row_in here.now.over.now at here.now.count here.now.scope.now) left.old }
 {
     if room == 0 {
         return Err(Stop::NoMemory);
     }
-    let part = over.part(at)?;
-    Ok(outs_of(over, room - 1, at, part, count, scope, left)?)
+    let part = here.over.part(at)?;
+    outs_of(here, room - 1, at, part, left)
 }
 
 /// The same by the part.
 #[cycle(makes)]
 fn outs_of(
-    over: &Over,
+    here: &Here,
     room: usize,
     at: u32,
     part: &Part,
-    count: u32,
-    scope: &Scope,
     left: &mut u64,
 ) -> Result<List<Out>, Stop>
-    ensures { MakesOuts result left.new ((norm_level (norms over.now) at part.now (names_in over.now scope.now)).row count) left.old }
+    ensures { MakesOuts result left.new ((norm_level (norms here.now.over.now) at part.now (names_in here.now.over.now here.now.scope.now)).row here.now.count) left.old }
 {
     match part {
-        Part::Bound => Ok(bound_outs(over, room, at, scope, left)?),
+        Part::Bound => bound_outs(here, room, at, left),
         Part::Record(items) => {
             let items = items.as_slice();
-            Ok(record_outs(over, room, items, count, scope, left)?)
+            record_outs(here, room, items, left)
         }
         Part::IfRow(labels, c, a, b) => {
             let labels = labels.as_slice();
-            Ok(choice_outs(over, room, labels, *c, *a, *b, count, scope, left)?)
+            choice_outs(here, room, labels, *c, *a, *b, left)
         }
         Part::Extend(labels, items, rest) => {
             let labels = labels.as_slice();
             let items = items.as_slice();
-            Ok(extended_outs(over, room, labels, items, *rest, count, scope, left)?)
+            extended_outs(here, room, labels, items, *rest, left)
         }
         Part::Lit(_)
         | Part::Case(_, _, _)
@@ -88,47 +88,45 @@ fn outs_of(
         | Part::Append(_, _)
         | Part::ForList(_, _, _)
         | Part::Table(_, _)
-        | Part::Where(_, _) => Ok(List::new(over.alloc)),
+        | Part::Where(_, _) => Ok(List::new(here.alloc)),
     }
 }
 
 /// The outputs of what is bound to a number.
 #[cycle(makes)]
-fn bound_outs(
-    over: &Over,
-    room: usize,
-    n: u32,
-    scope: &Scope,
-    left: &mut u64,
-) -> Result<List<Out>, Stop>
-    ensures { (count : ℕ) → MakesOuts result left.new ((names_in over.now scope.now n).row count) left.old }
+fn bound_outs(here: &Here, room: usize, n: u32, left: &mut u64) -> Result<List<Out>, Stop>
+    ensures { (count : ℕ) → MakesOuts result left.new ((names_in here.now.over.now here.now.scope.now n).row count) left.old }
 {
-    match over.meant(scope, n)? {
-        Meant::Nothing | Meant::Param(_) => Ok(List::new(over.alloc)),
-        Meant::Params(first, columns) => Ok(param_outs(over.alloc, first, columns, left)?),
-        Meant::Row(item, count, inner) => Ok(part_outs(over, room, item, count, inner, left)?),
-        Meant::Columns(generator, labels) => {
-            Ok(column_outs(over.alloc, generator, labels, left)?)
+    match here.over.meant(here.scope, n)? {
+        Meant::Nothing | Meant::Param(_) => Ok(List::new(here.alloc)),
+        Meant::Params(first, columns) => param_outs(here.alloc, first, columns, left),
+        Meant::Row(item, count, scope) => {
+            let inner = Here {
+                alloc: here.alloc,
+                over: here.over,
+                count,
+                scope,
+            };
+            part_outs(&inner, room, item, left)
         }
+        Meant::Columns(generator, labels) => { column_outs(here.alloc, generator, labels, left) }
     }
 }
 
 /// The outputs of the items of a record.
 #[cycle(makes)]
 fn record_outs(
-    over: &Over,
+    here: &Here,
     room: usize,
     items: &[Labelled],
-    count: u32,
-    scope: &Scope,
     left: &mut u64,
 ) -> Result<List<Out>, Stop>
-    ensures { MakesOuts result left.new (outputs (norms over.now) items.now (names_in over.now scope.now) count) left.old }
+    ensures { MakesOuts result left.new (outputs (norms here.now.over.now) items.now (names_in here.now.over.now here.now.scope.now) here.now.count) left.old }
 {
-    let mut list = List::new(over.alloc);
+    let mut list = List::new(here.alloc);
     for item in items {
-        let scalar = scalar(over, room, item.part, count, scope, left)?;
-        list.push(out(over.alloc, &item.label, scalar, left)?)?;
+        let scalar = scalar(here, room, item.part, left)?;
+        list.push(out(here.alloc, &item.label, scalar, left)?)?;
     }
     Ok(list)
 }
@@ -136,22 +134,20 @@ fn record_outs(
 /// At each of these labels the second where the first is true, else the third.
 #[cycle(makes)]
 fn choice_outs(
-    over: &Over,
+    here: &Here,
     room: usize,
     labels: &[Text],
     c: u32,
     a: u32,
     b: u32,
-    count: u32,
-    scope: &Scope,
     left: &mut u64,
 ) -> Result<List<Out>, Stop>
-    ensures { MakesOuts result left.new (labelled (λ label. scalars.Case (base_in over.now c count scope.now) (scalar_in (row_in over.now a count scope.now) label) (scalar_in (row_in over.now b count scope.now) label)) labels.now) left.old }
+    ensures { MakesOuts result left.new (labelled (λ label. scalars.Case (base_in here.now.over.now c here.now.count here.now.scope.now) (scalar_in (row_in here.now.over.now a here.now.count here.now.scope.now) label) (scalar_in (row_in here.now.over.now b here.now.count here.now.scope.now) label)) labels.now) left.old }
 {
-    let mut list = List::new(over.alloc);
+    let mut list = List::new(here.alloc);
     for label in labels {
-        let scalar = choice(over, room, c, a, b, label, count, scope, left)?;
-        list.push(out(over.alloc, label, scalar, left)?)?;
+        let scalar = choice(here, room, c, a, b, label, left)?;
+        list.push(out(here.alloc, label, scalar, left)?)?;
     }
     Ok(list)
 }
@@ -159,21 +155,19 @@ fn choice_outs(
 /// At each of these labels what is listed, or where nothing is, what is in the rest.
 #[cycle(makes)]
 fn extended_outs(
-    over: &Over,
+    here: &Here,
     room: usize,
     labels: &[Text],
     items: &[Labelled],
     rest: u32,
-    count: u32,
-    scope: &Scope,
     left: &mut u64,
 ) -> Result<List<Out>, Stop>
-    ensures { MakesOuts result left.new (labelled (λ label. scalar_or (outputs (norms over.now) items.now (names_in over.now scope.now) count) (row_in over.now rest count scope.now) label) labels.now) left.old }
+    ensures { MakesOuts result left.new (labelled (λ label. scalar_or (outputs (norms here.now.over.now) items.now (names_in here.now.over.now here.now.scope.now) here.now.count) (row_in here.now.over.now rest here.now.count here.now.scope.now) label) labels.now) left.old }
 {
-    let mut list = List::new(over.alloc);
+    let mut list = List::new(here.alloc);
     for label in labels {
-        let scalar = extended_cell(over, room, items, rest, label, count, scope, left)?;
-        list.push(out(over.alloc, label, scalar, left)?)?;
+        let scalar = extended_cell(here, room, items, rest, label, left)?;
+        list.push(out(here.alloc, label, scalar, left)?)?;
     }
     Ok(list)
 }

@@ -7,9 +7,9 @@ ghost use Rattle.lk_norm.specs.Walks.{branches_of};
 ghost use Rattle.lk_sql.specs.declared.tree.Scalar.TheVariants as scalars;
 ghost use Rattle.std.specs.Prelude.{◌≡◌, ◌∷◌, ℕ, [], IfOk, if◌then◌else◌};
 
+use crate::here::Here;
 use crate::lengths::{base_length, generator_length, name_length, number_length, sign_length};
-use crate::names::{Meant, Scope};
-use crate::over::Over;
+use crate::names::Meant;
 use crate::stop::{Stop, charge};
 use crate::walk::selects_of;
 use lk_ast::{Base, Boxed, Column, List, NoMemory, Text, copy_base};
@@ -19,68 +19,30 @@ use std::alloc::Global;
 
 /// The scalar of a base where so many generators are in scope. There is room for so many parts in one another.
 #[cycle(makes)]
-pub fn scalar(
-    over: &Over,
-    room: usize,
-    at: u32,
-    count: u32,
-    scope: &Scope,
-    left: &mut u64,
-) -> Result<Scalar, Stop>
-    ensures { Makes result left.new (base_in over.now at count scope.now) left.old }
+pub fn scalar(here: &Here, room: usize, at: u32, left: &mut u64) -> Result<Scalar, Stop>
+    ensures { Makes result left.new (base_in here.now.over.now at here.now.count here.now.scope.now) left.old }
 {
     if room == 0 {
         return Err(Stop::NoMemory);
     }
-    let part = over.part(at)?;
-    Ok(base(over, room - 1, at, part, count, scope, left)?)
+    let part = here.over.part(at)?;
+    base(here, room - 1, at, part, left)
 }
 
 /// The same by the part.
 #[cycle(makes)]
-#[tactic(auto, using(crate::proofs::Budget::paid_one, crate::proofs::Budget::paid_two, crate::proofs::Budget::paid_case))]
-fn base(
-    over: &Over,
-    room: usize,
-    at: u32,
-    part: &Part,
-    count: u32,
-    scope: &Scope,
-    left: &mut u64,
-) -> Result<Scalar, Stop>
-    ensures { Makes result left.new ((norm_level (norms over.now) at part.now (names_in over.now scope.now)).base count) left.old }
+fn base(here: &Here, room: usize, at: u32, part: &Part, left: &mut u64) -> Result<Scalar, Stop>
+    ensures { Makes result left.new ((norm_level (norms here.now.over.now) at part.now (names_in here.now.over.now here.now.scope.now)).base here.now.count) left.old }
 {
-    let alloc = over.alloc;
     match part {
-        Part::Lit(literal) => Ok(lit(alloc, literal, left)?),
-        Part::Case(c, a, b) => {
-            charge(left, 28)?;
-            let c = scalar(over, room, *c, count, scope, left)?;
-            let a = scalar(over, room, *a, count, scope, left)?;
-            let b = scalar(over, room, *b, count, scope, left)?;
-            Ok(case(alloc, c, a, b)?)
-        }
-        Part::One(op, a) => {
-            charge(left, sign_length(*op) + 2)?;
-            let a = scalar(over, room, *a, count, scope, left)?;
-            Ok(one(alloc, *op, a)?)
-        }
-        Part::Two(op, a, b) => {
-            charge(left, sign_length(*op) + 2)?;
-            let a = scalar(over, room, *a, count, scope, left)?;
-            let b = scalar(over, room, *b, count, scope, left)?;
-            Ok(two(alloc, *op, a, b)?)
-        }
-        Part::Bound => Ok(bound(over, at, scope, left)?),
-        Part::EqRows(labels, a, b) => {
-            let labels = labels.as_slice();
-            Ok(equal_rows(over, room, labels, *a, *b, count, scope, left)?)
-        }
-        Part::Project(row, label) => Ok(cell(over, room, *row, label, count, scope, left)?),
-        Part::Empty(columns, list) => {
-            let columns = columns.as_slice();
-            Ok(is_empty(over, room, columns, *list, count, scope, left)?)
-        }
+        Part::Lit(literal) => lit(here.alloc, literal, left),
+        Part::Case(c, a, b) => base_choice(here, room, *c, *a, *b, left),
+        Part::One(op, a) => one_base(here, room, *op, *a, left),
+        Part::Two(op, a, b) => two_bases(here, room, *op, *a, *b, left),
+        Part::Bound => bound(here, at, left),
+        Part::EqRows(labels, a, b) => equal_rows(here, room, labels.as_slice(), *a, *b, left),
+        Part::Project(row, label) => cell(here, room, *row, label, left),
+        Part::Empty(columns, list) => is_empty(here, room, columns.as_slice(), *list, left),
         Part::If(_, _, _)
         | Part::IfRow(_, _, _, _)
         | Part::Record(_)
@@ -89,74 +51,110 @@ fn base(
         | Part::Append(_, _)
         | Part::ForList(_, _, _)
         | Part::Table(_, _)
-        | Part::Where(_, _) => Ok(zero(left)?),
+        | Part::Where(_, _) => zero(left),
     }
+}
+
+/// The second base where the first is true, else the third.
+#[cycle(makes)]
+#[tactic(auto, using(crate::proofs::Budget::paid_case))]
+fn base_choice(
+    here: &Here,
+    room: usize,
+    c: u32,
+    a: u32,
+    b: u32,
+    left: &mut u64,
+) -> Result<Scalar, Stop>
+    ensures { Makes result left.new (scalars.Case (base_in here.now.over.now c here.now.count here.now.scope.now) (base_in here.now.over.now a here.now.count here.now.scope.now) (base_in here.now.over.now b here.now.count here.now.scope.now)) left.old }
+{
+    charge(left, 28)?;
+    let c = scalar(here, room, c, left)?;
+    let a = scalar(here, room, a, left)?;
+    let b = scalar(here, room, b, left)?;
+    Ok(case(here.alloc, c, a, b)?)
+}
+
+/// An operation on one base.
+#[cycle(makes)]
+#[tactic(auto, using(crate::proofs::Budget::paid_one))]
+fn one_base(here: &Here, room: usize, op: SqlOp, a: u32, left: &mut u64) -> Result<Scalar, Stop>
+    ensures { Makes result left.new (scalars.Op op (base_in here.now.over.now a here.now.count here.now.scope.now ∷ [])) left.old }
+{
+    charge(left, sign_length(op) + 2)?;
+    let a = scalar(here, room, a, left)?;
+    Ok(one(here.alloc, op, a)?)
+}
+
+/// An operation on two bases.
+#[cycle(makes)]
+#[tactic(auto, using(crate::proofs::Budget::paid_two))]
+fn two_bases(
+    here: &Here,
+    room: usize,
+    op: SqlOp,
+    a: u32,
+    b: u32,
+    left: &mut u64,
+) -> Result<Scalar, Stop>
+    ensures { Makes result left.new (scalars.Op op (base_in here.now.over.now a here.now.count here.now.scope.now ∷ base_in here.now.over.now b here.now.count here.now.scope.now ∷ [])) left.old }
+{
+    charge(left, sign_length(op) + 2)?;
+    let a = scalar(here, room, a, left)?;
+    let b = scalar(here, room, b, left)?;
+    Ok(two(here.alloc, op, a, b)?)
 }
 
 /// Whether a list is empty.
 #[cycle(makes)]
 #[tactic(auto, using(crate::proofs::SelectTexts::paid_empty))]
 fn is_empty(
-    over: &Over,
+    here: &Here,
     room: usize,
     columns: &[Column],
     list: u32,
-    count: u32,
-    scope: &Scope,
     left: &mut u64,
 ) -> Result<Scalar, Stop>
-    ensures { Makes result left.new (negation (scalars.Exists (selects columns.now (branches_of over.now list count scope.now)))) left.old }
+    ensures { Makes result left.new (negation (scalars.Exists (selects columns.now (branches_of here.now.over.now list here.now.count here.now.scope.now)))) left.old }
 {
     charge(left, 6)?;
-    let selects = selects_of(over, room, columns, list, count, scope, left)?;
-    Ok(one(over.alloc, SqlOp::Not, Scalar::Exists(selects))?)
+    let selects = selects_of(here, room, columns, list, left)?;
+    Ok(one(here.alloc, SqlOp::Not, Scalar::Exists(selects))?)
 }
 
 /// What a record has under a label, where so many generators are in scope.
 #[cycle(makes)]
-fn cell(
-    over: &Over,
-    room: usize,
-    at: u32,
-    label: &Text,
-    count: u32,
-    scope: &Scope,
-    left: &mut u64,
-) -> Result<Scalar, Stop>
-    ensures { Makes result left.new (scalar_in (row_in over.now at count scope.now) label.now) left.old }
+fn cell(here: &Here, room: usize, at: u32, label: &Text, left: &mut u64) -> Result<Scalar, Stop>
+    ensures { Makes result left.new (scalar_in (row_in here.now.over.now at here.now.count here.now.scope.now) label.now) left.old }
 {
     if room == 0 {
         return Err(Stop::NoMemory);
     }
-    let part = over.part(at)?;
-    Ok(cell_of(over, room - 1, at, part, label, count, scope, left)?)
+    let part = here.over.part(at)?;
+    cell_of(here, room - 1, at, part, label, left)
 }
 
 /// The same by the part.
 #[cycle(makes)]
 fn cell_of(
-    over: &Over,
+    here: &Here,
     room: usize,
     at: u32,
     part: &Part,
     label: &Text,
-    count: u32,
-    scope: &Scope,
     left: &mut u64,
 ) -> Result<Scalar, Stop>
-    ensures { Makes result left.new (scalar_in ((norm_level (norms over.now) at part.now (names_in over.now scope.now)).row count) label.now) left.old }
+    ensures { Makes result left.new (scalar_in ((norm_level (norms here.now.over.now) at part.now (names_in here.now.over.now here.now.scope.now)).row here.now.count) label.now) left.old }
 {
     match part {
-        Part::Bound => Ok(bound_cell(over, room, at, label, scope, left)?),
-        Part::IfRow(labels, c, a, b) => {
-            choice_cell(over, room, labels, *c, *a, *b, label, count, scope, left)
-        }
+        Part::Bound => bound_cell(here, room, at, label, left),
+        Part::IfRow(labels, c, a, b) => { choice_cell(here, room, labels, *c, *a, *b, label, left) }
         Part::Record(items) => {
             let items = items.as_slice();
-            Ok(item_cell(over, room, items, label, count, scope, left)?)
+            item_cell(here, room, items, label, left)
         }
         Part::Extend(labels, items, rest) => {
-            labelled_cell(over, room, labels, items, *rest, label, count, scope, left)
+            labelled_cell(here, room, labels, items, *rest, label, left)
         }
         Part::Lit(_)
         | Part::Case(_, _, _)
@@ -170,142 +168,139 @@ fn cell_of(
         | Part::Append(_, _)
         | Part::ForList(_, _, _)
         | Part::Table(_, _)
-        | Part::Where(_, _) => Ok(zero(left)?),
+        | Part::Where(_, _) => zero(left),
     }
 }
 
 /// The second where the first is true, else the third, under a label that is among these.
 #[cycle(makes)]
 fn choice_cell(
-    over: &Over,
+    here: &Here,
     room: usize,
     labels: &List<Text>,
     c: u32,
     a: u32,
     b: u32,
     label: &Text,
-    count: u32,
-    scope: &Scope,
     left: &mut u64,
 ) -> Result<Scalar, Stop>
-    ensures { Makes result left.new (if has_label labels.now label.now then scalars.Case (base_in over.now c count scope.now) (scalar_in (row_in over.now a count scope.now) label.now) (scalar_in (row_in over.now b count scope.now) label.now) else no_scalar) left.old }
+    ensures { Makes result left.new (if has_label labels.now label.now then scalars.Case (base_in here.now.over.now c here.now.count here.now.scope.now) (scalar_in (row_in here.now.over.now a here.now.count here.now.scope.now) label.now) (scalar_in (row_in here.now.over.now b here.now.count here.now.scope.now) label.now) else no_scalar) left.old }
 {
     if !has(labels.as_slice(), label) {
-        return Ok(zero(left)?);
+        return zero(left);
     }
-    Ok(choice(over, room, c, a, b, label, count, scope, left)?)
+    choice(here, room, c, a, b, label, left)
 }
 
 /// The second where the first is true, else the third, under a label.
 #[cycle(makes)]
 #[tactic(auto, using(crate::proofs::Budget::paid_case))]
 pub fn choice(
-    over: &Over,
+    here: &Here,
     room: usize,
     c: u32,
     a: u32,
     b: u32,
     label: &Text,
-    count: u32,
-    scope: &Scope,
     left: &mut u64,
 ) -> Result<Scalar, Stop>
-    ensures { Makes result left.new (scalars.Case (base_in over.now c count scope.now) (scalar_in (row_in over.now a count scope.now) label.now) (scalar_in (row_in over.now b count scope.now) label.now)) left.old }
+    ensures { Makes result left.new (scalars.Case (base_in here.now.over.now c here.now.count here.now.scope.now) (scalar_in (row_in here.now.over.now a here.now.count here.now.scope.now) label.now) (scalar_in (row_in here.now.over.now b here.now.count here.now.scope.now) label.now)) left.old }
 {
     charge(left, 28)?;
-    let c = scalar(over, room, c, count, scope, left)?;
-    let a = cell(over, room, a, label, count, scope, left)?;
-    let b = cell(over, room, b, label, count, scope, left)?;
-    Ok(case(over.alloc, c, a, b)?)
+    let c = scalar(here, room, c, left)?;
+    let a = cell(here, room, a, label, left)?;
+    let b = cell(here, room, b, label, left)?;
+    Ok(case(here.alloc, c, a, b)?)
 }
 
 /// What an extended record has under a label that is among these.
 #[cycle(makes)]
 fn labelled_cell(
-    over: &Over,
+    here: &Here,
     room: usize,
     labels: &List<Text>,
     items: &List<Labelled>,
     rest: u32,
     label: &Text,
-    count: u32,
-    scope: &Scope,
     left: &mut u64,
 ) -> Result<Scalar, Stop>
-    ensures { Makes result left.new (if has_label labels.now label.now then scalar_or (outputs (norms over.now) items.now (names_in over.now scope.now) count) (row_in over.now rest count scope.now) label.now else no_scalar) left.old }
+    ensures { Makes result left.new (if has_label labels.now label.now then scalar_or (outputs (norms here.now.over.now) items.now (names_in here.now.over.now here.now.scope.now) here.now.count) (row_in here.now.over.now rest here.now.count here.now.scope.now) label.now else no_scalar) left.old }
 {
     if !has(labels.as_slice(), label) {
-        return Ok(zero(left)?);
+        return zero(left);
     }
     let items = items.as_slice();
-    Ok(extended_cell(over, room, items, rest, label, count, scope, left)?)
+    extended_cell(here, room, items, rest, label, left)
 }
 
 /// What is under the first item with the label.
 #[cycle(makes)]
 fn item_cell(
-    over: &Over,
+    here: &Here,
     room: usize,
     items: &[Labelled],
     label: &Text,
-    count: u32,
-    scope: &Scope,
     left: &mut u64,
 ) -> Result<Scalar, Stop>
-    ensures { Makes result left.new (scalar_in (outputs (norms over.now) items.now (names_in over.now scope.now) count) label.now) left.old }
+    ensures { Makes result left.new (scalar_in (outputs (norms here.now.over.now) items.now (names_in here.now.over.now here.now.scope.now) here.now.count) label.now) left.old }
 {
     for item in items {
         if item.label.equals(label) {
-            return Ok(scalar(over, room, item.part, count, scope, left)?);
+            return scalar(here, room, item.part, left);
         }
     }
-    Ok(zero(left)?)
+    zero(left)
 }
 
 /// What is under the first item with the label, or, where none has it, in the rest.
 #[cycle(makes)]
 pub fn extended_cell(
-    over: &Over,
+    here: &Here,
     room: usize,
     items: &[Labelled],
     rest: u32,
     label: &Text,
-    count: u32,
-    scope: &Scope,
     left: &mut u64,
 ) -> Result<Scalar, Stop>
-    ensures { Makes result left.new (scalar_or (outputs (norms over.now) items.now (names_in over.now scope.now) count) (row_in over.now rest count scope.now) label.now) left.old }
+    ensures { Makes result left.new (scalar_or (outputs (norms here.now.over.now) items.now (names_in here.now.over.now here.now.scope.now) here.now.count) (row_in here.now.over.now rest here.now.count here.now.scope.now) label.now) left.old }
 {
     for item in items {
         if item.label.equals(label) {
-            return Ok(scalar(over, room, item.part, count, scope, left)?);
+            return scalar(here, room, item.part, left);
         }
     }
-    Ok(cell(over, room, rest, label, count, scope, left)?)
+    cell(here, room, rest, label, left)
 }
 
 /// What is under a label of what is bound to a number.
 #[cycle(makes)]
 #[tactic(auto, using(crate::proofs::Making::columns_in))]
 fn bound_cell(
-    over: &Over,
+    here: &Here,
     room: usize,
     n: u32,
     label: &Text,
-    scope: &Scope,
     left: &mut u64,
 ) -> Result<Scalar, Stop>
-    ensures { (count : ℕ) → Makes result left.new (scalar_in ((names_in over.now scope.now n).row count) label.now) left.old }
+    ensures { (count : ℕ) → Makes result left.new (scalar_in ((names_in here.now.over.now here.now.scope.now n).row count) label.now) left.old }
 {
-    match over.meant(scope, n)? {
-        Meant::Nothing | Meant::Param(_) => Ok(zero(left)?),
-        Meant::Params(first, columns) => Ok(param_cell(over.alloc, first, columns, label, left)?),
-        Meant::Row(item, count, inner) => Ok(cell(over, room, item, label, count, inner, left)?),
+    match here.over.meant(here.scope, n)? {
+        Meant::Nothing | Meant::Param(_) => zero(left),
+        Meant::Params(first, columns) => param_cell(here.alloc, first, columns, label, left),
+        Meant::Row(item, count, scope) => {
+            let inner = Here {
+                alloc: here.alloc,
+                over: here.over,
+                count,
+                scope,
+            };
+            cell(&inner, room, item, label, left)
+        }
         Meant::Columns(generator, labels) => {
             if !has(labels, label) {
-                return Ok(zero(left)?);
+                return zero(left);
             }
-            Ok(column(over.alloc, generator, label, left)?)
+            column(here.alloc, generator, label, left)
         }
     }
 }
@@ -314,45 +309,41 @@ fn bound_cell(
 #[cycle(makes)]
 #[tactic(auto, using(crate::proofs::Making::paid_equal, crate::proofs::Budget::paid_true))]
 fn equal_rows(
-    over: &Over,
+    here: &Here,
     room: usize,
     labels: &[Text],
     a: u32,
     b: u32,
-    count: u32,
-    scope: &Scope,
     left: &mut u64,
 ) -> Result<Scalar, Stop>
-    ensures { Makes result left.new (equal_rows labels.now (row_in over.now a count scope.now) (row_in over.now b count scope.now)) left.old }
+    ensures { Makes result left.new (equal_rows labels.now (row_in here.now.over.now a here.now.count here.now.scope.now) (row_in here.now.over.now b here.now.count here.now.scope.now)) left.old }
 {
     let Some((first, rest)) = labels.split_first() else {
         charge(left, 4)?;
         return Ok(Scalar::Lit(Base::Bool(true)));
     };
-    let first = equal_at(over, room, first, a, b, count, scope, left)?;
-    Ok(more_equal(over, room, first, rest, a, b, count, scope, left)?)
+    let first = equal_at(here, room, first, a, b, left)?;
+    more_equal(here, room, first, rest, a, b, left)
 }
 
 /// Whether two records are equal at these labels too.
 #[cycle(makes)]
 fn more_equal(
-    over: &Over,
+    here: &Here,
     room: usize,
     first: Scalar,
     labels: &[Text],
     a: u32,
     b: u32,
-    count: u32,
-    scope: &Scope,
     left: &mut u64,
 ) -> Result<Scalar, Stop>
-    ensures { MakesBy result left.new (equal_from first (row_in over.now a count scope.now) (row_in over.now b count scope.now) labels.now) (more_paid (row_in over.now a count scope.now) (row_in over.now b count scope.now) labels.now left.old) }
+    ensures { MakesBy result left.new (equal_from first (row_in here.now.over.now a here.now.count here.now.scope.now) (row_in here.now.over.now b here.now.count here.now.scope.now) labels.now) (more_paid (row_in here.now.over.now a here.now.count here.now.scope.now) (row_in here.now.over.now b here.now.count here.now.scope.now) labels.now left.old) }
 {
     let mut so_far = first;
     for label in labels {
         charge(left, 7)?;
-        let next = equal_at(over, room, label, a, b, count, scope, left)?;
-        so_far = two(over.alloc, SqlOp::And, so_far, next)?;
+        let next = equal_at(here, room, label, a, b, left)?;
+        so_far = two(here.alloc, SqlOp::And, so_far, next)?;
     }
     Ok(so_far)
 }
@@ -361,31 +352,29 @@ fn more_equal(
 #[cycle(makes)]
 #[tactic(auto, using(crate::proofs::Budget::paid_two))]
 fn equal_at(
-    over: &Over,
+    here: &Here,
     room: usize,
     label: &Text,
     a: u32,
     b: u32,
-    count: u32,
-    scope: &Scope,
     left: &mut u64,
 ) -> Result<Scalar, Stop>
-    ensures { Makes result left.new (equal_at (row_in over.now a count scope.now) (row_in over.now b count scope.now) label.now) left.old }
+    ensures { Makes result left.new (equal_at (row_in here.now.over.now a here.now.count here.now.scope.now) (row_in here.now.over.now b here.now.count here.now.scope.now) label.now) left.old }
 {
     charge(left, sign_length(SqlOp::Eq) + 2)?;
-    let a = cell(over, room, a, label, count, scope, left)?;
-    let b = cell(over, room, b, label, count, scope, left)?;
-    Ok(two(over.alloc, SqlOp::Eq, a, b)?)
+    let a = cell(here, room, a, label, left)?;
+    let b = cell(here, room, b, label, left)?;
+    Ok(two(here.alloc, SqlOp::Eq, a, b)?)
 }
 
 /// The scalar of what is bound to a number.
-fn bound(over: &Over, n: u32, scope: &Scope, left: &mut u64) -> Result<Scalar, Stop>
-    ensures { (count : ℕ) → Makes result left.new ((names_in over.now scope.now n).base count) left.old }
+fn bound(here: &Here, n: u32, left: &mut u64) -> Result<Scalar, Stop>
+    ensures { (count : ℕ) → Makes result left.new ((names_in here.now.over.now here.now.scope.now n).base count) left.old }
 {
-    match over.meant(scope, n)? {
-        Meant::Param(number) => Ok(param(over.alloc, number, left)?),
+    match here.over.meant(here.scope, n)? {
+        Meant::Param(number) => param(here.alloc, number, left),
         Meant::Nothing | Meant::Params(_, _) | Meant::Row(_, _, _) | Meant::Columns(_, _) => {
-            Ok(zero(left)?)
+            zero(left)
         }
     }
 }
@@ -403,11 +392,11 @@ fn param_cell(
     let mut next = first;
     for column in columns {
         if column.label.equals(label) {
-            return Ok(param(alloc, next, left)?);
+            return param(alloc, next, left);
         }
         next = next.checked_add(1).ok_or(NoMemory)?;
     }
-    Ok(zero(left)?)
+    zero(left)
 }
 
 /// A parameter.

@@ -7,8 +7,8 @@ ghost use Rattle.lk_sql.specs.Text.{from_text};
 ghost use Rattle.lk_sql.specs.declared.tree.Scalar.TheVariants as scalars;
 ghost use Rattle.std.specs.Prelude.{◌≡◌, ◌+◌, IfOk, length, map};
 
+use crate::here::Here;
 use crate::lengths::{generator_length, name_length};
-use crate::names::Scope;
 use crate::over::Over;
 use crate::places::{Froms, Place, Row, Tests};
 use crate::rows::{out, outs};
@@ -97,8 +97,14 @@ fn condition(
                 return Err(Stop::NoMemory);
             }
             let so_far = condition(over, room - 1, before, left)?;
-            let next = test(over, room - 1, *c, *negated, *count, scope, left)?;
-            Ok(join(over.alloc, so_far, next, left)?)
+            let here = Here {
+                alloc: over.alloc,
+                over: &*over,
+                count: *count,
+                scope,
+            };
+            let next = test(&here, room - 1, *c, *negated, left)?;
+            join(over.alloc, so_far, next, left)
         }
     }
 }
@@ -107,24 +113,22 @@ fn condition(
 #[cycle(makes)]
 #[tactic(auto, using(crate::proofs::SelectTexts::paid_not, crate::proofs::SelectTexts::cond_not, crate::proofs::SelectTexts::paid_more))]
 fn test(
-    over: &Over,
+    here: &Here,
     room: usize,
     c: u32,
     negated: bool,
-    count: u32,
-    scope: &Scope,
     left: &mut u64,
 ) -> Result<Option<Scalar>, Stop>
-    ensures { MakesBy result left.new (cond_of (test_in over.now c negated count scope.now)) (cond_paid (test_in over.now c negated count scope.now) left.old) }
+    ensures { MakesBy result left.new (cond_of (test_in here.now.over.now c negated here.now.count here.now.scope.now)) (cond_paid (test_in here.now.over.now c negated here.now.count here.now.scope.now) left.old) }
 {
     if negated {
         charge(left, 6)?;
-        let inner = scalar(over, room, c, count, scope, left)?;
-        return Ok(Some(one(over.alloc, SqlOp::Not, inner)?));
+        let inner = scalar(here, room, c, left)?;
+        return Ok(Some(one(here.alloc, SqlOp::Not, inner)?));
     }
     // TRUE is left out, so it may be longer than what is left.
     *left = left.checked_add(4).ok_or(NoMemory)?;
-    let made = scalar(over, room, c, count, scope, left)?;
+    let made = scalar(here, room, c, left)?;
     if is_always(&made) {
         return Ok(None);
     }
@@ -211,7 +215,7 @@ fn zero_of(alloc: Global, kind: BaseKind, left: &mut u64) -> Result<Scalar, Stop
     ensures { Makes result left.new (scalars.Lit (zero_of kind)) left.old }
 {
     match kind {
-        BaseKind::Int => Ok(zero(left)?),
+        BaseKind::Int => zero(left),
         BaseKind::Bool => {
             charge(left, 5)?;
             Ok(Scalar::Lit(Base::Bool(false)))

@@ -61,7 +61,7 @@ impl Entries {
     {
         let mut entries = Entries::new(alloc);
         for field in fields.into_vec() {
-            let Field { label, value } = field;
+            let (label, value) = field.into_parts();
             entries.insert(alloc, label.as_str(), value)?;
         }
         Ok(entries)

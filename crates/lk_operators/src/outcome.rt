@@ -1,7 +1,7 @@
 use lk_ast::{Trap, Value};
 
 /// What an operation comes to: a value, or a trap; or there is no rule for operands such as these.
-#[derive(Debug, Drop)]
+#[derive(Drop)]
 pub enum Outcome {
     Value(Value),
     Trap(Trap),

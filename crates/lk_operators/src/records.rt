@@ -97,7 +97,10 @@ fn value_under(label: &Text, fields: List<Field>) -> Option<Value>
     ensures { result ≡ value_in label.now fields }
 {
     match find(label, fields) {
-        Some(Field { label: _, value }) => Some(value),
+        Some(field) => {
+            let (_, value) = field.into_parts();
+            Some(value)
+        }
         None => None,
     }
 }

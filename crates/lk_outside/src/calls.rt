@@ -6,7 +6,7 @@ use std::marker::Model;
 
 /// The calls of a form in memory: which are to fail, by their numbers from 0, and how many there were. The count stays
 /// at the greatest `u64` once it is there.
-#[derive(Debug, Drop)]
+#[derive(Drop)]
 pub struct NumberedCalls {
     failing: List<u64>,
     made: u64,

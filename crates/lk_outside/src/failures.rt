@@ -8,7 +8,7 @@ use std::alloc::Global;
 use std::marker::Model;
 
 /// The reads that failed: the name of the last, and how many they are.
-#[derive(Debug, Drop)]
+#[derive(Drop)]
 pub(crate) struct FailedReads {
     last: Option<Text>,
     count: u64,

@@ -13,7 +13,7 @@ use std::alloc::Global;
 use std::marker::Model;
 
 /// Files in memory. The reads of given numbers fail, and those of a name that no file has.
-#[derive(Debug, Drop)]
+#[derive(Drop)]
 pub struct MemFiles {
     files: List<FileEntry>,
     calls: NumberedCalls,

@@ -87,7 +87,7 @@ fn begins_declaration(kind: &TokenKind) -> bool
 }
 
 /// The weight so far, what it was just behind each open bracket, the innermost last, and whether `}` came last.
-#[derive(Debug, Drop)]
+#[derive(Drop)]
 struct Load {
     weight: u32,
     brackets: Vec<u32>,

@@ -13,7 +13,7 @@ use lk_ast::{NoMemory, Text, TokenKind};
 use std::alloc::Global;
 
 /// A piece in front of a text: how many bytes it has, and what token it is, unless it is white space or a comment.
-#[derive(Debug, Drop)]
+#[derive(Drop)]
 pub struct Piece {
     pub len: usize,
     pub kind: Option<TokenKind>,

@@ -21,7 +21,7 @@ const SUMS: [&str; 2] = ["+", "-"];
 const PRODUCTS: [&str; 2] = ["*", "/"];
 
 /// How tightly an operator binds, from the loosest to the tightest.
-#[derive(Clone, Copy, Debug)]
+#[derive(Clone, Copy)]
 pub enum Level {
     /// `||`.
     Or,

@@ -1,7 +1,7 @@
 use lk_ast::{Case, Expr, LastCase, List, Word};
 
 /// What a part would take of the tokens behind it, or what it is where that matters.
-#[derive(Clone, Copy, Debug)]
+#[derive(Clone, Copy)]
 pub enum Ends {
     /// It takes nothing.
     Closed,
@@ -16,7 +16,7 @@ pub enum Ends {
 }
 
 /// A part of an expression, from its first to its last token, with the parentheses or braces round it.
-#[derive(Debug, Drop)]
+#[derive(Drop)]
 pub struct Part {
     /// The byte at which it begins.
     pub from: u32,
@@ -31,7 +31,7 @@ pub struct Part {
 }
 
 /// `var x = e;` or `e;`, which begins at this byte.
-#[derive(Debug, Drop)]
+#[derive(Drop)]
 pub struct Statement {
     /// The byte at which it begins.
     pub from: u32,
@@ -42,7 +42,7 @@ pub struct Statement {
 }
 
 /// The cases of a switch.
-#[derive(Debug, Drop)]
+#[derive(Drop)]
 pub struct Cases {
     /// Those with a tag, in order.
     pub list: List<Case>,
@@ -51,7 +51,7 @@ pub struct Cases {
 }
 
 /// `(x <-- t) where (cond)` of an update or a deletion, which ends at this byte.
-#[derive(Debug, Drop)]
+#[derive(Drop)]
 pub struct Change {
     /// The name that a row has.
     pub name: Word,

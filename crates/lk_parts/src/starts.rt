@@ -20,7 +20,7 @@ const FORMS: [&str; 9] = [
 ];
 
 /// What an expression can begin with.
-#[derive(Clone, Copy, Debug)]
+#[derive(Clone, Copy)]
 pub enum Start {
     /// A number, a text, `true` or `false`.
     Literal,

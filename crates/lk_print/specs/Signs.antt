@@ -1,6 +1,6 @@
 -- The sign or word of an operator, the word before parentheses, and what binds a name in a block, as the code asks for them;
 -- Printed has the claim.
-use Rattle.std.specs.Prelude.{ℕ, Bool, true, false, List, [], ◌∷◌, Option, Some, None, codes}
+use Rattle.std.specs.Prelude.{ℕ, List, [], ◌∷◌, Option, Some, None, codes}
 use Rattle.lk_ast.specs.Layers.{Layer}
 use Rattle.lk_ast.specs.declared.expression.Node.TheOpen.{Node-F}
 use Rattle.lk_ast.specs.declared.place.Word.{Word as Named}
@@ -38,17 +38,3 @@ prefix_word other = codes "print"
 abbrev pub binder : Option Named → Kinds
 binder None = []
 binder (Some x) = Word (codes "var") ∷ name_kind x ∷ Sign (codes "=") ∷ []
-
--- whether an expression begins with a word of its own
-abbrev pub is_form : Layer → Bool
-is_form (Node-F.Lambda lambda) = true
-is_form (Node-F.If c d e) = true
-is_form (Node-F.Switch e cases last) = true
-is_form (Node-F.ForList x e body) = true
-is_form (Node-F.ForTable x rows body) = true
-is_form (Node-F.Where c e) = true
-is_form (Node-F.Query keys e) = true
-is_form (Node-F.Insert t e) = true
-is_form (Node-F.Update change) = true
-is_form (Node-F.Delete change) = true
-is_form other = false

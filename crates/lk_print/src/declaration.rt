@@ -17,9 +17,9 @@ pub fn write_decl(alloc: Global, text: &mut Text, decl: &Decl) -> Result<(), NoM
     ensures { OnOk result (text.new ≡ text.old ++ line_of (declaration decl.now)) }
 {
     match decl {
-        Decl::Table(table) => Ok(write_table(text, table)?),
-        Decl::Fun(function) => Ok(write_function_line(alloc, text, function)?),
-        Decl::Mutual(functions) => Ok(write_mutual(alloc, text, functions.as_slice())?),
+        Decl::Table(table) => write_table(text, table),
+        Decl::Fun(function) => write_function_line(alloc, text, function),
+        Decl::Mutual(functions) => write_mutual(alloc, text, functions.as_slice()),
     }
 }
 
@@ -35,7 +35,7 @@ fn write_table(text: &mut Text, table: &TableDecl) -> Result<(), NoMemory>
     write_columns(text, table.columns.as_slice())?;
     write_sign(text, ")")?;
     write_sign(text, ";")?;
-    Ok(text.push("\n")?)
+    text.push("\n")
 }
 
 /// `l : Int, m : String`.
@@ -67,7 +67,7 @@ fn write_column(line: &mut Text, one: &ColumnDecl) -> Result<(), NoMemory>
 {
     write_name(line, &one.label)?;
     write_sign(line, ":")?;
-    Ok(write_base(line, one.kind)?)
+    write_base(line, one.kind)
 }
 
 #[tactic(auto, using(crate::proofs::Appends::behind_both, crate::proofs::Appends::spaced_both, crate::proofs::Appends::spaced_behind))]
@@ -75,9 +75,9 @@ fn write_base(line: &mut Text, kind: BaseKind) -> Result<(), NoMemory>
     ensures { OnOk result (line.new ≡ line.old ++ flat_map spaced (base_kind kind)) }
 {
     match kind {
-        BaseKind::Int => Ok(write_tag(line, "Int")?),
-        BaseKind::Bool => Ok(write_tag(line, "Bool")?),
-        BaseKind::Text => Ok(write_tag(line, "String")?),
+        BaseKind::Int => write_tag(line, "Int"),
+        BaseKind::Bool => write_tag(line, "Bool"),
+        BaseKind::Text => write_tag(line, "String"),
     }
 }
 
@@ -91,7 +91,7 @@ fn write_definition(alloc: Global, line: &mut Text, fun: &FunDef) -> Result<(), 
     write_names(line, fun.params.as_slice())?;
     write_sign(line, ")")?;
     write_place(line, fun.place)?;
-    Ok(write_braces(alloc, line, &fun.body)?)
+    write_braces(alloc, line, &fun.body)
 }
 
 /// A function alone on its line.
@@ -103,14 +103,14 @@ fn write_function_line(alloc: Global, text: &mut Text, fun: &FunDef) -> Result<(
         None => {
             text.push("fun")?;
             write_definition(alloc, text, fun)?;
-            Ok(text.push("\n")?)
+            text.push("\n")
         }
         Some(sig) => {
             text.push("sig")?;
             write_signature(text, sig)?;
             write_word(text, "fun")?;
             write_definition(alloc, text, fun)?;
-            Ok(text.push("\n")?)
+            text.push("\n")
         }
     }
 }
@@ -123,13 +123,13 @@ fn write_function(alloc: Global, line: &mut Text, fun: &FunDef) -> Result<(), No
     match &fun.sig {
         None => {
             write_word(line, "fun")?;
-            Ok(write_definition(alloc, line, fun)?)
+            write_definition(alloc, line, fun)
         }
         Some(sig) => {
             write_word(line, "sig")?;
             write_signature(line, sig)?;
             write_word(line, "fun")?;
-            Ok(write_definition(alloc, line, fun)?)
+            write_definition(alloc, line, fun)
         }
     }
 }
@@ -143,7 +143,7 @@ fn write_mutual(alloc: Global, text: &mut Text, functions: &[FunDef]) -> Result<
     write_sign(text, "{")?;
     write_functions(alloc, text, functions)?;
     write_sign(text, "}")?;
-    Ok(text.push("\n")?)
+    text.push("\n")
 }
 
 fn write_functions(alloc: Global, line: &mut Text, functions: &[FunDef]) -> Result<(), NoMemory>

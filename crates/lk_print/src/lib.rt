@@ -6,6 +6,7 @@
 
 mod declaration;
 mod expression;
+mod form;
 mod operator;
 mod program;
 mod shape;

@@ -13,22 +13,22 @@ pub fn write_operator(line: &mut Text, node: &Node) -> Result<(), NoMemory>
     ensures { OnOk result (line.new ≡ line.old ++ spaced (operator_kind (out-Node node.now))) }
 {
     match node {
-        Node::And(_, _) => Ok(write_sign(line, "&&")?),
-        Node::Or(_, _) => Ok(write_sign(line, "||")?),
-        Node::Concat(_, _) => Ok(write_sign(line, "^^")?),
-        Node::Append(_, _) => Ok(write_sign(line, "++")?),
-        Node::Cons(_, _) => Ok(write_sign(line, "::")?),
-        Node::Add(_, _) => Ok(write_sign(line, "+")?),
-        Node::Sub(_, _) => Ok(write_sign(line, "-")?),
-        Node::Mul(_, _) => Ok(write_sign(line, "*")?),
-        Node::Div(_, _) => Ok(write_sign(line, "/")?),
-        Node::Eq(_, _) => Ok(write_sign(line, "==")?),
-        Node::Ne(_, _) => Ok(write_sign(line, "<>")?),
-        Node::Lt(_, _) => Ok(write_sign(line, "<")?),
-        Node::Le(_, _) => Ok(write_sign(line, "<=")?),
-        Node::Gt(_, _) => Ok(write_sign(line, ">")?),
-        Node::Ge(_, _) => Ok(write_sign(line, ">=")?),
-        _ => Ok(write_word(line, "mod")?),
+        Node::And(_, _) => write_sign(line, "&&"),
+        Node::Or(_, _) => write_sign(line, "||"),
+        Node::Concat(_, _) => write_sign(line, "^^"),
+        Node::Append(_, _) => write_sign(line, "++"),
+        Node::Cons(_, _) => write_sign(line, "::"),
+        Node::Add(_, _) => write_sign(line, "+"),
+        Node::Sub(_, _) => write_sign(line, "-"),
+        Node::Mul(_, _) => write_sign(line, "*"),
+        Node::Div(_, _) => write_sign(line, "/"),
+        Node::Eq(_, _) => write_sign(line, "=="),
+        Node::Ne(_, _) => write_sign(line, "<>"),
+        Node::Lt(_, _) => write_sign(line, "<"),
+        Node::Le(_, _) => write_sign(line, "<="),
+        Node::Gt(_, _) => write_sign(line, ">"),
+        Node::Ge(_, _) => write_sign(line, ">="),
+        _ => write_word(line, "mod"),
     }
 }
 

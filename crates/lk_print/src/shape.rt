@@ -7,7 +7,7 @@ ghost use Rattle.std.specs.Prelude.{◌≡◌};
 use lk_ast::{Expr, Node};
 
 /// What kind of expression it is.
-#[derive(Clone, Copy, Debug)]
+#[derive(Clone, Copy)]
 pub enum Shape {
     /// It is a primary of the grammar, and stands everywhere as it is.
     Primary,

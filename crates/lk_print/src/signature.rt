@@ -16,7 +16,7 @@ pub fn write_signature(line: &mut Text, sig: &Sig) -> Result<(), NoMemory>
     write_name(line, &sig.name)?;
     write_sign(line, ":")?;
     write_type(line, &sig.ty)?;
-    Ok(write_sign(line, ";")?)
+    write_sign(line, ";")
 }
 
 /// A type.
@@ -26,13 +26,13 @@ fn write_type(line: &mut Text, ty: &SigType) -> Result<(), NoMemory>
     ensures { OnOk result (line.new ≡ line.old ++ flat_map spaced (type_of ty.now)) }
 {
     match ty {
-        SigType::Int => Ok(write_tag(line, "Int")?),
-        SigType::Bool => Ok(write_tag(line, "Bool")?),
-        SigType::Text => Ok(write_tag(line, "String")?),
+        SigType::Int => write_tag(line, "Int"),
+        SigType::Bool => write_tag(line, "Bool"),
+        SigType::Text => write_tag(line, "String"),
         SigType::List(item) => {
             write_sign(line, "[")?;
             write_type(line, item.get())?;
-            Ok(write_sign(line, "]")?)
+            write_sign(line, "]")
         }
         SigType::Fields(fields) => {
             write_sign(line, "(")?;
@@ -93,7 +93,7 @@ fn write_field(line: &mut Text, field: &SigField) -> Result<(), NoMemory>
 {
     write_name(line, &field.label)?;
     write_sign(line, ":")?;
-    Ok(write_type(line, &field.ty)?)
+    write_type(line, &field.ty)
 }
 
 /// `A : T, B : U`.
@@ -119,5 +119,5 @@ fn write_tag_type(line: &mut Text, tag: &SigField) -> Result<(), NoMemory>
 {
     write_tag(line, tag.label.text.as_str())?;
     write_sign(line, ":")?;
-    Ok(write_type(line, &tag.ty)?)
+    write_type(line, &tag.ty)
 }

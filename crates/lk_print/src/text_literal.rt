@@ -47,7 +47,7 @@ pub fn write_text(alloc: Global, line: &mut Text, text: &str) -> Result<(), NoMe
     match str::from_utf8(bytes.as_slice()) {
         Ok(literal) => {
             line.push(" ")?;
-            Ok(line.push(literal)?)
+            line.push(literal)
         }
         Err(_) => unreachable!(),
     }

@@ -31,7 +31,7 @@ pub fn write_sign(line: &mut Text, sign: &str) -> Result<(), NoMemory>
 pub fn write_name(line: &mut Text, name: &Word) -> Result<(), NoMemory>
     ensures { OnOk result (line.new ≡ line.old ++ spaced (AWord name.now.text)) }
 {
-    Ok(write_word(line, name.text.as_str())?)
+    write_word(line, name.text.as_str())
 }
 
 /// A tag.

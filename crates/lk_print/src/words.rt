@@ -43,7 +43,7 @@ pub fn write_binder(line: &mut Text, name: Option<&Word>) -> Result<(), NoMemory
         Some(name) => {
             write_word(line, "var")?;
             write_name(line, name)?;
-            Ok(write_sign(line, "=")?)
+            write_sign(line, "=")
         }
     }
 }
@@ -55,8 +55,8 @@ pub fn write_place(line: &mut Text, mark: Loc) -> Result<(), NoMemory>
 {
     match mark {
         Loc::Any => Ok(()),
-        Loc::Client => Ok(write_word(line, "client")?),
-        Loc::Server => Ok(write_word(line, "server")?),
+        Loc::Client => write_word(line, "client"),
+        Loc::Server => write_word(line, "server"),
     }
 }
 
@@ -81,7 +81,7 @@ fn write_keys(line: &mut Text, first: &SortKey, rest: &[SortKey]) -> Result<(), 
     ensures { OnOk result (line.new ≡ line.old ++ flat_map spaced (separated (map key (first.now ∷ rest.now)))) }
 {
     write_key(line, first)?;
-    Ok(more_keys(line, rest)?)
+    more_keys(line, rest)
 }
 
 #[tactic(auto, using(crate::proofs::Appends::behind_both, crate::proofs::Appends::spaced_both, crate::proofs::Appends::spaced_behind))]
@@ -101,7 +101,7 @@ fn write_key(line: &mut Text, sort: &SortKey) -> Result<(), NoMemory>
 {
     write_name(line, &sort.label)?;
     if sort.desc {
-        Ok(write_word(line, "desc")?)
+        write_word(line, "desc")
     } else {
         Ok(())
     }
@@ -117,7 +117,7 @@ pub fn write_case_name(line: &mut Text, name: Option<&Word>) -> Result<(), NoMem
         Some(name) => {
             write_sign(line, "(")?;
             write_name(line, name)?;
-            Ok(write_sign(line, ")")?)
+            write_sign(line, ")")
         }
     }
 }
@@ -131,5 +131,5 @@ pub fn write_source(line: &mut Text, name: &Word, table: &Word) -> Result<(), No
     write_name(line, name)?;
     write_sign(line, "<--")?;
     write_name(line, table)?;
-    Ok(write_sign(line, ")")?)
+    write_sign(line, ")")
 }

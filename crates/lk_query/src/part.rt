@@ -5,7 +5,7 @@ use lk_sql::SqlOp;
 
 /// A part of an inlined query, which stands in a list of parts. It names its own parts by their numbers in the list, which are
 /// below its own, and the names that it binds by the numbers of theirs.
-#[derive(Debug, Drop)]
+#[derive(Drop)]
 pub enum Part {
     Lit(Base),
     /// A captured value, or the row of a `for`: what is bound to this part's number.
@@ -43,7 +43,7 @@ pub enum Part {
 }
 
 /// A label of a record, and the part that is under it.
-#[derive(Debug, Drop)]
+#[derive(Drop)]
 pub struct Labelled {
     pub label: Text,
     pub part: u32,

@@ -10,7 +10,7 @@ use lk_sql::Key;
 use std::marker::Model;
 
 /// What a query or a change captures: a base of this kind, or a record with these columns.
-#[derive(Debug, Drop)]
+#[derive(Drop)]
 pub enum Captured {
     Base(BaseKind),
     Row(List<Column>),

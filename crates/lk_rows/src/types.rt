@@ -16,7 +16,7 @@ use lk_read::{
 use std::alloc::Global;
 
 /// What stands before the `:` of a part.
-#[derive(Clone, Copy, Debug)]
+#[derive(Clone, Copy)]
 enum Label {
     /// A word that can name something, in a record.
     Name,

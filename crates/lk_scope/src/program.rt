@@ -49,11 +49,5 @@ fn scoped_function(alloc: Global, function: FunDef) -> Result<FunDef, NoMemory>
         function.params.as_slice(),
         &function.body,
     )?;
-    Ok(FunDef {
-        name: function.name,
-        sig: function.sig,
-        params: function.params,
-        place: function.place,
-        body,
-    })
+    Ok(function.with_body(body))
 }

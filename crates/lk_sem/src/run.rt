@@ -4,7 +4,7 @@ use lk_ast::{Event, List, Span, Trap, Value};
 
 /// How the evaluation of a well typed program ends: with a value or a trap, without fuel, where the store refused a reading
 /// or writing, or at an insertion that would have left that many rows in its table, too many.
-#[derive(Debug, Drop)]
+#[derive(Drop)]
 pub enum SourceEnd {
     Value(Value),
     Trap(Trap),
@@ -16,7 +16,7 @@ pub enum SourceEnd {
 }
 
 /// An evaluation: its end, its events in order, and the fuel that it used, one unit for each node entered.
-#[derive(Debug, Drop)]
+#[derive(Drop)]
 pub struct SourceRun {
     pub end: SourceEnd,
     pub log: List<Event>,

@@ -194,7 +194,14 @@ fn update_rows<'p>(
         unreachable!()
     };
     let there = scan_one(alloc, def, store)?;
-    let rows = updated_rows(alloc, catalog.index(), block, change, args, there.rows)?;
+    let rows = updated_rows(
+        alloc,
+        catalog.index(),
+        block,
+        change,
+        args,
+        there.into_rows(),
+    )?;
     Ok(put_rows(alloc, def, store, rows)?)
 }
 
@@ -222,7 +229,14 @@ fn delete_rows<'p>(
         unreachable!()
     };
     let there = scan_one(alloc, def, store)?;
-    let rows = kept_rows(alloc, catalog.index(), block, change, args, there.rows)?;
+    let rows = kept_rows(
+        alloc,
+        catalog.index(),
+        block,
+        change,
+        args,
+        there.into_rows(),
+    )?;
     Ok(put_rows(alloc, def, store, rows)?)
 }
 

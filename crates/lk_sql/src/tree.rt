@@ -3,7 +3,7 @@
 use lk_ast::{Base, Boxed, List, Text};
 
 /// An operation on base values. `Neg` and `Not` take one operand, each other one takes two.
-#[derive(Clone, Copy, Debug, PartialEq, Eq)]
+#[derive(Clone, Copy, PartialEq, Eq)]
 pub enum SqlOp {
     Add,
     Sub,
@@ -24,7 +24,7 @@ pub enum SqlOp {
 
 /// What gives a base value for each choice of rows.
 #[cycle(scalar)]
-#[derive(Debug, Drop)]
+#[derive(Drop)]
 pub enum Scalar {
     Lit(Base),
     /// A parameter by its number, counted from 1.
@@ -39,7 +39,7 @@ pub enum Scalar {
 }
 
 /// A generator: its number, and the table whose rows it runs over.
-#[derive(Debug, Drop)]
+#[derive(Drop)]
 pub struct FromItem {
     pub var: u32,
     pub table: Text,
@@ -47,7 +47,7 @@ pub struct FromItem {
 
 /// A column of what a select gives.
 #[cycle(scalar)]
-#[derive(Debug, Drop)]
+#[derive(Drop)]
 pub struct Out {
     pub label: Text,
     pub scalar: Scalar,
@@ -56,7 +56,7 @@ pub struct Out {
 /// A row for each choice of rows of the generators for which the condition holds. The outputs stand in byte order of their
 /// labels.
 #[cycle(scalar)]
-#[derive(Debug, Drop)]
+#[derive(Drop)]
 pub struct Select {
     pub froms: List<FromItem>,
     pub cond: Scalar,
@@ -64,14 +64,14 @@ pub struct Select {
 }
 
 /// A column by which rows are sorted, in falling order where `desc` says so.
-#[derive(Debug, Drop)]
+#[derive(Drop)]
 pub struct Key {
     pub label: Text,
     pub desc: bool,
 }
 
 /// A query: the rows of its selects, one behind the other, sorted by the keys if there are any.
-#[derive(Debug, Drop)]
+#[derive(Drop)]
 pub struct Sql {
     pub selects: List<Select>,
     pub keys: List<Key>,
@@ -79,7 +79,7 @@ pub struct Sql {
 
 /// An update or, where it sets no column, a deletion: which rows of its table it is about, and what the columns become. The
 /// row is that of generator 1.
-#[derive(Debug, Drop)]
+#[derive(Drop)]
 pub struct Change {
     pub cond: Scalar,
     pub sets: List<Out>,

@@ -14,7 +14,7 @@ pub fn write_name(text: &mut Text, name: &Text) -> Result<(), NoMemory>
 {
     text.push("\"")?;
     text.push(name.as_str())?;
-    Ok(text.push("\"")?)
+    text.push("\"")
 }
 
 /// `12`.
@@ -22,7 +22,7 @@ pub fn write_number(alloc: Global, text: &mut Text, number: u32) -> Result<(), N
     ensures { OnOk result (text.new ≡ text.old ++ decimal number) }
 {
     let digits = format!(in alloc; "{number}")?;
-    Ok(text.push(digits.as_str())?)
+    text.push(digits.as_str())
 }
 
 /// `t1`.
@@ -31,7 +31,7 @@ pub fn write_generator(alloc: Global, text: &mut Text, number: u32) -> Result<()
     ensures { OnOk result (text.new ≡ text.old ++ generator_text number) }
 {
     text.push("t")?;
-    Ok(write_number(alloc, text, number)?)
+    write_number(alloc, text, number)
 }
 
 /// `-12`, `TRUE`, `'text'`.
@@ -42,14 +42,14 @@ pub fn write_base(alloc: Global, text: &mut Text, base: &Base) -> Result<(), NoM
     match base {
         Base::Int(number) => {
             let digits = format!(in alloc; "{number}")?;
-            Ok(text.push(digits.as_str())?)
+            text.push(digits.as_str())
         }
-        Base::Bool(true) => Ok(text.push("TRUE")?),
-        Base::Bool(false) => Ok(text.push("FALSE")?),
+        Base::Bool(true) => text.push("TRUE"),
+        Base::Bool(false) => text.push("FALSE"),
         Base::Text(literal) => {
             text.push("'")?;
             write_doubled(text, literal.as_str())?;
-            Ok(text.push("'")?)
+            text.push("'")
         }
     }
 }

@@ -30,7 +30,7 @@ fn write_keys(text: &mut Text, keys: &[Key]) -> Result<(), NoMemory>
         return Ok(());
     }
     text.push(" ORDER BY ")?;
-    Ok(write_each_key(text, keys)?)
+    write_each_key(text, keys)
 }
 
 /// `"l", "m" DESC`.
@@ -55,7 +55,7 @@ fn write_key(text: &mut Text, key: &Key) -> Result<(), NoMemory>
 {
     write_name(text, &key.label)?;
     if key.desc {
-        return Ok(text.push(" DESC")?);
+        return text.push(" DESC");
     }
     Ok(())
 }

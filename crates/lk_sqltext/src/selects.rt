@@ -16,17 +16,17 @@ fn write_scalar(alloc: Global, text: &mut Text, scalar: &Scalar) -> Result<(), N
     ensures { OnOk result (text.new ≡ text.old ++ scalar_text scalar.now) }
 {
     match scalar {
-        Scalar::Lit(base) => Ok(write_base(alloc, text, base)?),
+        Scalar::Lit(base) => write_base(alloc, text, base),
         Scalar::Param(number) => {
             text.push(":")?;
-            Ok(write_number(alloc, text, *number)?)
+            write_number(alloc, text, *number)
         }
         Scalar::Column(number, label) => {
             write_generator(alloc, text, *number)?;
             text.push(".")?;
-            Ok(write_name(text, label)?)
+            write_name(text, label)
         }
-        Scalar::Op(op, operands) => Ok(write_operation(alloc, text, *op, operands.as_slice())?),
+        Scalar::Op(op, operands) => write_operation(alloc, text, *op, operands.as_slice()),
         Scalar::Case(condition, then, other) => {
             text.push("(CASE WHEN ")?;
             write_scalar(alloc, text, condition.get())?;
@@ -34,12 +34,12 @@ fn write_scalar(alloc: Global, text: &mut Text, scalar: &Scalar) -> Result<(), N
             write_scalar(alloc, text, then.get())?;
             text.push(" ELSE ")?;
             write_scalar(alloc, text, other.get())?;
-            Ok(text.push(" END)")?)
+            text.push(" END)")
         }
         Scalar::Exists(selects) => {
             text.push("(EXISTS (")?;
             write_selects(alloc, text, selects.as_slice())?;
-            Ok(text.push("))")?)
+            text.push("))")
         }
     }
 }
@@ -59,10 +59,10 @@ fn write_operation(
     if let [operand] = operands {
         text.push(sign(op))?;
         write_scalar(alloc, text, operand)?;
-        return Ok(text.push(")")?);
+        return text.push(")");
     }
     write_operands(alloc, text, sign(op), operands)?;
-    Ok(text.push(")")?)
+    text.push(")")
 }
 
 /// `a + b`.
@@ -134,7 +134,7 @@ fn write_select(alloc: Global, text: &mut Text, select: &Select) -> Result<(), N
     write_outs(alloc, text, select.outs.as_slice())?;
     write_froms(alloc, text, select.froms.as_slice())?;
     text.push(" WHERE ")?;
-    Ok(write_scalar(alloc, text, &select.cond)?)
+    write_scalar(alloc, text, &select.cond)
 }
 
 /// `s AS "l", s AS "m"`.
@@ -161,7 +161,7 @@ fn write_out(alloc: Global, text: &mut Text, out: &Out) -> Result<(), NoMemory>
 {
     write_scalar(alloc, text, &out.scalar)?;
     text.push(" AS ")?;
-    Ok(write_name(text, &out.label)?)
+    write_name(text, &out.label)
 }
 
 /// ` FROM "t" AS t1, "u" AS t2`, or nothing where there are no generators.
@@ -173,7 +173,7 @@ fn write_froms(alloc: Global, text: &mut Text, froms: &[FromItem]) -> Result<(),
         return Ok(());
     }
     text.push(" FROM ")?;
-    Ok(write_generators(alloc, text, froms)?)
+    write_generators(alloc, text, froms)
 }
 
 /// `"t" AS t1, "u" AS t2`.
@@ -198,5 +198,5 @@ fn write_from(alloc: Global, text: &mut Text, from: &FromItem) -> Result<(), NoM
 {
     write_name(text, &from.table)?;
     text.push(" AS ")?;
-    Ok(write_generator(alloc, text, from.var)?)
+    write_generator(alloc, text, from.var)
 }

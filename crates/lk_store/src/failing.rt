@@ -15,7 +15,7 @@ use std::marker::Model;
 
 /// A store in memory, named `failing`, whose calls of `begin`, `scan`, `insert`, `rewrite` and `commit` are counted
 /// together, and fail by their numbers.
-#[derive(Debug, Drop)]
+#[derive(Drop)]
 pub struct FailingStore {
     memory: MemoryStore,
     calls: NumberedCalls,

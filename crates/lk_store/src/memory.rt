@@ -13,7 +13,7 @@ use std::marker::Model;
 use std::mem;
 
 /// A store in memory, named `memory`. No call answers `Failed` but a scan of a table that holds a row of other columns.
-#[derive(Debug, Drop)]
+#[derive(Drop)]
 pub struct MemoryStore {
     tables: NamedTables,
     kept: NamedTables,

@@ -16,7 +16,7 @@ use lk_sites::QuerySite;
 use std::alloc::Global;
 
 /// Why there is no SQL for what stands at a site.
-#[derive(Clone, Copy, Debug, PartialEq, Eq)]
+#[derive(Clone, Copy, PartialEq, Eq)]
 pub enum Stop {
     TooLarge(Size),
     NoMemory,

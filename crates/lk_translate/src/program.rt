@@ -28,7 +28,7 @@ pub fn translate(alloc: Global, program: &GroundProgram) -> Result<List<Translat
 {
     let inliner = Inliner::new(alloc, program)?;
     let sites = query_sites(alloc, program)?;
-    Ok(all_sites(alloc, &inliner, sites.as_slice())?)
+    all_sites(alloc, &inliner, sites.as_slice())
 }
 
 /// All these sites in SQL, or the refusal of the first that is too large.

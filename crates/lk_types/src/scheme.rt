@@ -2,7 +2,7 @@ use crate::ty::Ty;
 use lk_ast::{List, Text};
 
 /// The row variable of that number stands for no row with this label.
-#[derive(Debug, Drop)]
+#[derive(Drop)]
 pub struct Lack {
     pub var: u32,
     pub label: Text,
@@ -11,8 +11,13 @@ pub struct Lack {
 /// A type for each choice of what its variables stand for. Any order of the `lacks` says the same. Inference puts them in the
 /// order of their variables, then in byte order of their labels, and leaves out those that the body shows anyhow, since a row has
 /// no label twice.
-#[derive(Debug, Drop)]
 pub struct Scheme {
     pub body: Ty,
     pub lacks: List<Lack>,
+}
+
+impl Drop for Scheme {
+    fn drop(self) {
+        let Self { body: _, lacks: _ } = self;
+    }
 }

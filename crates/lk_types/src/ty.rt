@@ -25,7 +25,7 @@ pub enum Effect {
 
 /// The effects of a function: those that are named, and then those of the tail. In any order they are the same effects, and with one
 /// of them twice none. Types that are printed have them in byte order.
-#[derive(Debug, Drop)]
+#[derive(Drop)]
 pub struct Effects {
     pub labels: List<Effect>,
     pub tail: RowTail,
@@ -33,16 +33,22 @@ pub struct Effects {
 
 /// A field of a record, or a tag of a variant with the type of what stands behind it.
 #[cycle(ty)]
-#[derive(Debug, Drop)]
 pub struct TyField {
     pub label: Text,
     pub ty: Ty,
 }
 
+impl Drop for TyField {
+    #[cycle(ty)]
+    fn drop(self) {
+        let Self { label: _, ty: _ } = self;
+    }
+}
+
 /// Fields, and then those of the tail. In any order they are the same row, and with a label twice none. Types that are printed have
 /// them in byte order of their labels.
 #[cycle(ty)]
-#[derive(Debug, Drop)]
+#[derive(Drop)]
 pub struct TyRow {
     pub fields: List<TyField>,
     pub tail: RowTail,
@@ -53,7 +59,6 @@ pub struct TyRow {
 ///
 /// No definition of what a type means rests on the order of fields and effects.
 #[cycle(ty)]
-#[derive(Debug, Drop)]
 pub enum Ty {
     Int,
     Bool,
@@ -64,6 +69,22 @@ pub enum Ty {
     /// Parameters, effects and result.
     Fun(List<Ty>, Effects, Boxed<Ty>),
     Var(u32),
+}
+
+impl Drop for Ty {
+    #[cycle(ty)]
+    fn drop(self) {
+        match self {
+            Self::Int => {}
+            Self::Bool => {}
+            Self::Text => {}
+            Self::List(_) => {}
+            Self::Fields(_) => {}
+            Self::Tags(_) => {}
+            Self::Fun(_, _, _) => {}
+            Self::Var(_) => {}
+        }
+    }
 }
 
 /// A variable of one of the three kinds.

@@ -2,7 +2,7 @@ use lk_ast::Span;
 use lk_types::{Equation, Ty};
 
 /// What a walk through a text says of types.
-#[derive(Debug, Drop)]
+#[derive(Drop)]
 pub enum Said {
     /// Two types are the same.
     Same(Equation),
@@ -11,7 +11,7 @@ pub enum Said {
 }
 
 /// What is said at a place of the text: at a node, or at the name of a function.
-#[derive(Debug, Drop)]
+#[derive(Drop)]
 pub struct Step {
     pub at: Span,
     pub said: Said,

@@ -1,7 +1,7 @@
 use lk_types::Equation;
 
 /// When the size of what the sides of an equation become matters.
-#[derive(Clone, Copy, Debug, PartialEq, Eq)]
+#[derive(Clone, Copy, PartialEq, Eq)]
 pub enum Sizing {
     /// With each equation from its own on.
     Always,
@@ -12,7 +12,7 @@ pub enum Sizing {
 }
 
 /// An equation that is to hold, and when its size matters.
-#[derive(Debug, Drop)]
+#[derive(Drop)]
 pub struct Constraint {
     pub equation: Equation,
     pub sizing: Sizing,

@@ -26,7 +26,7 @@ fn shape_for(variable: Variable) -> Shape
 fn add_node(loader: &mut Loader, shape: Shape) -> Result<usize, NoMemory>
     ensures { IfOk result (λ n. Adds loader.old loader.new shape n) }
 {
-    Ok(loader.arena.push(shape)?)
+    loader.arena.push(shape)
 }
 
 /// Adds fields before a row, if no label stands twice among them.
@@ -142,14 +142,14 @@ fn load_effects(
 fn load_base(alloc: Global, loader: &mut Loader, head: Head) -> Result<usize, NoMemory>
     ensures { IfOk result (λ n. Adds loader.old loader.new (Shape.Made head []) n) }
 {
-    Ok(add_node(loader, Shape::Made(head, List::new(alloc)))?)
+    add_node(loader, Shape::Made(head, List::new(alloc)))
 }
 
 /// A node for a constructor with one part.
 fn load_one(alloc: Global, loader: &mut Loader, head: Head, part: usize) -> Result<usize, NoMemory>
     ensures { IfOk result (λ n. Adds loader.old loader.new (Shape.Made head (part ∷ [])) n) }
 {
-    Ok(add_node(loader, Shape::Made(head, one(alloc, part)?))?)
+    add_node(loader, Shape::Made(head, one(alloc, part)?))
 }
 
 /// A node for a function with this result and these parameters.
@@ -180,9 +180,9 @@ pub fn load_type(alloc: Global, loader: &mut Loader, ty: &Ty) -> Result<Option<u
         Ty::Int => Ok(Some(load_base(alloc, loader, Head::Int)?)),
         Ty::Bool => Ok(Some(load_base(alloc, loader, Head::Bool)?)),
         Ty::Text => Ok(Some(load_base(alloc, loader, Head::Text)?)),
-        Ty::List(item) => Ok(load_list(alloc, loader, item.get())?),
-        Ty::Fields(row) => Ok(load_record(alloc, loader, row)?),
-        Ty::Tags(row) => Ok(load_variant(alloc, loader, row)?),
+        Ty::List(item) => load_list(alloc, loader, item.get()),
+        Ty::Fields(row) => load_record(alloc, loader, row),
+        Ty::Tags(row) => load_variant(alloc, loader, row),
         Ty::Fun(params, effects, answer) => {
             let Some(second) = load_type(alloc, loader, answer.get())? else {
                 return Ok(None);

@@ -3,7 +3,7 @@
 use lk_ast::Text;
 
 /// What words ask for, in one of the three forms.
-#[derive(Debug, Drop)]
+#[derive(Drop)]
 pub enum Command {
     Check(CheckCommand),
     Sql(SqlCommand),
@@ -11,21 +11,21 @@ pub enum Command {
 }
 
 /// `check PROGRAM`.
-#[derive(Debug, Drop)]
+#[derive(Drop)]
 pub struct CheckCommand {
     /// The file of the program.
     pub program: Text,
 }
 
 /// `sql PROGRAM`.
-#[derive(Debug, Drop)]
+#[derive(Drop)]
 pub struct SqlCommand {
     /// The file of the program.
     pub program: Text,
 }
 
 /// `source PROGRAM ARG`, with `--tables FILE`, `--store NAME` and `--fuel N`.
-#[derive(Debug, Drop)]
+#[derive(Drop)]
 pub struct SourceCommand {
     /// The file of the program.
     pub program: Text,

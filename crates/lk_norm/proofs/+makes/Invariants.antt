@@ -50,21 +50,30 @@ decreases-scalars::cell_of l = level l.room + 6
 abbrev pub decreases-scalars::base : goal.decreases-scalars::base
 decreases-scalars::base l = level l.room + 7
 
+abbrev pub decreases-scalars::base_choice : goal.decreases-scalars::base_choice
+decreases-scalars::base_choice l = level l.room + 1
+
+abbrev pub decreases-scalars::one_base : goal.decreases-scalars::one_base
+decreases-scalars::one_base l = level l.room + 1
+
+abbrev pub decreases-scalars::two_bases : goal.decreases-scalars::two_bases
+decreases-scalars::two_bases l = level l.room + 1
+
 abbrev pub invariant-scalars::item_cell-loop-item : goal.invariant-scalars::item_cell-loop-item
 invariant-scalars::item_cell-loop-item l =
-    (scalar_in (outputs (norms l.over) (drop l.item-index l.items) (names_in l.over l.scope) l.count) l.label ≡ scalar_in (outputs (norms l.over) l.items (names_in l.over l.scope) l.count) l.label)
+    (scalar_in (outputs (norms l.here.over.now) (drop l.item-index l.items) (names_in l.here.over.now l.here.scope.now) l.here.count) l.label ≡ scalar_in (outputs (norms l.here.over.now) l.items (names_in l.here.over.now l.here.scope.now) l.here.count) l.label)
     × (l.left ≡ l.initial.left)
 
 abbrev pub invariant-scalars::extended_cell-loop-item : goal.invariant-scalars::extended_cell-loop-item
 invariant-scalars::extended_cell-loop-item l =
-    (scalar_or (outputs (norms l.over) (drop l.item-index l.items) (names_in l.over l.scope) l.count) (row_in l.over l.rest l.count l.scope) l.label
-    ≡ scalar_or (outputs (norms l.over) l.items (names_in l.over l.scope) l.count) (row_in l.over l.rest l.count l.scope) l.label)
+    (scalar_or (outputs (norms l.here.over.now) (drop l.item-index l.items) (names_in l.here.over.now l.here.scope.now) l.here.count) (row_in l.here.over.now l.rest l.here.count l.here.scope.now) l.label
+    ≡ scalar_or (outputs (norms l.here.over.now) l.items (names_in l.here.over.now l.here.scope.now) l.here.count) (row_in l.here.over.now l.rest l.here.count l.here.scope.now) l.label)
     × (l.left ≡ l.initial.left)
 
 abbrev pub invariant-scalars::more_equal-loop-label : goal.invariant-scalars::more_equal-loop-label
 invariant-scalars::more_equal-loop-label l =
-    (equal_from l.so_far (row_in l.over l.a l.count l.scope) (row_in l.over l.b l.count l.scope) (drop l.label-index l.labels) ≡ equal_from l.fn.first (row_in l.over l.a l.count l.scope) (row_in l.over l.b l.count l.scope) l.labels)
-    × (more_paid (row_in l.over l.a l.count l.scope) (row_in l.over l.b l.count l.scope) (drop l.label-index l.labels) l.left ≡ more_paid (row_in l.over l.a l.count l.scope) (row_in l.over l.b l.count l.scope) l.labels l.fn.left)
+    (equal_from l.so_far (row_in l.here.over.now l.a l.here.count l.here.scope.now) (row_in l.here.over.now l.b l.here.count l.here.scope.now) (drop l.label-index l.labels) ≡ equal_from l.fn.first (row_in l.here.over.now l.a l.here.count l.here.scope.now) (row_in l.here.over.now l.b l.here.count l.here.scope.now) l.labels)
+    × (more_paid (row_in l.here.over.now l.a l.here.count l.here.scope.now) (row_in l.here.over.now l.b l.here.count l.here.scope.now) (drop l.label-index l.labels) l.left ≡ more_paid (row_in l.here.over.now l.a l.here.count l.here.scope.now) (row_in l.here.over.now l.b l.here.count l.here.scope.now) l.labels l.fn.left)
 
 abbrev pub decreases-scalars::choice : goal.decreases-scalars::choice
 decreases-scalars::choice l = level l.room + 1
@@ -94,17 +103,17 @@ decreases-rows::extended_outs l = level l.room + 2
 
 abbrev pub invariant-rows::record_outs-loop-item : goal.invariant-rows::record_outs-loop-item
 invariant-rows::record_outs-loop-item l =
-    let f : List Labelled → List Out = λ items. outputs (norms l.over) items (names_in l.over l.scope) l.count in
+    let f : List Labelled → List Out = λ items. outputs (norms l.here.over.now) items (names_in l.here.over.now l.here.scope.now) l.here.count in
     (l.list ++ f (drop l.item-index l.items) ≡ f l.items) × (outs_paid (f (drop l.item-index l.items)) l.left ≡ outs_paid (f l.items) l.fn.left)
 
 abbrev pub invariant-rows::choice_outs-loop-label : goal.invariant-rows::choice_outs-loop-label
 invariant-rows::choice_outs-loop-label l =
-    let f : List (List ℕ) → List Out = labelled (λ label. scalars.Case (base_in l.over l.c l.count l.scope) (scalar_in (row_in l.over l.a l.count l.scope) label) (scalar_in (row_in l.over l.b l.count l.scope) label)) in
+    let f : List (List ℕ) → List Out = labelled (λ label. scalars.Case (base_in l.here.over.now l.c l.here.count l.here.scope.now) (scalar_in (row_in l.here.over.now l.a l.here.count l.here.scope.now) label) (scalar_in (row_in l.here.over.now l.b l.here.count l.here.scope.now) label)) in
     (l.list ++ f (drop l.label-index l.labels) ≡ f l.labels) × (outs_paid (f (drop l.label-index l.labels)) l.left ≡ outs_paid (f l.labels) l.fn.left)
 
 abbrev pub invariant-rows::extended_outs-loop-label : goal.invariant-rows::extended_outs-loop-label
 invariant-rows::extended_outs-loop-label l =
-    let f : List (List ℕ) → List Out = labelled (λ label. scalar_or (outputs (norms l.over) l.items (names_in l.over l.scope) l.count) (row_in l.over l.rest l.count l.scope) label) in
+    let f : List (List ℕ) → List Out = labelled (λ label. scalar_or (outputs (norms l.here.over.now) l.items (names_in l.here.over.now l.here.scope.now) l.here.count) (row_in l.here.over.now l.rest l.here.count l.here.scope.now) label) in
     (l.list ++ f (drop l.label-index l.labels) ≡ f l.labels) × (outs_paid (f (drop l.label-index l.labels)) l.left ≡ outs_paid (f l.labels) l.fn.left)
 
 -- ---- selects
@@ -145,6 +154,18 @@ abbrev pub invariant-walk::add_items-loop-item : goal.invariant-walk::add_items-
 invariant-walk::add_items-loop-item l =
     let f : List ℕ → List Select = λ items. flat_map (then_at l.over l.place) (items_at l.over items l.place l.scope) in
     (l.selects ++ f (drop l.item-index l.items) ≡ l.fn.selects ++ f l.items) × (all_paid (f (drop l.item-index l.items)) l.left ≡ all_paid (f l.items) l.fn.left)
+
+abbrev pub decreases-walk::either : goal.decreases-walk::either
+decreases-walk::either l = level l.room + 2
+
+abbrev pub decreases-walk::both : goal.decreases-walk::both
+decreases-walk::both l = level l.room + 1
+
+abbrev pub decreases-walk::each : goal.decreases-walk::each
+decreases-walk::each l = level l.room + 1
+
+abbrev pub decreases-walk::add_table : goal.decreases-walk::add_table
+decreases-walk::add_table l = level l.room + 5
 
 abbrev pub decreases-walk::add_select : goal.decreases-walk::add_select
 decreases-walk::add_select l = level l.room + 3

@@ -51,18 +51,18 @@ abbrev pub decreases-node : goal.decreases-node
 decreases-node l = level l.room + 3
 
 abbrev pub invariant-exprs-loop-e : goal.invariant-exprs-loop-e
-invariant-exprs-loop-e l = spent l.left (all_nodes (counted l.index l.calls) (drop l.e-index l.list)) ≡ spent l.most (all_nodes (counted l.index l.calls) l.list)
+invariant-exprs-loop-e l = spent l.left (all_nodes (counted l.at.index.now l.at.calls) (drop l.e-index l.list)) ≡ spent l.most (all_nodes (counted l.at.index.now l.at.calls) l.list)
 
 abbrev pub invariant-parts-loop-part : goal.invariant-parts-loop-part
-invariant-parts-loop-part l = spent l.left (parts_nodes (counted l.index l.calls) (drop l.part-index l.list)) ≡ spent l.most (parts_nodes (counted l.index l.calls) l.list)
+invariant-parts-loop-part l = spent l.left (parts_nodes (counted l.at.index.now l.at.calls) (drop l.part-index l.list)) ≡ spent l.most (parts_nodes (counted l.at.index.now l.at.calls) l.list)
 
 abbrev pub invariant-cases-loop-case : goal.invariant-cases-loop-case
-invariant-cases-loop-case l = spent l.left (cases_nodes (counted l.index l.calls) (drop l.case-index l.list)) ≡ spent l.most (cases_nodes (counted l.index l.calls) l.list)
+invariant-cases-loop-case l = spent l.left (cases_nodes (counted l.at.index.now l.at.calls) (drop l.case-index l.list)) ≡ spent l.most (cases_nodes (counted l.at.index.now l.at.calls) l.list)
 
 abbrev pub invariant-expr-loop-name : goal.invariant-expr-loop-name
 invariant-expr-loop-name l =
     (size-Expr l.rest ≤ size-Expr l.initial.rest)
-    × (spent l.left (nodes (counted l.index l.calls) l.rest) ≡ spent l.most (nodes (counted l.index l.calls) l.initial.rest))
+    × (spent l.left (nodes (counted l.at.index.now l.at.calls) l.rest) ≡ spent l.most (nodes (counted l.at.index.now l.at.calls) l.initial.rest))
 
 abbrev pub decreases-expr-loop-name : goal.decreases-expr-loop-name
 decreases-expr-loop-name l = size-Expr l.rest

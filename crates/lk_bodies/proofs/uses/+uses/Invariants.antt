@@ -7,7 +7,7 @@ use Rattle.lk_bodies.proofs.uses.+uses.Given as goal
 
 -- each part has less room than what it stands in
 abbrev level : ℕ → ℕ
-level room = room * 3
+level room = room * 4
 
 abbrev pub decreases-expr : goal.decreases-expr
 decreases-expr l = level l.room
@@ -21,8 +21,20 @@ decreases-exprs l = level l.room + 1
 abbrev pub decreases-parts : goal.decreases-parts
 decreases-parts l = level l.room + 1
 
+abbrev pub decreases-two : goal.decreases-two
+decreases-two l = level l.room + 1
+
+abbrev pub decreases-three : goal.decreases-three
+decreases-three l = level l.room + 2
+
+abbrev pub decreases-extension : goal.decreases-extension
+decreases-extension l = level l.room + 2
+
+abbrev pub decreases-binding : goal.decreases-binding
+decreases-binding l = level l.room + 2
+
 abbrev pub decreases-node : goal.decreases-node
-decreases-node l = level l.room + 2
+decreases-node l = level l.room + 3
 
 abbrev pub invariant-exprs-loop-e : goal.invariant-exprs-loop-e
 invariant-exprs-loop-e l =

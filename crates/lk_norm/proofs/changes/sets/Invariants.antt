@@ -6,5 +6,5 @@ use Rattle.lk_norm.proofs.changes.sets.Given as goal
 
 abbrev pub invariant-loop-item : goal.invariant-loop-item
 invariant-loop-item l =
-    (l.sets ++ outputs (norms l.over) (drop l.item-index l.items) (names_in l.over l.scope) 1 ≡ outputs (norms l.over) l.items (names_in l.over l.scope) 1)
-    × (sets_paid (outputs (norms l.over) (drop l.item-index l.items) (names_in l.over l.scope) 1) l.left ≡ sets_paid (outputs (norms l.over) l.items (names_in l.over l.scope) 1) l.fn.left)
+    (l.sets ++ outputs (norms l.here.over.now) (drop l.item-index l.items) (names_in l.here.over.now l.here.scope.now) l.here.count ≡ outputs (norms l.here.over.now) l.items (names_in l.here.over.now l.here.scope.now) l.here.count)
+    × (sets_paid (outputs (norms l.here.over.now) (drop l.item-index l.items) (names_in l.here.over.now l.here.scope.now) l.here.count) l.left ≡ sets_paid (outputs (norms l.here.over.now) l.items (names_in l.here.over.now l.here.scope.now) l.here.count) l.fn.left)

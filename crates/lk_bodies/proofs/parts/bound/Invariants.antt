@@ -1,5 +1,5 @@
 use Rattle.std.proofs.Common.{◌≡◌, [], drop}
-use Rattle.lk_bodies.proofs.walk.bound.Given as goal
+use Rattle.lk_bodies.proofs.parts.bound.Given as goal
 use Rattle.lk_bodies.specs.Walk.{bound}
 
 abbrev pub invariant-loop-param : goal.invariant-loop-param

@@ -1,5 +1,5 @@
 use Rattle.std.proofs.Common.{◌≡◌, ◌++◌, drop, map}
-use Rattle.lk_bodies.proofs.walk.labelled.Given as goal
+use Rattle.lk_bodies.proofs.parts.labelled.Given as goal
 use Rattle.lk_bodies.specs.Walk.{labelled}
 
 abbrev pub invariant-loop-field : goal.invariant-loop-field
