@@ -21,7 +21,7 @@ pub fn captured<'p>(alloc: Global, e: &'p LambdaExpr) -> Result<List<&'p str>, N
     let mut bound = Names::new(alloc);
     let mut found = List::new(alloc);
     lambda(alloc, &mut bound, &mut found, e)?;
-    Ok(in_order(alloc, found.as_slice())?)
+    in_order(alloc, found.as_slice())
 }
 
 /// The names that a query with this body captures, its free ones, in byte order and each once. `NoMemory` where memory runs
@@ -32,7 +32,7 @@ pub fn captured_query<'p>(alloc: Global, body: &'p Expr) -> Result<List<&'p str>
     let mut bound = Names::new(alloc);
     let mut found = List::new(alloc);
     expr(alloc, &mut bound, &mut found, body)?;
-    Ok(in_order(alloc, found.as_slice())?)
+    in_order(alloc, found.as_slice())
 }
 
 /// The names that an update or a deletion captures, its free ones, in byte order and each once. `NoMemory` where memory runs
@@ -43,7 +43,7 @@ pub fn captured_change<'p>(alloc: Global, rows: &'p ChangeExpr) -> Result<List<&
     let mut bound = Names::new(alloc);
     let mut found = List::new(alloc);
     change(alloc, &mut bound, &mut found, rows)?;
-    Ok(in_order(alloc, found.as_slice())?)
+    in_order(alloc, found.as_slice())
 }
 
 /// The set of these names.
@@ -67,7 +67,7 @@ fn in_order<'p>(alloc: Global, names: &[&'p str]) -> Result<List<&'p str>, NoMem
     ensures { IfOk result (λ sorted. texts sorted ≡ in_byte_order (texts names.now)) }
 {
     let set = set_of(alloc, names)?;
-    Ok(items_of(alloc, &set)?)
+    items_of(alloc, &set)
 }
 
 /// The uses in an expression. The loop goes down the rests of a block, of which there may be more than the stack has
@@ -101,7 +101,7 @@ fn name<'p>(bound: &Names, found: &mut List<&'p str>, name: &'p Text) -> Result<
     if bound.has(name.as_str()) {
         Ok(())
     } else {
-        Ok(found.push(name.as_str())?)
+        found.push(name.as_str())
     }
 }
 
@@ -118,14 +118,12 @@ fn node<'p>(
 {
     match node {
         Node::Int(_) | Node::Text(_) | Node::Bool(_) | Node::Function(_) | Node::Table(_) => Ok(()),
-        Node::Name(x) => Ok(name(bound, found, x)?),
-        Node::Lambda(e) => Ok(lambda(alloc, bound, found, e)?),
-        Node::Call(_, list) | Node::List(list) => {
-            Ok(exprs(alloc, bound, found, list.as_slice())?)
-        }
+        Node::Name(x) => name(bound, found, x),
+        Node::Lambda(e) => lambda(alloc, bound, found, e),
+        Node::Call(_, list) | Node::List(list) => { exprs(alloc, bound, found, list.as_slice()) }
         Node::Apply(f, args) => {
             expr(alloc, bound, found, f)?;
-            Ok(exprs(alloc, bound, found, args.as_slice())?)
+            exprs(alloc, bound, found, args.as_slice())
         }
         Node::Seq(a, b)
         | Node::And(a, b)
@@ -146,7 +144,7 @@ fn node<'p>(
         | Node::Ge(a, b)
         | Node::Where(a, b) => {
             expr(alloc, bound, found, a)?;
-            Ok(expr(alloc, bound, found, b)?)
+            expr(alloc, bound, found, b)
         }
         Node::Neg(e)
         | Node::Not(e)
@@ -158,27 +156,27 @@ fn node<'p>(
         | Node::Project(e, _)
         | Node::Tag(_, e)
         | Node::Query(_, e)
-        | Node::Insert(_, e) => Ok(expr(alloc, bound, found, e)?),
+        | Node::Insert(_, e) => expr(alloc, bound, found, e),
         Node::If(c, d, e) => {
             expr(alloc, bound, found, c)?;
             expr(alloc, bound, found, d)?;
-            Ok(expr(alloc, bound, found, e)?)
+            expr(alloc, bound, found, e)
         }
-        Node::Record(fields) => Ok(parts(alloc, bound, found, fields.as_slice())?),
+        Node::Record(fields) => parts(alloc, bound, found, fields.as_slice()),
         Node::Extend(fields, e) => {
             parts(alloc, bound, found, fields.as_slice())?;
-            Ok(expr(alloc, bound, found, e)?)
+            expr(alloc, bound, found, e)
         }
         Node::Switch(e, list, last) => {
             expr(alloc, bound, found, e)?;
             cases(alloc, bound, found, list.as_slice())?;
-            Ok(last_case(alloc, bound, found, last)?)
+            last_case(alloc, bound, found, last)
         }
         Node::Var(x, e, body) | Node::ForList(x, e, body) | Node::ForTable(x, e, body) => {
             expr(alloc, bound, found, e)?;
-            Ok(under(alloc, bound, found, x, body)?)
+            under(alloc, bound, found, x, body)
         }
-        Node::Update(rows) | Node::Delete(rows) => Ok(change(alloc, bound, found, rows)?),
+        Node::Update(rows) | Node::Delete(rows) => change(alloc, bound, found, rows),
     }
 }
 
@@ -302,7 +300,7 @@ fn last_case<'p>(
 {
     match last {
         None => Ok(()),
-        Some(last) => Ok(under(alloc, bound, found, &last.name, &last.body)?),
+        Some(last) => under(alloc, bound, found, &last.name, &last.body),
     }
 }
 

@@ -40,7 +40,7 @@ fn expr<'p>(
         expr(alloc, found, statement)?;
         rest = next;
     }
-    Ok(node(alloc, found, rest.span.start, rest.node.get())?)
+    node(alloc, found, rest.span.start, rest.node.get())
 }
 
 /// The lambdas in what an expression that begins at this place is.
@@ -65,10 +65,10 @@ fn node<'p>(
             found.push((site, e))?;
             Ok(expr(alloc, found, &e.body)?)
         }
-        Node::Call(_, list) | Node::List(list) => Ok(exprs(alloc, found, list.as_slice())?),
+        Node::Call(_, list) | Node::List(list) => exprs(alloc, found, list.as_slice()),
         Node::Apply(f, args) => {
             expr(alloc, found, f)?;
-            Ok(exprs(alloc, found, args.as_slice())?)
+            exprs(alloc, found, args.as_slice())
         }
         Node::Seq(a, b)
         | Node::And(a, b)
@@ -92,7 +92,7 @@ fn node<'p>(
         | Node::ForList(_, a, b)
         | Node::ForTable(_, a, b) => {
             expr(alloc, found, a)?;
-            Ok(expr(alloc, found, b)?)
+            expr(alloc, found, b)
         }
         Node::Neg(e)
         | Node::Not(e)
@@ -104,13 +104,13 @@ fn node<'p>(
         | Node::Project(e, _)
         | Node::Tag(_, e)
         | Node::Query(_, e)
-        | Node::Insert(_, e) => Ok(expr(alloc, found, e)?),
+        | Node::Insert(_, e) => expr(alloc, found, e),
         Node::If(c, d, e) => {
             expr(alloc, found, c)?;
             expr(alloc, found, d)?;
-            Ok(expr(alloc, found, e)?)
+            expr(alloc, found, e)
         }
-        Node::Record(fields) => Ok(parts(alloc, found, fields.as_slice())?),
+        Node::Record(fields) => parts(alloc, found, fields.as_slice()),
         Node::Extend(fields, e) => {
             parts(alloc, found, fields.as_slice())?;
             Ok(expr(alloc, found, e)?)
@@ -120,7 +120,7 @@ fn node<'p>(
             cases(alloc, found, list.as_slice())?;
             Ok(last_case(alloc, found, last)?)
         }
-        Node::Update(rows) | Node::Delete(rows) => Ok(change(alloc, found, rows)?),
+        Node::Update(rows) | Node::Delete(rows) => change(alloc, found, rows),
     }
 }
 
@@ -149,7 +149,7 @@ fn part<'p>(
 ) -> Result<(), NoMemory>
     ensures { OnOk result (seen found.new ≡ gather_part part.now (seen found.old)) }
 {
-    Ok(expr(alloc, found, &part.expr)?)
+    expr(alloc, found, &part.expr)
 }
 
 /// The lambdas in `l = e, m = d`.
@@ -177,7 +177,7 @@ fn case<'p>(
 ) -> Result<(), NoMemory>
     ensures { OnOk result (seen found.new ≡ gather_case case.now (seen found.old)) }
 {
-    Ok(expr(alloc, found, &case.body)?)
+    expr(alloc, found, &case.body)
 }
 
 /// The lambdas in the cases of a switch but for the last one.
@@ -207,7 +207,7 @@ fn last_case<'p>(
 {
     match last {
         None => Ok(()),
-        Some(last) => Ok(expr(alloc, found, &last.body)?),
+        Some(last) => expr(alloc, found, &last.body),
     }
 }
 
@@ -222,5 +222,5 @@ fn change<'p>(
     ensures { OnOk result (seen found.new ≡ gather_change rows.now (seen found.old)) }
 {
     expr(alloc, found, &rows.cond)?;
-    Ok(parts(alloc, found, rows.sets.as_slice())?)
+    parts(alloc, found, rows.sets.as_slice())
 }

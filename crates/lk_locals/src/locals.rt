@@ -148,7 +148,7 @@ fn own_layers<'p>(alloc: Global, layers: Shared<Layers<'p>>) -> Result<Layers<'p
 {
     match layers.try_unwrap() {
         Ok(layers) => Ok(layers),
-        Err(shared) => Ok(share_layers(alloc, shared.get().as_slice())?),
+        Err(shared) => share_layers(alloc, shared.get().as_slice()),
     }
 }
 

@@ -20,12 +20,12 @@ pub fn operate(alloc: Global, node: &Node, values: List<Value>) -> Result<Outcom
 {
     match node {
         Node::Int(number) => Ok(literal(Value::Base(Base::Int(*number)), values)),
-        Node::Text(bytes) => Ok(text(alloc, bytes, values)?),
+        Node::Text(bytes) => text(alloc, bytes, values),
         Node::Bool(truth) => Ok(literal(Value::Base(Base::Bool(*truth)), values)),
         Node::List(_) => Ok(Outcome::Value(Value::List(values))),
-        Node::Concat(_, _) => Ok(lists::concat(values)?),
-        Node::Append(_, _) => Ok(lists::append(values)?),
-        Node::Cons(_, _) => Ok(lists::cons(values)?),
+        Node::Concat(_, _) => lists::concat(values),
+        Node::Append(_, _) => lists::append(values),
+        Node::Cons(_, _) => lists::cons(values),
         Node::Add(_, _) => Ok(numbers::arithmetic(Operation::Add, values.as_slice())),
         Node::Sub(_, _) => Ok(numbers::arithmetic(Operation::Sub, values.as_slice())),
         Node::Mul(_, _) => Ok(numbers::arithmetic(Operation::Mul, values.as_slice())),
@@ -42,11 +42,11 @@ pub fn operate(alloc: Global, node: &Node, values: List<Value>) -> Result<Outcom
         Node::Hd(_) => Ok(lists::head(values)),
         Node::Tl(_) => Ok(lists::tail(values)),
         Node::Empty(_) => Ok(lists::empty(values.as_slice())),
-        Node::IntToString(_) => Ok(numbers::int_to_string(alloc, values.as_slice())?),
-        Node::Record(parts) => Ok(records::record(alloc, parts.as_slice(), values)?),
-        Node::Extend(parts, _) => Ok(records::extend(alloc, parts.as_slice(), values)?),
+        Node::IntToString(_) => numbers::int_to_string(alloc, values.as_slice()),
+        Node::Record(parts) => records::record(alloc, parts.as_slice(), values),
+        Node::Extend(parts, _) => records::extend(alloc, parts.as_slice(), values),
         Node::Project(_, label) => Ok(records::project(&label.text, values)),
-        Node::Tag(tag, _) => Ok(records::tag(alloc, &tag.text, values)?),
+        Node::Tag(tag, _) => records::tag(alloc, &tag.text, values),
         Node::Name(_)
         | Node::Function(_)
         | Node::Lambda(_)

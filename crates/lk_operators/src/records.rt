@@ -19,7 +19,7 @@ pub fn record(alloc: Global, parts: &[PartExpr], values: List<Value>) -> Result<
     }
     let mut fields = List::new(alloc);
     label(alloc, &mut fields, parts, values)?;
-    Ok(record_with(alloc, fields)?)
+    record_with(alloc, fields)
 }
 
 /// `(l = e, .. | r)`.
@@ -38,7 +38,7 @@ pub fn extend(
     match last {
         Some(Value::Fields(mut known)) => {
             label(alloc, &mut known, parts, values)?;
-            Ok(record_with(alloc, known)?)
+            record_with(alloc, known)
         }
         _ => Ok(Outcome::NoRule),
     }

@@ -1,6 +1,6 @@
 -- What a walk makes of the sites before, by the parts that it walks through.
 use Rattle.std.proofs.Common.{arith, ◌≡◌, ℕ, suc, zero, ◌+◌, ◌-◌, List, [], ◌∷◌, ◌++◌, Option, length, drop, refl, ap, ap₂, sym, ◌∙◌, append_assoc, append-nil, length-append}
-use Rattle.std.specs.Prelude.{set, ◌≤◌}
+use Rattle.std.specs.Prelude.{set, ◌≤◌, Result, Ok, Err, OnOk}
 use Rattle.std.proofs.lemmas.List.{set_at, map-set}
 use Rattle.lk_ast.specs.declared.place.Span.{Span}
 use Rattle.lk_ast.specs.declared.place.Word.{Word}
@@ -11,6 +11,11 @@ use Rattle.lk_outline.specs.Shown.{shown, shown_site}
 use Rattle.lk_outline.specs.Walked.{begin_at, noted, noted_site, put, put_all, put_bound, seen, unsaid}
 use Rattle.lk_outline.specs.declared.site.Site.{Site as TheSite}
 use Rattle.lk_outline.specs.declared.walk.Round.{Round}
+
+-- what is made where there is memory, in other words
+pub on_ok_same : {X E S : Type 0} {a b : S} (r : Result X E) (made : S) → OnOk r (made ≡ a) → a ≡ b → OnOk r (made ≡ b)
+on_ok_same (Ok x) made is same = is ∙ same
+on_ok_same (Err why) made is same = is
 
 -- a node, and then what stands in it
 pub noted_part : (span : Span) (kind : Kind) (round : Round) (scope : Named ℕ) (part : In) (found : List Site) → put part (seen round scope) (noted span kind round found) ≡ put (plain span kind part) (seen round scope) found

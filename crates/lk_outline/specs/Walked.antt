@@ -49,3 +49,10 @@ changing span change c n = block span Kind.Change (in_block Around.Change (chang
 -- a switch
 abbrev pub switching : Span → In → List Bound → Option Bound → In
 switching span e cases last c n = plain span Kind.Other (before e (before (all_bound cases (1 + n)) (some_bound last (1 + n)))) c n
+
+-- a comparison by `==` or `<>`, and one by an order, whose left operand is the next node
+abbrev pub equating : Span → In → In → In
+equating span a b = λ c n. plain span (Kind.Equality (1 + n)) (before a b) c n
+
+abbrev pub ordering : Span → In → In → In
+ordering span a b = λ c n. plain span (Kind.Order (1 + n)) (before a b) c n

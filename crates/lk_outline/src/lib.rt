@@ -4,7 +4,9 @@
 //! the one comes from the other; `outline_laws` proves it. `specs/Shown` says how contracts see the outline that the code makes.
 #![tactic(auto)]
 
+mod form;
 mod law;
+mod noting;
 mod site;
 mod walk;
 

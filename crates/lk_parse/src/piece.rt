@@ -86,7 +86,7 @@ pub fn piece_in_front(alloc: Global, text: &str) -> Result<Option<Piece>, NoMemo
         Start::Word => Ok(Some(word(alloc, text)?)),
         Start::Tag => Ok(Some(tag(alloc, text)?)),
         Start::Int => Ok(integer(text)),
-        Start::Text => Ok(literal(alloc, text)?),
-        Start::Sign => Ok(sign(alloc, text)?),
+        Start::Text => literal(alloc, text),
+        Start::Sign => sign(alloc, text),
     }
 }

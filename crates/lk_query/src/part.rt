@@ -5,7 +5,6 @@ use lk_sql::SqlOp;
 
 /// A part of an inlined query, which stands in a list of parts. It names its own parts by their numbers in the list, which are
 /// below its own, and the names that it binds by the numbers of theirs.
-#[derive(Drop)]
 pub enum Part {
     Lit(Base),
     /// A captured value, or the row of a `for`: what is bound to this part's number.
@@ -42,9 +41,38 @@ pub enum Part {
     Where(u32, u32),
 }
 
+impl Drop for Part {
+    fn drop(self) {
+        match self {
+            Self::Lit(_) => {}
+            Self::Bound => {}
+            Self::Case(_, _, _) => {}
+            Self::If(_, _, _) => {}
+            Self::IfRow(_, _, _, _) => {}
+            Self::One(_, _) => {}
+            Self::Two(_, _, _) => {}
+            Self::EqRows(_, _, _) => {}
+            Self::Empty(_, _) => {}
+            Self::Record(_) => {}
+            Self::Extend(_, _, _) => {}
+            Self::Project(_, _) => {}
+            Self::Items(_) => {}
+            Self::Append(_, _) => {}
+            Self::ForList(_, _, _) => {}
+            Self::Table(_, _) => {}
+            Self::Where(_, _) => {}
+        }
+    }
+}
+
 /// A label of a record, and the part that is under it.
-#[derive(Drop)]
 pub struct Labelled {
     pub label: Text,
     pub part: u32,
+}
+
+impl Drop for Labelled {
+    fn drop(self) {
+        let Self { label: _, part: _ } = self;
+    }
 }

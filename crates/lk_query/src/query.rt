@@ -10,10 +10,18 @@ use lk_sql::Key;
 use std::marker::Model;
 
 /// What a query or a change captures: a base of this kind, or a record with these columns.
-#[derive(Drop)]
 pub enum Captured {
     Base(BaseKind),
     Row(List<Column>),
+}
+
+impl Drop for Captured {
+    fn drop(self) {
+        match self {
+            Self::Base(_) => {}
+            Self::Row(_) => {}
+        }
+    }
 }
 
 /// Parts, each of which stands behind its own. Contracts see the list of them.

@@ -14,6 +14,16 @@ use lk_ast::{
 };
 use std::alloc::Global;
 
+/// What was made, or an end with the error. At forty places in one function it is proved in less time than `?`.
+macro_rules! got {
+    ($made:expr) => {
+        match $made {
+            Ok(made) => made,
+            Err(error) => return Err(error),
+        }
+    };
+}
+
 /// An expression. The loop goes down the rests of a block, of which there may be more than the stack has room for.
 #[cycle(scoped)]
 pub fn expr(alloc: Global, names: &mut Names, e: &Expr) -> Result<Expr, NoMemory>
@@ -37,7 +47,7 @@ pub fn expr(alloc: Global, names: &mut Names, e: &Expr) -> Result<Expr, NoMemory
     let node = node(alloc, names, rest.node.get())?;
     let node = Boxed::new(alloc, node)?;
     names.leave(noted);
-    Ok(make_chain(alloc, statements, Expr { span, node })?)
+    make_chain(alloc, statements, Expr { span, node })
 }
 
 /// A word: a local name or a function of the program.
@@ -57,7 +67,7 @@ fn function_in(alloc: Global, e: &Expr) -> Result<Option<Text>, NoMemory>
     ensures { IfOk result (λ name. name ≡ function_in (out-Node e.now.node)) }
 {
     match e.node.get() {
-        Node::Function(name) => Ok(Some(name.copy(alloc)?)),
+        Node::Function(name) => name.copy(alloc).map(Some),
         _ => Ok(None),
     }
 }
@@ -80,24 +90,24 @@ fn node(alloc: Global, names: &mut Names, node: &Node) -> Result<Node, NoMemory>
 {
     match node {
         Node::Int(number) => Ok(Node::Int(*number)),
-        Node::Text(text) => Ok(Node::Text(text.copy(alloc)?)),
+        Node::Text(text) => text.copy(alloc).map(Node::Text),
         Node::Bool(truth) => Ok(Node::Bool(*truth)),
-        Node::Name(name) => Ok(word_node(alloc, names, name)?),
-        Node::Function(name) => Ok(Node::Function(name.copy(alloc)?)),
-        Node::Lambda(e) => Ok(Node::Lambda(lambda(alloc, names, e)?)),
+        Node::Name(name) => word_node(alloc, names, name),
+        Node::Function(name) => name.copy(alloc).map(Node::Function),
+        Node::Lambda(e) => lambda(alloc, names, e).map(Node::Lambda),
         Node::Call(name, args) => {
-            let name = copy_word(alloc, name)?;
-            Ok(Node::Call(name, exprs(alloc, names, args.as_slice())?))
+            let name = got!(copy_word(alloc, name));
+            Ok(Node::Call(name, got!(exprs(alloc, names, args.as_slice()))))
         }
         Node::Apply(f, args) => {
-            let f = expr(alloc, names, f)?;
-            let args = exprs(alloc, names, args.as_slice())?;
-            Ok(call_node(alloc, f, args)?)
+            let f = got!(expr(alloc, names, f));
+            let args = got!(exprs(alloc, names, args.as_slice()));
+            call_node(alloc, f, args)
         }
         Node::Var(name, bound, rest) => {
-            let bound = expr(alloc, names, bound)?;
-            let rest = under(alloc, names, name, rest)?;
-            Ok(Node::Var(copy_word(alloc, name)?, bound, rest))
+            let bound = got!(expr(alloc, names, bound));
+            let rest = got!(under(alloc, names, name, rest));
+            Ok(Node::Var(got!(copy_word(alloc, name)), bound, rest))
         }
         Node::Seq(a, b)
         | Node::And(a, b)
@@ -117,8 +127,8 @@ fn node(alloc: Global, names: &mut Names, node: &Node) -> Result<Node, NoMemory>
         | Node::Gt(a, b)
         | Node::Ge(a, b)
         | Node::Where(a, b) => {
-            let a = expr(alloc, names, a)?;
-            let b = expr(alloc, names, b)?;
+            let a = got!(expr(alloc, names, a));
+            let b = got!(expr(alloc, names, b));
             Ok(with_operands(node, a, b))
         }
         Node::Neg(e)
@@ -127,52 +137,52 @@ fn node(alloc: Global, names: &mut Names, node: &Node) -> Result<Node, NoMemory>
         | Node::Tl(e)
         | Node::Empty(e)
         | Node::IntToString(e)
-        | Node::Print(e) => Ok(with_operand(node, expr(alloc, names, e)?)),
+        | Node::Print(e) => Ok(with_operand(node, got!(expr(alloc, names, e)))),
         Node::If(c, d, e) => {
-            let c = expr(alloc, names, c)?;
-            let d = expr(alloc, names, d)?;
-            Ok(Node::If(c, d, expr(alloc, names, e)?))
+            let c = got!(expr(alloc, names, c));
+            let d = got!(expr(alloc, names, d));
+            Ok(Node::If(c, d, got!(expr(alloc, names, e))))
         }
-        Node::Record(fields) => Ok(Node::Record(parts(alloc, names, fields.as_slice())?)),
+        Node::Record(fields) => parts(alloc, names, fields.as_slice()).map(Node::Record),
         Node::Extend(fields, e) => {
-            let fields = parts(alloc, names, fields.as_slice())?;
-            Ok(Node::Extend(fields, expr(alloc, names, e)?))
+            let fields = got!(parts(alloc, names, fields.as_slice()));
+            Ok(Node::Extend(fields, got!(expr(alloc, names, e))))
         }
-        Node::List(items) => Ok(Node::List(exprs(alloc, names, items.as_slice())?)),
+        Node::List(items) => exprs(alloc, names, items.as_slice()).map(Node::List),
         Node::Project(e, label) => {
-            let e = expr(alloc, names, e)?;
-            Ok(Node::Project(e, copy_word(alloc, label)?))
+            let e = got!(expr(alloc, names, e));
+            Ok(Node::Project(e, got!(copy_word(alloc, label))))
         }
         Node::Tag(tag, e) => {
-            let tag = copy_word(alloc, tag)?;
-            Ok(Node::Tag(tag, expr(alloc, names, e)?))
+            let tag = got!(copy_word(alloc, tag));
+            Ok(Node::Tag(tag, got!(expr(alloc, names, e))))
         }
         Node::Switch(e, list, last) => {
-            let e = expr(alloc, names, e)?;
-            let list = cases(alloc, names, list.as_slice())?;
-            Ok(Node::Switch(e, list, last_case(alloc, names, last)?))
+            let e = got!(expr(alloc, names, e));
+            let list = got!(cases(alloc, names, list.as_slice()));
+            Ok(Node::Switch(e, list, got!(last_case(alloc, names, last))))
         }
         Node::ForList(name, e, body) => {
-            let e = expr(alloc, names, e)?;
-            let body = under(alloc, names, name, body)?;
-            Ok(Node::ForList(copy_word(alloc, name)?, e, body))
+            let e = got!(expr(alloc, names, e));
+            let body = got!(under(alloc, names, name, body));
+            Ok(Node::ForList(got!(copy_word(alloc, name)), e, body))
         }
         Node::ForTable(name, rows, body) => {
-            let rows = expr(alloc, names, rows)?;
-            let body = under(alloc, names, name, body)?;
-            Ok(Node::ForTable(copy_word(alloc, name)?, rows, body))
+            let rows = got!(expr(alloc, names, rows));
+            let body = got!(under(alloc, names, name, body));
+            Ok(Node::ForTable(got!(copy_word(alloc, name)), rows, body))
         }
-        Node::Table(table) => Ok(Node::Table(copy_word(alloc, table)?)),
+        Node::Table(table) => copy_word(alloc, table).map(Node::Table),
         Node::Query(keys, e) => {
-            let keys = copy_keys(alloc, keys.as_slice())?;
-            Ok(Node::Query(keys, expr(alloc, names, e)?))
+            let keys = got!(copy_keys(alloc, keys.as_slice()));
+            Ok(Node::Query(keys, got!(expr(alloc, names, e))))
         }
         Node::Insert(table, e) => {
-            let table = copy_word(alloc, table)?;
-            Ok(Node::Insert(table, expr(alloc, names, e)?))
+            let table = got!(copy_word(alloc, table));
+            Ok(Node::Insert(table, got!(expr(alloc, names, e))))
         }
-        Node::Update(rows) => Ok(Node::Update(change(alloc, names, rows)?)),
-        Node::Delete(rows) => Ok(Node::Delete(change(alloc, names, rows)?)),
+        Node::Update(rows) => change(alloc, names, rows).map(Node::Update),
+        Node::Delete(rows) => change(alloc, names, rows).map(Node::Delete),
     }
 }
 

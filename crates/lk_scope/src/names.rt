@@ -94,7 +94,7 @@ impl Names {
     {
         match name {
             None => Ok(()),
-            Some(name) => Ok(self.enter(alloc, noted, name)?),
+            Some(name) => self.enter(alloc, noted, name),
         }
     }
 

@@ -24,8 +24,8 @@ fn scoped_decl(alloc: Global, decl: Decl) -> Result<Decl, NoMemory>
 {
     match decl {
         Decl::Table(table) => Ok(Decl::Table(table)),
-        Decl::Fun(function) => Ok(Decl::Fun(scoped_function(alloc, function)?)),
-        Decl::Mutual(functions) => Ok(Decl::Mutual(scoped_functions(alloc, functions)?)),
+        Decl::Fun(function) => scoped_function(alloc, function).map(Decl::Fun),
+        Decl::Mutual(functions) => scoped_functions(alloc, functions).map(Decl::Mutual),
     }
 }
 

@@ -59,7 +59,7 @@ fn instance<'g, 'p>(
     take_label(tour)?;
     tour.types = function.types.as_slice();
     tour.calls = function.calls.as_slice();
-    Ok(expr(fun, ROOM, false, &function.function.body, tour)?)
+    expr(fun, ROOM, false, &function.function.body, tour)
 }
 
 /// One label more.
@@ -108,7 +108,7 @@ fn at_node<'g, 'p>(fun: u32, e: &'p Expr, tour: &mut Tour<'g, 'p>) -> Result<(),
     ensures { IfOk result (λ done. tour_of tour.new ≡ at_node fun (layer e.now) e.now (tour_of tour.old)) }
 {
     match e.node.get() {
-        Node::Lambda(_) | Node::Insert(_, _) => Ok(take_label(tour)?),
+        Node::Lambda(_) | Node::Insert(_, _) => take_label(tour),
         Node::Table(_) | Node::Query(_, _) | Node::Update(_) | Node::Delete(_) => {
             let label = tour.label;
             let types = tour.types;
@@ -202,11 +202,9 @@ fn node<'g, 'p>(
         | Node::Name(_)
         | Node::Function(_)
         | Node::Table(_) => Ok(()),
-        Node::Lambda(lambda) => Ok(expr(fun, room, inside, &lambda.body, tour)?),
-        Node::Call(_, list) | Node::List(list) => {
-            Ok(exprs(fun, room, inside, list.as_slice(), tour)?)
-        }
-        Node::Apply(f, args) => Ok(apply(fun, room, inside, f, args.as_slice(), tour)?),
+        Node::Lambda(lambda) => expr(fun, room, inside, &lambda.body, tour),
+        Node::Call(_, list) | Node::List(list) => exprs(fun, room, inside, list.as_slice(), tour),
+        Node::Apply(f, args) => apply(fun, room, inside, f, args.as_slice(), tour),
         Node::Seq(a, b)
         | Node::And(a, b)
         | Node::Or(a, b)
@@ -238,14 +236,14 @@ fn node<'g, 'p>(
         | Node::Project(e, _)
         | Node::Tag(_, e)
         | Node::Query(_, e)
-        | Node::Insert(_, e) => Ok(expr(fun, room, inside, e, tour)?),
-        Node::If(c, d, e) => Ok(three(fun, room, inside, c, d, e, tour)?),
-        Node::Record(list) => Ok(parts(fun, room, inside, list.as_slice(), tour)?),
+        | Node::Insert(_, e) => expr(fun, room, inside, e, tour),
+        Node::If(c, d, e) => three(fun, room, inside, c, d, e, tour),
+        Node::Record(list) => parts(fun, room, inside, list.as_slice(), tour),
         Node::Extend(list, e) => Ok(extension(fun, room, inside, list.as_slice(), e, tour)?),
         Node::Switch(e, list, last) => {
             Ok(switch(fun, room, inside, e, list.as_slice(), last, tour)?)
         }
-        Node::Update(rows) | Node::Delete(rows) => Ok(change(fun, room, inside, rows, tour)?),
+        Node::Update(rows) | Node::Delete(rows) => change(fun, room, inside, rows, tour),
     }
 }
 
@@ -262,7 +260,7 @@ fn two<'g, 'p>(
     ensures { IfOk result (λ done. tour_of tour.new ≡ both (visit fun a.now) (visit fun b.now) inside (tour_of tour.old)) }
 {
     expr(fun, room, inside, a, tour)?;
-    Ok(expr(fun, room, inside, b, tour)?)
+    expr(fun, room, inside, b, tour)
 }
 
 /// The visit to three expressions.
@@ -279,7 +277,7 @@ fn three<'g, 'p>(
     ensures { IfOk result (λ done. tour_of tour.new ≡ both (visit fun a.now) (both (visit fun b.now) (visit fun c.now)) inside (tour_of tour.old)) }
 {
     expr(fun, room, inside, a, tour)?;
-    Ok(two(fun, room, inside, b, c, tour)?)
+    two(fun, room, inside, b, c, tour)
 }
 
 /// The visit to a function and to what it is applied to.
@@ -295,7 +293,7 @@ fn apply<'g, 'p>(
     ensures { IfOk result (λ done. tour_of tour.new ≡ both (visit fun f.now) (in_exprs fun args.now) inside (tour_of tour.old)) }
 {
     expr(fun, room, inside, f, tour)?;
-    Ok(exprs(fun, room, inside, args, tour)?)
+    exprs(fun, room, inside, args, tour)
 }
 
 /// The visit to `(l = e | r)`.
@@ -311,7 +309,7 @@ fn extension<'g, 'p>(
     ensures { IfOk result (λ done. tour_of tour.new ≡ both (in_parts fun list.now) (visit fun e.now) inside (tour_of tour.old)) }
 {
     parts(fun, room, inside, list, tour)?;
-    Ok(expr(fun, room, inside, e, tour)?)
+    expr(fun, room, inside, e, tour)
 }
 
 /// The visit to a switch.
@@ -329,7 +327,7 @@ fn switch<'g, 'p>(
 {
     expr(fun, room, inside, e, tour)?;
     cases(fun, room, inside, list, tour)?;
-    Ok(last_case(fun, room, inside, last, tour)?)
+    last_case(fun, room, inside, last, tour)
 }
 
 /// The visit to expressions.
@@ -396,7 +394,7 @@ fn last_case<'g, 'p>(
 {
     match last {
         None => Ok(()),
-        Some(last) => Ok(expr(fun, room, inside, &last.body, tour)?),
+        Some(last) => expr(fun, room, inside, &last.body, tour),
     }
 }
 
@@ -412,5 +410,5 @@ fn change<'g, 'p>(
     ensures { IfOk result (λ done. tour_of tour.new ≡ in_change fun rows.now inside (tour_of tour.old)) }
 {
     expr(fun, room, inside, &rows.cond, tour)?;
-    Ok(parts(fun, room, inside, rows.sets.as_slice(), tour)?)
+    parts(fun, room, inside, rows.sets.as_slice(), tour)
 }

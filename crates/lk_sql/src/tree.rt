@@ -24,7 +24,6 @@ pub enum SqlOp {
 
 /// What gives a base value for each choice of rows.
 #[cycle(scalar)]
-#[derive(Drop)]
 pub enum Scalar {
     Lit(Base),
     /// A parameter by its number, counted from 1.
@@ -38,36 +37,79 @@ pub enum Scalar {
     Exists(List<Select>),
 }
 
+impl Drop for Scalar {
+    #[cycle(scalar)]
+    fn drop(self) {
+        match self {
+            Self::Lit(_) => {}
+            Self::Param(_) => {}
+            Self::Column(_, _) => {}
+            Self::Op(_, _) => {}
+            Self::Case(_, _, _) => {}
+            Self::Exists(_) => {}
+        }
+    }
+}
+
 /// A generator: its number, and the table whose rows it runs over.
-#[derive(Drop)]
 pub struct FromItem {
     pub var: u32,
     pub table: Text,
 }
 
+impl Drop for FromItem {
+    fn drop(self) {
+        let Self { var: _, table: _ } = self;
+    }
+}
+
 /// A column of what a select gives.
 #[cycle(scalar)]
-#[derive(Drop)]
 pub struct Out {
     pub label: Text,
     pub scalar: Scalar,
 }
 
+impl Drop for Out {
+    #[cycle(scalar)]
+    fn drop(self) {
+        let Self {
+            label: _,
+            scalar: _,
+        } = self;
+    }
+}
+
 /// A row for each choice of rows of the generators for which the condition holds. The outputs stand in byte order of their
 /// labels.
 #[cycle(scalar)]
-#[derive(Drop)]
 pub struct Select {
     pub froms: List<FromItem>,
     pub cond: Scalar,
     pub outs: List<Out>,
 }
 
+impl Drop for Select {
+    #[cycle(scalar)]
+    fn drop(self) {
+        let Self {
+            froms: _,
+            cond: _,
+            outs: _,
+        } = self;
+    }
+}
+
 /// A column by which rows are sorted, in falling order where `desc` says so.
-#[derive(Drop)]
 pub struct Key {
     pub label: Text,
     pub desc: bool,
+}
+
+impl Drop for Key {
+    fn drop(self) {
+        let Self { label: _, desc: _ } = self;
+    }
 }
 
 /// A query: the rows of its selects, one behind the other, sorted by the keys if there are any.

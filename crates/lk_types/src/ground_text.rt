@@ -1,6 +1,6 @@
 //! Ground types as text.
 
-ghost use Rattle.lk_types.specs.TypeText.{effects_text, ground_field_text, ground_text};
+ghost use Rattle.lk_types.specs.TypeText.{effects_text, ground_field_text, ground_text, list_text, record_text, variant_text};
 ghost use Rattle.std.specs.List.{join_by};
 ghost use Rattle.std.specs.Prelude.{◌≡◌, ◌++◌, IfOk, None, OnOk, codes};
 
@@ -27,33 +27,54 @@ fn write_ground(text: &mut Text, ty: &Ground) -> Result<(), NoMemory>
     ensures { OnOk result (text.new ≡ text.old ++ ground_text ty.now) }
 {
     match ty {
-        Ground::Int => Ok(text.push("Int")?),
-        Ground::Bool => Ok(text.push("Bool")?),
-        Ground::Text => Ok(text.push("String")?),
-        Ground::List(item) => {
-            text.push("[")?;
-            write_ground(text, item.get())?;
-            Ok(text.push("]")?)
-        }
-        Ground::Fields(fields) => {
-            text.push("(")?;
-            write_fields(text, fields.as_slice())?;
-            Ok(text.push(")")?)
-        }
-        Ground::Tags(tags) => {
-            text.push("[|")?;
-            write_fields(text, tags.as_slice())?;
-            Ok(text.push("|]")?)
-        }
+        Ground::Int => text.push("Int"),
+        Ground::Bool => text.push("Bool"),
+        Ground::Text => text.push("String"),
+        Ground::List(item) => write_list(text, item.get()),
+        Ground::Fields(fields) => write_record(text, fields.as_slice()),
+        Ground::Tags(tags) => write_variant(text, tags.as_slice()),
         Ground::Fun(params, labels, answer) => {
             text.push("(")?;
             write_grounds(text, params.as_slice())?;
             text.push(") ")?;
             write_effects(text, labels.as_slice())?;
             text.push("-> ")?;
-            Ok(write_ground(text, answer.get())?)
+            write_ground(text, answer.get())
         }
     }
+}
+
+/// `[T]`.
+#[cycle(grounds)]
+#[tactic(auto, using(crate::proofs::Lists::texts_both))]
+fn write_list(text: &mut Text, item: &Ground) -> Result<(), NoMemory>
+    ensures { OnOk result (text.new ≡ text.old ++ list_text (ground_text item.now)) }
+{
+    text.push("[")?;
+    write_ground(text, item)?;
+    text.push("]")
+}
+
+/// `(l:T,m:T)`.
+#[cycle(grounds)]
+#[tactic(auto, using(crate::proofs::Lists::texts_both))]
+fn write_record(text: &mut Text, fields: &[GroundField]) -> Result<(), NoMemory>
+    ensures { OnOk result (text.new ≡ text.old ++ record_text (join_by ground_field_text (codes ",") fields.now)) }
+{
+    text.push("(")?;
+    write_fields(text, fields)?;
+    text.push(")")
+}
+
+/// `[|A:T,B:T|]`.
+#[cycle(grounds)]
+#[tactic(auto, using(crate::proofs::Lists::texts_both))]
+fn write_variant(text: &mut Text, tags: &[GroundField]) -> Result<(), NoMemory>
+    ensures { OnOk result (text.new ≡ text.old ++ variant_text (join_by ground_field_text (codes ",") tags.now)) }
+{
+    text.push("[|")?;
+    write_fields(text, tags)?;
+    text.push("|]")
 }
 
 /// `T,T`.
@@ -96,7 +117,7 @@ fn write_field(text: &mut Text, field: &GroundField) -> Result<(), NoMemory>
 {
     text.push(field.label.as_str())?;
     text.push(":")?;
-    Ok(write_ground(text, &field.ty)?)
+    write_ground(text, &field.ty)
 }
 
 /// `{e,e}`, or nothing.
@@ -109,5 +130,5 @@ fn write_effects(text: &mut Text, labels: &[Effect]) -> Result<(), NoMemory>
     }
     text.push("{")?;
     write_labels(text, labels)?;
-    Ok(text.push("}")?)
+    text.push("}")
 }

@@ -1,7 +1,7 @@
 //! Types as text.
 
 ghost use Rattle.lk_types.specs.Names.{name};
-ghost use Rattle.lk_types.specs.TypeText.{effect_word, effects_text, tail_text, type_text, written, written_field, written_row};
+ghost use Rattle.lk_types.specs.TypeText.{effect_word, effects_text, list_text, record_text, tail_text, type_text, variant_text, written, written_field, written_row};
 ghost use Rattle.lk_types.specs.Variables.{tail_variable};
 ghost use Rattle.lk_types.specs.declared.ty.Variable.TheVariants as variable;
 ghost use Rattle.std.specs.List.{join_by};
@@ -36,34 +36,55 @@ fn write_type(alloc: Global, text: &mut Text, names: &Names, ty: &Ty) -> Result<
     ensures { OnOk result (text.new ≡ text.old ++ written (name names.now) ty.now) }
 {
     match ty {
-        Ty::Int => Ok(text.push("Int")?),
-        Ty::Bool => Ok(text.push("Bool")?),
-        Ty::Text => Ok(text.push("String")?),
-        Ty::List(item) => {
-            text.push("[")?;
-            write_type(alloc, text, names, item.get())?;
-            Ok(text.push("]")?)
-        }
-        Ty::Fields(row) => {
-            text.push("(")?;
-            write_row(alloc, text, names, row)?;
-            Ok(text.push(")")?)
-        }
-        Ty::Tags(row) => {
-            text.push("[|")?;
-            write_row(alloc, text, names, row)?;
-            Ok(text.push("|]")?)
-        }
+        Ty::Int => text.push("Int"),
+        Ty::Bool => text.push("Bool"),
+        Ty::Text => text.push("String"),
+        Ty::List(item) => write_list(alloc, text, names, item.get()),
+        Ty::Fields(row) => write_record(alloc, text, names, row),
+        Ty::Tags(row) => write_variant(alloc, text, names, row),
         Ty::Fun(params, effects, answer) => {
             text.push("(")?;
             write_types(alloc, text, names, params.as_slice())?;
             text.push(") ")?;
             write_effects(alloc, text, names, effects)?;
             text.push("-> ")?;
-            Ok(write_type(alloc, text, names, answer.get())?)
+            write_type(alloc, text, names, answer.get())
         }
-        Ty::Var(number) => Ok(write_name(alloc, text, names, Variable::Plain(*number))?),
+        Ty::Var(number) => write_name(alloc, text, names, Variable::Plain(*number)),
     }
+}
+
+/// `[T]`.
+#[cycle(types)]
+#[tactic(auto, using(crate::proofs::Lists::texts_both))]
+fn write_list(alloc: Global, text: &mut Text, names: &Names, item: &Ty) -> Result<(), NoMemory>
+    ensures { OnOk result (text.new ≡ text.old ++ list_text (written (name names.now) item.now)) }
+{
+    text.push("[")?;
+    write_type(alloc, text, names, item)?;
+    text.push("]")
+}
+
+/// `(l:T,m:T|t1)`.
+#[cycle(types)]
+#[tactic(auto, using(crate::proofs::Lists::texts_both))]
+fn write_record(alloc: Global, text: &mut Text, names: &Names, row: &TyRow) -> Result<(), NoMemory>
+    ensures { OnOk result (text.new ≡ text.old ++ record_text (written_row (name names.now) row.now)) }
+{
+    text.push("(")?;
+    write_row(alloc, text, names, row)?;
+    text.push(")")
+}
+
+/// `[|A:T,B:T|t1|]`.
+#[cycle(types)]
+#[tactic(auto, using(crate::proofs::Lists::texts_both))]
+fn write_variant(alloc: Global, text: &mut Text, names: &Names, row: &TyRow) -> Result<(), NoMemory>
+    ensures { OnOk result (text.new ≡ text.old ++ variant_text (written_row (name names.now) row.now)) }
+{
+    text.push("[|")?;
+    write_row(alloc, text, names, row)?;
+    text.push("|]")
 }
 
 /// `T,T`.
@@ -89,7 +110,7 @@ fn write_row(alloc: Global, text: &mut Text, names: &Names, row: &TyRow) -> Resu
     ensures { OnOk result (text.new ≡ text.old ++ written_row (name names.now) row.now) }
 {
     write_fields(alloc, text, names, row.fields.as_slice())?;
-    Ok(write_tail(alloc, text, names, row.tail.of_row())?)
+    write_tail(alloc, text, names, row.tail.of_row())
 }
 
 /// `l:T,m:T`.
@@ -126,7 +147,7 @@ fn write_field(
 {
     text.push(field.label.as_str())?;
     text.push(":")?;
-    Ok(write_type(alloc, text, names, &field.ty)?)
+    write_type(alloc, text, names, &field.ty)
 }
 
 /// `{e,e|t1}`, or nothing.
@@ -145,7 +166,7 @@ fn write_effects(
     text.push("{")?;
     write_labels(text, effects.labels.as_slice())?;
     write_tail(alloc, text, names, effects.tail.of_effects())?;
-    Ok(text.push("}")?)
+    text.push("}")
 }
 
 /// `e,e`.
@@ -192,7 +213,7 @@ fn write_tail(
         None => Ok(()),
         Some(variable) => {
             text.push("|")?;
-            Ok(write_name(alloc, text, names, variable)?)
+            write_name(alloc, text, names, variable)
         }
     }
 }
@@ -208,5 +229,5 @@ fn write_name(
 {
     let number = names.number(variable);
     let name = format!(in alloc; "t{number}")?;
-    Ok(text.push(name.as_str())?)
+    text.push(name.as_str())
 }

@@ -38,14 +38,14 @@ pub fn push_variables(found: &mut List<Variable>, ty: &Ty) -> Result<(), NoMemor
 {
     match ty {
         Ty::Int | Ty::Bool | Ty::Text => Ok(()),
-        Ty::List(item) => Ok(push_variables(found, item.get())?),
-        Ty::Fields(row) | Ty::Tags(row) => Ok(push_row(found, row)?),
+        Ty::List(item) => push_variables(found, item.get()),
+        Ty::Fields(row) | Ty::Tags(row) => push_row(found, row),
         Ty::Fun(params, effects, answer) => {
             push_all(found, params.as_slice())?;
             push_tail(found, effects.tail.of_effects())?;
-            Ok(push_variables(found, answer.get())?)
+            push_variables(found, answer.get())
         }
-        Ty::Var(number) => Ok(found.push(Variable::Plain(*number))?),
+        Ty::Var(number) => found.push(Variable::Plain(*number)),
     }
 }
 
@@ -65,7 +65,7 @@ fn push_row(found: &mut List<Variable>, row: &TyRow) -> Result<(), NoMemory>
     ensures { OnOk result (found.new ≡ found.old ++ variables_of_row row.now) }
 {
     push_fields(found, row.fields.as_slice())?;
-    Ok(push_tail(found, row.tail.of_row())?)
+    push_tail(found, row.tail.of_row())
 }
 
 #[cycle(variables)]
@@ -83,7 +83,7 @@ fn push_fields(found: &mut List<Variable>, fields: &[TyField]) -> Result<(), NoM
 fn push_field(found: &mut List<Variable>, field: &TyField) -> Result<(), NoMemory>
     ensures { OnOk result (found.new ≡ found.old ++ variables_of_field field.now) }
 {
-    Ok(push_variables(found, &field.ty)?)
+    push_variables(found, &field.ty)
 }
 
 /// The variable of a tail, if it has one.
@@ -92,6 +92,6 @@ fn push_tail(found: &mut List<Variable>, tail: Option<Variable>) -> Result<(), N
 {
     match tail {
         None => Ok(()),
-        Some(variable) => Ok(found.push(variable)?),
+        Some(variable) => found.push(variable),
     }
 }

@@ -1,6 +1,6 @@
 -- What a walker notes of several expressions, and of a whole node.
 use Rattle.std.proofs.Common.{◌≡◌, ℕ, ◌+◌, List, [], ◌∷◌, ◌++◌, length, refl, ap, ap₂, sym, ◌∙◌, subst, map, true, Option, Some, None, is_some, append_assoc, append-nil}
-use Rattle.std.specs.Prelude.{set}
+use Rattle.std.specs.Prelude.{set, IfOk, Result}
 use Rattle.std.proofs.Math.Seq.{set-append_seam}
 use Rattle.std.proofs.lemmas.List.{map-append}
 use Rattle.lk_ast.specs.Layers.{Layer, layer}
@@ -128,9 +128,9 @@ plain_is seen e some names effects n = ap (λ w. w names effects n) (walk_level 
     by_head None is = cc
     by_head (Some h) is = refl
 
-pub plain_node : (seen : Globals) (e : Expr) (effects : Effects) (old new : Walker) (o : Own) → is_some (head_of e) ≡ true
-    → Inner e.span (plain_in seen e old.names effects old.next) old new o → Inner e.span (walk_in seen e old.names effects old.next) old new o
-plain_node seen e effects old new o some inner = subst (λ w. Inner e.span w old new o) (sym (plain_is seen e some old.names effects old.next)) inner
+pub plain_node : {X E : Type 0} (seen : Globals) (e : Expr) (effects : Effects) (old new : Walker) (r : Result X E) (o : X → Own) → is_some (head_of e) ≡ true
+    → IfOk r (λ x. Inner e.span (plain_in seen e old.names effects old.next) old new (o x)) → IfOk r (λ x. Inner e.span (walk_in seen e old.names effects old.next) old new (o x))
+plain_node seen e effects old new r o some inner = subst (λ w. IfOk r (λ x. Inner e.span w old new (o x))) (sym (plain_is seen e some old.names effects old.next)) inner
 
 -- what is left behind the forms that bind names
 plain_layer : (l : Layer)

@@ -1,6 +1,7 @@
 -- The walk through a node that binds names, by what it is.
 use Rattle.std.proofs.Common.{◌≡◌, List, [], ◌∷◌, Option, Some, None, map, refl, ap, sym, ◌∙◌, subst, ◌⊎◌, inl, inr}
 use Rattle.std.specs.Option.{option_map}
+use Rattle.std.specs.Prelude.{IfOk, Result}
 use Rattle.lk_ast.specs.Layers.{Layer, layer}
 use Rattle.lk_ast.specs.declared.expression.Case.{Case}
 use Rattle.lk_ast.specs.declared.expression.ChangeExpr.{ChangeExpr, out-ChangeExpr}
@@ -27,9 +28,9 @@ map_equal f g same [] = refl
 map_equal f g same (x ∷ xs) = λ i. same x i ∷ map_equal f g same xs i
 
 -- a node that is walked through as such a form
-pub as_form : (seen : Globals) (e : Expr) (form : Walking) (effects : Effects) (old new : Walker) (o : Own) → walk_in seen e ≡ form
-    → Inner e.span (form old.names effects old.next) old new o → Inner e.span (walk_in seen e old.names effects old.next) old new o
-as_form seen e form effects old new o is inner = subst (λ w. Inner e.span (w old.names effects old.next) old new o) (sym is) inner
+pub as_form : {X E : Type 0} (seen : Globals) (e : Expr) (form : Walking) (effects : Effects) (old new : Walker) (r : Result X E) (o : X → Own) → walk_in seen e ≡ form
+    → IfOk r (λ x. Inner e.span (form old.names effects old.next) old new (o x)) → IfOk r (λ x. Inner e.span (walk_in seen e old.names effects old.next) old new (o x))
+as_form seen e form effects old new r o is inner = subst (λ w. IfOk r (λ x. Inner e.span (w old.names effects old.next) old new (o x))) (sym is) inner
 
 -- ---- which form it is
 

@@ -3,32 +3,26 @@
 ghost use Rattle.lk_ast.specs.declared.expression.Node.{out-Node};
 ghost use Rattle.lk_types.specs.declared.ty.Ty.TheVariants as ty;
 ghost use Rattle.lk_typing.specs.Typing.{expr_of};
-ghost use Rattle.lk_typing.specs.Walk.{lambda_walked, query_walked};
+ghost use Rattle.lk_typing.specs.Walk.{for_list_walked, for_table_walked, lambda_walked, query_walked, switch_walked, var_walked};
 ghost use Rattle.lk_equations.specs.Made.{as_own};
 ghost use Rattle.lk_walk.specs.Went.{went, went_all, type_at, types_all, under_names, case_in, case_went, case_field, case_type, cases_went, cases_fields, cases_types, last_in, last_went, last_tail, last_types, change_walked, walk_in, part_walks, plain_in, Inner};
 ghost use Rattle.std.specs.Option.{option_map};
 ghost use Rattle.std.specs.Prelude.{◌≡◌, [], ◌∷◌, ◌++◌, map, IfOk, OnOk};
 
 use crate::block::{begin, end_all};
+use crate::context::Context;
 use crate::walker::Walker;
 use lk_ast::{
     Case, ChangeExpr, Expr, LambdaExpr, LastCase, List, NoMemory, Node, PartExpr, SortKey, Span,
     Word, first_statement,
 };
 use lk_equations::{
-    Globals, Own, any_effects, change_own, effect_before, elements_are, for_own, has_if, is_marked,
+    Own, any_effects, change_own, effect_before, elements_are, for_own, has_if, is_marked,
     lambda_own, never, no_effects, one, one_type, only, own_of, query_own, row_of, switch_own,
     unit, variant_of,
 };
-use lk_types::{Effect, Effects, RowTail, Ty, TyField};
+use lk_types::{Effect, RowTail, Ty, TyField};
 use std::alloc::Global;
-
-/// What an expression stands in: what its group of functions sees, and the effects of its function.
-#[derive(Clone, Copy)]
-pub struct Context<'c, 'g, 'p> {
-    pub globals: &'c Globals<'g, 'p>,
-    pub effects: &'c Effects,
-}
 
 /// Walks through an expression. The answer is the number of the variable for its type. The loop goes down the rests of a
 /// block, of which there may be more than the stack has room for.
@@ -66,58 +60,103 @@ fn node<'p>(
 ) -> Result<Own, NoMemory>
     ensures { IfOk result (λ own. Inner e.now.span (walk_in context.now.globals.now e.now walker.old.names context.now.effects.now walker.old.next) walker.old walker.new (as_own own)) }
 {
+    let at = e.span;
     match e.node.get() {
-        Node::Lambda(function) => Ok(lambda(alloc, context, walker, function, e.span)?),
-        Node::Var(name, first, rest) => {
-            let first = expr(alloc, context, walker, first)?;
-            let rest = under(alloc, context, walker, rest, name, Ty::Var(first))?;
-            Ok(only(alloc, Ty::Var(rest), walker.next))
-        }
+        Node::Lambda(function) => lambda(alloc, context, walker, function, at),
+        Node::Var(name, first, rest) => variable(alloc, context, walker, name, first, rest, at),
         Node::Switch(value, list, last) => {
-            let mut tags = List::new(alloc);
-            let mut types = List::new(alloc);
-            let value = expr(alloc, context, walker, value)?;
-            cases(
-                alloc,
-                context,
-                walker,
-                list.as_slice(),
-                &mut tags,
-                &mut types,
-            )?;
-            let tail = last_case(alloc, context, walker, last, &mut types)?;
-            let bodies = one_type(alloc, types.as_slice(), walker.next)?;
-            let variant = variant_of(tags, tail);
-            Ok(switch_own(alloc, context.effects, value, variant, bodies)?)
+            switch(alloc, context, walker, last, value, list.as_slice(), at)
         }
-        Node::ForList(name, list, body) => {
-            let element = walker.number()?;
-            let list = expr(alloc, context, walker, list)?;
-            let body = under(alloc, context, walker, body, name, Ty::Var(element))?;
-            let elements = one(alloc, elements_are(alloc, list, element)?)?;
-            Ok(for_own(alloc, elements, body, walker.next)?)
-        }
+        Node::ForList(name, list, body) => for_list(alloc, context, walker, name, list, body, at),
         Node::ForTable(name, table, body) => {
-            let element = walker.number()?;
-            let table = expr(alloc, context, walker, table)?;
-            let elements = one(alloc, elements_are(alloc, table, element)?)?;
-            walker.say(e.span, elements)?;
-            let body = under(alloc, context, walker, body, name, Ty::Var(element))?;
-            Ok(for_own(alloc, List::new(alloc), body, walker.next)?)
+            for_table(alloc, context, walker, name, table, body, at)
         }
-        Node::Query(keys, body) => Ok(query(
-            alloc,
-            context,
-            walker,
-            body,
-            keys.as_slice(),
-            e.span,
-        )?),
-        Node::Update(rows) | Node::Delete(rows) => {
-            Ok(change(alloc, context, walker, rows, e.span)?)
-        }
-        _ => Ok(plain(alloc, context, walker, e)?),
+        Node::Query(keys, body) => query(alloc, context, walker, body, keys.as_slice(), at),
+        Node::Update(rows) | Node::Delete(rows) => change(alloc, context, walker, rows, at),
+        _ => plain(alloc, context, walker, e),
     }
+}
+
+/// Walks through `var x = e; rest`.
+#[cycle(walks)]
+fn variable<'p>(
+    alloc: Global,
+    context: &Context,
+    walker: &mut Walker<'p>,
+    name: &'p Word,
+    first: &'p Expr,
+    rest: &'p Expr,
+    at: Span,
+) -> Result<Own, NoMemory>
+    ensures { IfOk result (λ own. Inner at (var_walked at name.now.text (walk_in context.now.globals.now first.now) (walk_in context.now.globals.now rest.now) walker.old.names context.now.effects.now walker.old.next) walker.old walker.new (as_own own)) }
+{
+    let first = expr(alloc, context, walker, first)?;
+    let rest = under(alloc, context, walker, rest, name, Ty::Var(first))?;
+    Ok(only(alloc, Ty::Var(rest), walker.next))
+}
+
+/// Walks through a switch with this last case, if there is one.
+#[cycle(walks)]
+fn switch<'p>(
+    alloc: Global,
+    context: &Context,
+    walker: &mut Walker<'p>,
+    last: &'p Option<LastCase>,
+    value: &'p Expr,
+    list: &'p [Case],
+    at: Span,
+) -> Result<Own, NoMemory>
+    ensures { IfOk result (λ own. Inner at (switch_walked at (walk_in context.now.globals.now value.now) (map (case_in context.now.globals.now) list.now) (option_map (last_in context.now.globals.now) last.now) walker.old.names context.now.effects.now walker.old.next) walker.old walker.new (as_own own)) }
+{
+    let mut tags = List::new(alloc);
+    let mut types = List::new(alloc);
+    let value = expr(alloc, context, walker, value)?;
+    cases(alloc, context, walker, list, &mut tags, &mut types)?;
+    let tail = last_case(alloc, context, walker, last, &mut types)?;
+    let bodies = one_type(alloc, types.as_slice(), walker.next)?;
+    let variant = variant_of(tags, tail);
+    Ok(switch_own(alloc, context.effects, value, variant, bodies)?)
+}
+
+/// Walks through `for (x <- e) d`.
+#[cycle(walks)]
+fn for_list<'p>(
+    alloc: Global,
+    context: &Context,
+    walker: &mut Walker<'p>,
+    name: &'p Word,
+    list: &'p Expr,
+    body: &'p Expr,
+    at: Span,
+) -> Result<Own, NoMemory>
+    ensures { IfOk result (λ own. Inner at (for_list_walked at name.now.text (walk_in context.now.globals.now list.now) (walk_in context.now.globals.now body.now) walker.old.names context.now.effects.now walker.old.next) walker.old walker.new (as_own own)) }
+{
+    let element = walker.number()?;
+    let list = expr(alloc, context, walker, list)?;
+    let body = under(alloc, context, walker, body, name, Ty::Var(element))?;
+    let elements = one(alloc, elements_are(alloc, list, element)?)?;
+    Ok(for_own(alloc, elements, body, walker.next)?)
+}
+
+/// Walks through `for (x <-- t) d`.
+#[cycle(walks)]
+fn for_table<'p>(
+    alloc: Global,
+    context: &Context,
+    walker: &mut Walker<'p>,
+    name: &'p Word,
+    table: &'p Expr,
+    body: &'p Expr,
+    at: Span,
+) -> Result<Own, NoMemory>
+    ensures { IfOk result (λ own. Inner at (for_table_walked at name.now.text (walk_in context.now.globals.now table.now) (walk_in context.now.globals.now body.now) walker.old.names context.now.effects.now walker.old.next) walker.old walker.new (as_own own)) }
+{
+    let element = walker.number()?;
+    let table = expr(alloc, context, walker, table)?;
+    let elements = one(alloc, elements_are(alloc, table, element)?)?;
+    walker.say(at, elements)?;
+    let body = under(alloc, context, walker, body, name, Ty::Var(element))?;
+    Ok(for_own(alloc, List::new(alloc), body, walker.next)?)
 }
 
 /// Walks through an expression under one more name of that type.
@@ -357,11 +396,11 @@ fn parts<'p>(
         | Node::Update(_)
         | Node::Delete(_) => Ok(()),
         Node::Call(_, list) | Node::List(list) => {
-            Ok(exprs(alloc, context, walker, list.as_slice(), types)?)
+            exprs(alloc, context, walker, list.as_slice(), types)
         }
         Node::Apply(f, args) => {
             part(alloc, context, walker, f, types)?;
-            Ok(exprs(alloc, context, walker, args.as_slice(), types)?)
+            exprs(alloc, context, walker, args.as_slice(), types)
         }
         Node::Seq(a, b)
         | Node::And(a, b)
@@ -382,7 +421,7 @@ fn parts<'p>(
         | Node::Ge(a, b)
         | Node::Where(a, b) => {
             part(alloc, context, walker, a, types)?;
-            Ok(part(alloc, context, walker, b, types)?)
+            part(alloc, context, walker, b, types)
         }
         Node::Neg(e)
         | Node::Not(e)
@@ -393,13 +432,13 @@ fn parts<'p>(
         | Node::Print(e)
         | Node::Project(e, _)
         | Node::Tag(_, e)
-        | Node::Insert(_, e) => Ok(part(alloc, context, walker, e, types)?),
+        | Node::Insert(_, e) => part(alloc, context, walker, e, types),
         Node::If(c, d, e) => {
             part(alloc, context, walker, c, types)?;
             part(alloc, context, walker, d, types)?;
-            Ok(part(alloc, context, walker, e, types)?)
+            part(alloc, context, walker, e, types)
         }
-        Node::Record(fields) => Ok(fields_in(alloc, context, walker, fields.as_slice(), types)?),
+        Node::Record(fields) => fields_in(alloc, context, walker, fields.as_slice(), types),
         Node::Extend(fields, e) => {
             fields_in(alloc, context, walker, fields.as_slice(), types)?;
             Ok(part(alloc, context, walker, e, types)?)

@@ -4,7 +4,8 @@ ghost use Rattle.lk_typing.specs.Groups.{group_types, group_walked};
 ghost use Rattle.lk_walk.specs.Members.{all_shown, function_went, functions_went, shown};
 ghost use Rattle.std.specs.Prelude.{◌≡◌, IfOk, OnOk};
 
-use crate::expression::{Context, expr};
+use crate::context::Context;
+use crate::expression::expr;
 use crate::member::{Member, function_types, is_mutual, members_of, own_functions, told_before};
 use crate::walker::{Walker, push_params};
 use lk_ast::{Decl, List, NoMemory, functions_in};

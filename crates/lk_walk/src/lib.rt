@@ -2,6 +2,7 @@
 #![tactic(auto)]
 
 mod block;
+mod context;
 mod expression;
 mod group;
 mod member;

@@ -1,5 +1,6 @@
 use Rattle.std.proofs.Common.{arith, subst, ◌∙◌, ap, ap₂, sym, map, [], ◌∷◌}
 use Rattle.std.specs.Option.{option_map, option_copied}
+use Rattle.std.specs.Prelude.{IfOk}
 use Rattle.lk_types.specs.declared.ty.Effect.TheVariants as effect
 use Rattle.lk_typing.specs.Names.{table_named, types_of}
 use Rattle.lk_typing.specs.Types.{labelled}
@@ -37,11 +38,11 @@ expr-returns-clause-number t c = ap (λ (p : Walker × Ty). p.1)
     (blocks_end c.loop-name.rest.now.span (walk_in c.args.context.now.globals.now c.loop-name.rest.now) c.args.context.now.effects.now c.loop-name.walker c.enter-2.new.self c.node.new.walker c.leave.new.self c.end_all.new.walker c.in_ok-slot-2.slot c.in_ok-number.number c.in_ok-end_all.field-0 (as_own c.in_ok-own.own) c.loop-name.blocks _
     c.in_ok-slot-2.ensures.entered c.in_ok-slot-2.ensures.slot c.in_ok-own.ensures c.in_ok-number.ensures.left c.in_ok-number.ensures.number c.in_ok-end_all.ensures c.loop-name.invariant.1)
 
-pub node-returns-in_ok-plain-in_default : goal.node-returns-in_ok-plain-in_default
-node-returns-in_ok-plain-in_default t c =
-    plain_node c.args.context.now.globals.now c.args.e.now c.args.context.now.effects.now c.args.walker.now c.plain.new.walker (as_own c.in_ok-plain-in_default.field-0)
+pub node-returns-in_default : goal.node-returns-in_default
+node-returns-in_default t c =
+    plain_node c.args.context.now.globals.now c.args.e.now c.args.context.now.effects.now c.args.walker.now c.plain.new.walker c.plain.result as_own
     (is_plain c.get.result.now c.args.e.now.node c.get.ensures c.in_default.not-Lambda c.in_default.not-Var c.in_default.not-Switch c.in_default.not-ForList c.in_default.not-ForTable c.in_default.not-Query c.in_default.not-Update c.in_default.not-Delete)
-    c.in_ok-plain-in_default.ensures
+    c.plain.ensures
 
 pub plain-returns : goal.plain-returns
 plain-returns t c = plain_inner c.args.context.now.globals.now c.args.e.now (out-Node c.get-node.result.now) c.args.context.now.effects.now c.args.walker.now c.parts.new.walker c.parts.new.types c.new-types.result (as_own c.in_ok-own_of.field-0)
@@ -86,48 +87,63 @@ change-returns t c = change_inner c.args.at c.args.context.now.globals.now c.arg
     (ap (λ names. record { names = names; types = c.fields_in.new.walker.types; steps = c.fields_in.new.walker.steps; next = c.fields_in.new.walker.next }) c.pop.ensures)
     (c.in_ok-change_own.ensures ∙ ap₂ (λ sets types. set_own c.args.context.now.effects.now (row_of c.in-Some.table.now) (ty.Var c.in_ok-cond.cond) (labelled (labels_of sets) types) c.fields_in.new.walker.next) c.as_slice-sets.ensures c.as_slice.ensures)
 
-pub node-returns-in_ok-change-in-Update : goal.node-returns-in_ok-change-in-Update
-node-returns-in_ok-change-in-Update t c = as_form c.args.context.now.globals.now c.args.e.now (change_walked c.args.e.now.span c.args.context.now.globals.now c.in-Update.rows) c.args.context.now.effects.now c.args.walker.now c.change.new.walker (as_own c.in_ok-change-in-Update.field-0)
+pub node-returns-in-Update : goal.node-returns-in-Update
+node-returns-in-Update t c = as_form c.args.context.now.globals.now c.args.e.now (change_walked c.args.e.now.span c.args.context.now.globals.now c.in-Update.rows) c.args.context.now.effects.now c.args.walker.now c.change.new.walker c.change.result as_own
     (as_change c.args.context.now.globals.now c.args.e.now c.get.result.now c.in-Update.rows c.get.ensures c.in-Update.is)
-    (c.in_ok-change-in-Update.ensures)
+    c.change.ensures
 
-pub node-returns-in_ok-lambda-in-Lambda : goal.node-returns-in_ok-lambda-in-Lambda
-node-returns-in_ok-lambda-in-Lambda t c = as_form c.args.context.now.globals.now c.args.e.now (lambda_walked c.args.e.now.span c.in-Lambda.function.params c.in-Lambda.function.place (walk_in c.args.context.now.globals.now c.in-Lambda.function.body)) c.args.context.now.effects.now c.args.walker.now c.lambda.new.walker (as_own c.in_ok-lambda-in-Lambda.field-0)
+pub node-returns-in-Lambda : goal.node-returns-in-Lambda
+node-returns-in-Lambda t c = as_form c.args.context.now.globals.now c.args.e.now (lambda_walked c.args.e.now.span c.in-Lambda.function.params c.in-Lambda.function.place (walk_in c.args.context.now.globals.now c.in-Lambda.function.body)) c.args.context.now.effects.now c.args.walker.now c.lambda.new.walker c.lambda.result as_own
     (as_lambda c.args.context.now.globals.now c.args.e.now c.get.result.now c.in-Lambda.function c.get.ensures c.in-Lambda.is)
-    (c.in_ok-lambda-in-Lambda.ensures)
+    c.lambda.ensures
 
-pub node-returns-in_ok-for_own-in-ForList : goal.node-returns-in_ok-for_own-in-ForList
-node-returns-in_ok-for_own-in-ForList t c = as_form c.args.context.now.globals.now c.args.e.now (for_list_walked c.args.e.now.span c.in-ForList.name.text (walk_in c.args.context.now.globals.now c.in-ForList.list) (walk_in c.args.context.now.globals.now c.in-ForList.body)) c.args.context.now.effects.now c.args.walker.now c.under-in-ForList.new.walker (as_own c.in_ok-for_own-in-ForList.field-0)
+pub node-returns-in-ForList : goal.node-returns-in-ForList
+node-returns-in-ForList t c = as_form c.args.context.now.globals.now c.args.e.now (for_list_walked c.args.e.now.span c.in-ForList.name.text (walk_in c.args.context.now.globals.now c.in-ForList.list) (walk_in c.args.context.now.globals.now c.in-ForList.body)) c.args.context.now.effects.now c.args.walker.now c.for_list.new.walker c.for_list.result as_own
     (as_for_list c.args.context.now.globals.now c.args.e.now c.get.result.now c.in-ForList.name c.in-ForList.list c.in-ForList.body c.get.ensures c.in-ForList.is)
-    (for_list_inner c.args.e.now.span c.in-ForList.name.text (walk_in c.args.context.now.globals.now c.in-ForList.list) (walk_in c.args.context.now.globals.now c.in-ForList.body) c.args.context.now.effects.now c.args.walker.now c.number.new.self c.expr-in-ForList.new.walker c.under-in-ForList.new.walker c.in_ok-element-in-ForList.element c.in_ok-list-in-ForList.list c.in_ok-body-in-ForList.body c.in_ok-elements-in-ForList.elements _ c.in_ok-element-in-ForList.ensures.next c.in_ok-element-in-ForList.ensures.number c.in_ok-list-in-ForList.ensures.walked c.in_ok-list-in-ForList.ensures.number c.in_ok-body-in-ForList.ensures.walked c.in_ok-body-in-ForList.ensures.number (c.in_ok-elements-in-ForList.ensures ∙ ap (λ equation. equation ∷ []) c.in_ok-elements_are-in-ForList.ensures) c.in_ok-for_own-in-ForList.ensures)
+    c.for_list.ensures
 
-pub node-returns-in_ok-for_own-in-ForTable : goal.node-returns-in_ok-for_own-in-ForTable
-node-returns-in_ok-for_own-in-ForTable t c = as_form c.args.context.now.globals.now c.args.e.now (for_table_walked c.args.e.now.span c.in-ForTable.name.text (walk_in c.args.context.now.globals.now c.in-ForTable.table) (walk_in c.args.context.now.globals.now c.in-ForTable.body)) c.args.context.now.effects.now c.args.walker.now c.under-in-ForTable.new.walker (as_own c.in_ok-for_own-in-ForTable.field-0)
+pub for_list-returns : goal.for_list-returns
+for_list-returns t c = for_list_inner c.args.at c.args.name.now.text (walk_in c.args.context.now.globals.now c.args.list.now) (walk_in c.args.context.now.globals.now c.args.body.now) c.args.context.now.effects.now c.args.walker.now c.number.new.self c.expr.new.walker c.under.new.walker c.in_ok-element.element c.in_ok-list.list c.in_ok-body.body c.in_ok-elements.elements _
+    c.in_ok-element.ensures.next c.in_ok-element.ensures.number c.in_ok-list.ensures.walked c.in_ok-list.ensures.number c.in_ok-body.ensures.walked c.in_ok-body.ensures.number
+    (c.in_ok-elements.ensures ∙ ap (λ equation. equation ∷ []) c.in_ok-elements_are.ensures) c.in_ok-for_own.ensures
+
+pub node-returns-in-ForTable : goal.node-returns-in-ForTable
+node-returns-in-ForTable t c = as_form c.args.context.now.globals.now c.args.e.now (for_table_walked c.args.e.now.span c.in-ForTable.name.text (walk_in c.args.context.now.globals.now c.in-ForTable.table) (walk_in c.args.context.now.globals.now c.in-ForTable.body)) c.args.context.now.effects.now c.args.walker.now c.for_table.new.walker c.for_table.result as_own
     (as_for_table c.args.context.now.globals.now c.args.e.now c.get.result.now c.in-ForTable.name c.in-ForTable.table c.in-ForTable.body c.get.ensures c.in-ForTable.is)
-    (for_table_inner c.args.e.now.span c.in-ForTable.name.text (walk_in c.args.context.now.globals.now c.in-ForTable.table) (walk_in c.args.context.now.globals.now c.in-ForTable.body) c.args.context.now.effects.now c.args.walker.now c.number-in-ForTable.new.self c.expr-in-ForTable.new.walker c.say.new.self c.under-in-ForTable.new.walker c.in_ok-element-in-ForTable.element c.in_ok-table-in-ForTable.table c.in_ok-body-in-ForTable.body c.in_ok-elements-in-ForTable.elements c.new.result _ c.in_ok-element-in-ForTable.ensures.next c.in_ok-element-in-ForTable.ensures.number c.in_ok-table-in-ForTable.ensures.walked c.in_ok-table-in-ForTable.ensures.number (c.in_ok-elements-in-ForTable.ensures ∙ ap (λ equation. equation ∷ []) c.in_ok-elements_are-in-ForTable.ensures) c.in_ok-say-in-ForTable.ensures c.in_ok-body-in-ForTable.ensures.walked c.in_ok-body-in-ForTable.ensures.number c.new.ensures c.in_ok-for_own-in-ForTable.ensures)
+    c.for_table.ensures
 
-pub node-returns-in_ok-query-in-Query : goal.node-returns-in_ok-query-in-Query
-node-returns-in_ok-query-in-Query t c = as_form c.args.context.now.globals.now c.args.e.now (query_walked c.args.e.now.span c.in-Query.keys (walk_in c.args.context.now.globals.now c.in-Query.body)) c.args.context.now.effects.now c.args.walker.now c.query.new.walker (as_own c.in_ok-query-in-Query.field-0)
+pub for_table-returns : goal.for_table-returns
+for_table-returns t c = for_table_inner c.args.at c.args.name.now.text (walk_in c.args.context.now.globals.now c.args.table.now) (walk_in c.args.context.now.globals.now c.args.body.now) c.args.context.now.effects.now c.args.walker.now c.number.new.self c.expr.new.walker c.say.new.self c.under.new.walker c.in_ok-element.element c.in_ok-table.table c.in_ok-body.body c.in_ok-elements.elements c.new.result _
+    c.in_ok-element.ensures.next c.in_ok-element.ensures.number c.in_ok-table.ensures.walked c.in_ok-table.ensures.number
+    (c.in_ok-elements.ensures ∙ ap (λ equation. equation ∷ []) c.in_ok-elements_are.ensures) c.in_ok-say.ensures c.in_ok-body.ensures.walked c.in_ok-body.ensures.number c.new.ensures c.in_ok-for_own.ensures
+
+pub node-returns-in-Query : goal.node-returns-in-Query
+node-returns-in-Query t c = as_form c.args.context.now.globals.now c.args.e.now (query_walked c.args.e.now.span c.in-Query.keys (walk_in c.args.context.now.globals.now c.in-Query.body)) c.args.context.now.effects.now c.args.walker.now c.query.new.walker c.query.result as_own
     (as_query c.args.context.now.globals.now c.args.e.now c.get.result.now c.in-Query.keys c.in-Query.body c.get.ensures c.in-Query.is)
-    (subst (λ keys. Inner c.args.e.now.span (query_walked c.args.e.now.span keys (walk_in c.args.context.now.globals.now c.in-Query.body) c.args.walker.now.names c.args.context.now.effects.now c.args.walker.now.next) c.args.walker.now c.query.new.walker (as_own c.in_ok-query-in-Query.field-0)) c.as_slice-in-Query.ensures c.in_ok-query-in-Query.ensures)
+    (subst (λ keys. IfOk c.query.result (λ own. Inner c.args.e.now.span (query_walked c.args.e.now.span keys (walk_in c.args.context.now.globals.now c.in-Query.body) c.args.walker.now.names c.args.context.now.effects.now c.args.walker.now.next) c.args.walker.now c.query.new.walker (as_own own))) c.as_slice-in-Query.ensures c.query.ensures)
 
 pub query-returns : goal.query-returns
 query-returns t c = query_inner c.args.at c.args.keys.now (walk_in c.args.context.now.globals.now c.args.body.now) c.args.context.now.effects.now c.in_ok-effects.effects c.args.walker.now c.expr.new.walker c.in_ok-body.body _ c.in_ok-effects.ensures c.in_ok-body.ensures.walked c.in_ok-body.ensures.number c.in_ok-query_own.ensures
 
-pub node-returns-in_ok-rest-in-Var : goal.node-returns-in_ok-rest-in-Var
-node-returns-in_ok-rest-in-Var t c = as_form c.args.context.now.globals.now c.args.e.now (var_walked c.args.e.now.span c.in-Var.name.text (walk_in c.args.context.now.globals.now c.in-Var.first) (walk_in c.args.context.now.globals.now c.in-Var.rest)) c.args.context.now.effects.now c.args.walker.now c.under.new.walker (as_own c.only.result)
+pub node-returns-in-Var : goal.node-returns-in-Var
+node-returns-in-Var t c = as_form c.args.context.now.globals.now c.args.e.now (var_walked c.args.e.now.span c.in-Var.name.text (walk_in c.args.context.now.globals.now c.in-Var.first) (walk_in c.args.context.now.globals.now c.in-Var.rest)) c.args.context.now.effects.now c.args.walker.now c.variable.new.walker c.variable.result as_own
     (as_var c.args.context.now.globals.now c.args.e.now c.get.result.now c.in-Var.name c.in-Var.first c.in-Var.rest c.get.ensures c.in-Var.is)
-    (var_inner c.args.e.now.span c.in-Var.name.text (walk_in c.args.context.now.globals.now c.in-Var.first) (walk_in c.args.context.now.globals.now c.in-Var.rest) c.args.context.now.effects.now c.args.walker.now c.expr.new.walker c.under.new.walker c.in_ok-first-in-Var.first (ty.Var c.in_ok-rest-in-Var.rest) _ c.in_ok-first-in-Var.ensures.walked c.in_ok-first-in-Var.ensures.number c.in_ok-rest-in-Var.ensures.walked c.in_ok-rest-in-Var.ensures.number c.only.ensures)
+    c.variable.ensures
 
-pub node-returns-in_ok-switch_own-in-Switch : goal.node-returns-in_ok-switch_own-in-Switch
-node-returns-in_ok-switch_own-in-Switch t c = as_form c.args.context.now.globals.now c.args.e.now (switch_walked c.args.e.now.span (walk_in c.args.context.now.globals.now c.in-Switch.value) (map (case_in c.args.context.now.globals.now) c.in-Switch.list) (option_map (last_in c.args.context.now.globals.now) c.in-Switch.last)) c.args.context.now.effects.now c.args.walker.now c.last_case.new.walker (as_own c.in_ok-switch_own-in-Switch.field-0)
+pub variable-returns : goal.variable-returns
+variable-returns t c = var_inner c.args.at c.args.name.now.text (walk_in c.args.context.now.globals.now c.args.first.now) (walk_in c.args.context.now.globals.now c.args.rest.now) c.args.context.now.effects.now c.args.walker.now c.expr.new.walker c.under.new.walker c.in_ok-first.first (ty.Var c.in_ok-rest.rest) _
+    c.in_ok-first.ensures.walked c.in_ok-first.ensures.number c.in_ok-rest.ensures.walked c.in_ok-rest.ensures.number c.only.ensures
+
+pub node-returns-in-Switch : goal.node-returns-in-Switch
+node-returns-in-Switch t c = as_form c.args.context.now.globals.now c.args.e.now (switch_walked c.args.e.now.span (walk_in c.args.context.now.globals.now c.in-Switch.value) (map (case_in c.args.context.now.globals.now) c.in-Switch.list) (option_map (last_in c.args.context.now.globals.now) c.in-Switch.last)) c.args.context.now.effects.now c.args.walker.now c.switch.new.walker c.switch.result as_own
     (as_switch c.args.context.now.globals.now c.args.e.now c.get.result.now c.in-Switch.value c.in-Switch.list c.in-Switch.last c.get.ensures c.in-Switch.is)
-    (switch_inner c.args.e.now.span (walk_in c.args.context.now.globals.now c.in-Switch.value) (map (case_in c.args.context.now.globals.now) c.in-Switch.list) (option_map (last_in c.args.context.now.globals.now) c.in-Switch.last) c.args.context.now.effects.now c.args.walker.now c.expr-in-Switch.new.walker c.cases.new.walker c.last_case.new.walker
-    c.in_ok-value-in-Switch.value c.cases.new.tags c.new-tags.result c.cases.new.types c.last_case.new.types c.new-types.result c.in_ok-tail-in-Switch.tail (as_own c.in_ok-bodies-in-Switch.bodies) c.variant_of-variant.result _
-    c.in_ok-value-in-Switch.ensures.walked c.in_ok-value-in-Switch.ensures.number c.new-tags.ensures c.new-types.ensures
-    (c.in_ok-cases-in-Switch.ensures.walked ∙ ap (λ list. cases_went (map (case_in c.args.context.now.globals.now) list) c.args.context.now.effects.now c.expr-in-Switch.new.walker) c.as_slice.ensures)
-    (c.in_ok-cases-in-Switch.ensures.tags ∙ ap (λ list. cases_fields (map (case_in c.args.context.now.globals.now) list) c.args.context.now.effects.now c.expr-in-Switch.new.walker c.new-tags.result) c.as_slice.ensures)
-    (c.in_ok-cases-in-Switch.ensures.types ∙ ap (λ list. cases_types (map (case_in c.args.context.now.globals.now) list) c.args.context.now.effects.now c.expr-in-Switch.new.walker c.new-types.result) c.as_slice.ensures)
-    c.in_ok-tail-in-Switch.ensures.walked c.in_ok-tail-in-Switch.ensures.tail c.in_ok-tail-in-Switch.ensures.types
-    (c.in_ok-bodies-in-Switch.ensures ∙ ap (λ types. one_type types c.last_case.new.walker.next) c.as_slice-in-Switch.ensures)
-    c.variant_of-variant.ensures c.in_ok-switch_own-in-Switch.ensures)
+    (subst (λ list. IfOk c.switch.result (λ own. Inner c.args.e.now.span (switch_walked c.args.e.now.span (walk_in c.args.context.now.globals.now c.in-Switch.value) (map (case_in c.args.context.now.globals.now) list) (option_map (last_in c.args.context.now.globals.now) c.in-Switch.last) c.args.walker.now.names c.args.context.now.effects.now c.args.walker.now.next) c.args.walker.now c.switch.new.walker (as_own own))) c.as_slice.ensures c.switch.ensures)
+
+pub switch-returns : goal.switch-returns
+switch-returns t c = switch_inner c.args.at (walk_in c.args.context.now.globals.now c.args.value.now) (map (case_in c.args.context.now.globals.now) c.args.list.now) (option_map (last_in c.args.context.now.globals.now) c.args.last.now) c.args.context.now.effects.now c.args.walker.now c.expr.new.walker c.cases.new.walker c.last_case.new.walker
+    c.in_ok-value.value c.cases.new.tags c.new-tags.result c.cases.new.types c.last_case.new.types c.new-types.result c.in_ok-tail.tail (as_own c.in_ok-bodies.bodies) c.variant_of-variant.result _
+    c.in_ok-value.ensures.walked c.in_ok-value.ensures.number c.new-tags.ensures c.new-types.ensures
+    c.in_ok-cases.ensures.walked c.in_ok-cases.ensures.tags c.in_ok-cases.ensures.types
+    c.in_ok-tail.ensures.walked c.in_ok-tail.ensures.tail c.in_ok-tail.ensures.types
+    (c.in_ok-bodies.ensures ∙ ap (λ types. one_type types c.last_case.new.walker.next) c.as_slice.ensures)
+    c.variant_of-variant.ensures c.in_ok-switch_own.ensures
