@@ -1,3 +1,4 @@
+pub mod AtOdds
 pub mod Declared
 pub mod EvenEntries
 pub mod EvenOf
@@ -19,6 +20,7 @@ pub mod LooselyRows
 pub mod LooselyThere
 pub mod Made
 pub mod NodeVariables
+pub mod OddSides
 pub mod ProgramAnswers
 pub mod Restricted
 pub mod ShownUnfold

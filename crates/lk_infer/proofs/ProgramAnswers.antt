@@ -1,5 +1,5 @@
 -- What the loop over the declarations of a program keeps, and what it comes to.
-use Rattle.std.proofs.Common.{◌≡◌, ℕ, zero, suc, ◌+◌, ◌<◌, ◌≤◌, Bool, false, ◌||◌, List, [], ◌∷◌, ◌++◌, length, take, drop, get_or, refl, sym, ap, subst, ◌∙◌}
+use Rattle.std.proofs.Common.{◌≡◌, ℕ, zero, suc, ◌+◌, ◌<◌, ◌≤◌, Bool, false, ◌||◌, List, [], ◌∷◌, ◌++◌, length, take, drop, get_or, refl, sym, ap, subst}
 use native.Mathlib.Omega.{arith}
 use Rattle.lk_ast.specs.Functions.{functions_in}
 use Rattle.lk_ast.specs.declared.declaration.Decl.{Decl}
@@ -7,12 +7,12 @@ use Rattle.lk_ast.specs.declared.declaration.Program.{Program}
 use Rattle.lk_ast.specs.declared.declaration.TableDecl.{TableDecl}
 use Rattle.lk_ast.specs.declared.place.Span.{Span}
 use Rattle.lk_infer.proofs.Accepting.{Accepted}
-use Rattle.lk_infer.proofs.Continued.{accepted_none, accepted_more, accepted_types, accepted_principal, ends_ill_typed, ends_not_well_typed, ends_too_large, taken_more, taken_at}
+use Rattle.lk_infer.proofs.Continued.{accepted_none, accepted_more, accepted_types, accepted_principal, ends_behind, ends_ill_typed, ends_not_well_typed, ends_too_large, taken_more, taken_at}
 use Rattle.lk_infer.proofs.EvenEntries.{even_entries}
 use Rattle.lk_types.proofs.Members.{each_both}
 use Rattle.lk_infer.specs.Inferred.{IsInferred, HasTypes}
 use Rattle.lk_infer.specs.LacksInOrder.{IsSchemeInOrder}
-use Rattle.lk_infer.specs.Programs.{EndsIllTyped, EndsTooLarge}
+use Rattle.lk_infer.specs.Programs.{Ends, EndsIllTyped, EndsTooLarge}
 use Rattle.lk_infer.specs.Refusals.{AllFine, IsIllTyped, IsTooLarge, some_large}
 use Rattle.lk_types.specs.Each.{Each}
 use Rattle.lk_types.specs.declared.scheme.Scheme.{Scheme}
@@ -23,6 +23,7 @@ use Rattle.lk_typing.specs.Law.{WalkLaw}
 use Rattle.lk_typing.specs.Names.{Named}
 use Rattle.lk_typing.specs.Programs.{entries, ArePrincipal, IsWellTyped}
 use Rattle.lk_ast.specs.Tables.{tables_of}
+use Rattle.lk_typing.specs.declared.step.Step.{Step}
 
 -- the first n declarations are accepted, and all schemes are even and in order
 pub record IsDone (program : Program) (n : ℕ) (large : Bool) (earlier : Named Scheme) (schemes : List Scheme) (types : List Ty) : Type 0 where
@@ -31,9 +32,10 @@ pub record IsDone (program : Program) (n : ℕ) (large : Bool) (earlier : Named 
   pub in_order : Each IsSchemeInOrder schemes
   pub all_even : Each IsEvenScheme schemes
 
-pub nothing_done : (program : Program) (earlier : Named Scheme) (schemes : List Scheme) (types : List Ty) → earlier ≡ [] → schemes ≡ [] → types ≡ [] → IsDone program 0 false earlier schemes types
-nothing_done program earlier schemes types e s t = record {
-  accepted = accepted_none (tables_of program) [] false earlier schemes types refl refl e s t;
+pub nothing_done : (program : Program) (large : Bool) (earlier : Named Scheme) (schemes : List Scheme) (types : List Ty) → large ≡ false → earlier ≡ [] → schemes ≡ [] → types ≡ []
+    → IsDone program 0 large earlier schemes types
+nothing_done program large earlier schemes types l e s t = record {
+  accepted = accepted_none (tables_of program) [] large earlier schemes types refl l e s t;
   even = subst (Each (λ entry. IsEvenScheme entry.1)) (sym e) tt;
   in_order = subst (Each IsSchemeInOrder) (sym s) tt;
   all_even = subst (Each IsEvenScheme) (sym s) tt;
@@ -52,6 +54,13 @@ module _ (program : Program) (tables : List TableDecl) (tables_are : tables ≡ 
     in_order = subst (Each IsSchemeInOrder) (sym all_is) (each_both IsSchemeInOrder schemes own done.in_order in_order);
     all_even = subst (Each IsEvenScheme) (sym all_is) (each_both IsEvenScheme schemes own done.all_even even);
   }
+
+  -- whatever is so of the walk through this declaration
+  pub ends_there : (P : Bool → List Step → Type 0) → P large (group_walked earlier tables decl).steps → Ends (tables_of program) P false [] program.decls
+  ends_there P holds =
+      subst (λ ds. Ends (tables_of program) P false [] ds) (sym (taken_at program.decls n decl within is))
+      (ends_behind (tables_of program) P (take n program.decls) large earlier schemes types (decl ∷ drop (n + 1) program.decls) done.accepted
+      (Ends.here (subst (λ ts. P large (group_walked earlier ts decl).steps) tables_are holds)))
 
   pub ill_typed_there : (at : Span) → IsIllTyped large (group_walked earlier tables decl).steps at → EndsIllTyped program at
   ill_typed_there at ill =

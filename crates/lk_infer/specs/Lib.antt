@@ -1,3 +1,4 @@
+pub mod Disagreements
 pub mod Generalised
 pub mod Inferred
 pub mod Lacks

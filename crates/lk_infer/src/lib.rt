@@ -6,6 +6,7 @@
 
 mod constraints;
 mod declare;
+mod disagreement;
 mod error;
 mod group;
 mod lacks;
@@ -16,6 +17,7 @@ mod sizes;
 mod solving;
 mod typed;
 
+pub use disagreement::{Disagreement, first_disagreement};
 pub use error::InferError;
 pub use program::infer;
 pub use typed::Typed;

@@ -10,7 +10,7 @@ ghost use Rattle.lk_ast.specs.declared.place.Span.{Span as TheSpan};
 ghost use Rattle.lk_types.specs.Each.{Each};
 ghost use Rattle.lk_typing.specs.EffectRows.{IsEvenScheme};
 ghost use Rattle.lk_typing.specs.Programs.{ArePrincipal, IsWellTyped, entries};
-ghost use Rattle.std.specs.Prelude.{◌≡◌, ◌++◌, ◌||◌, Err, IfOk, OnOk};
+ghost use Rattle.std.specs.Prelude.{◌≡◌, ◌++◌, ◌||◌, [], false, Err, IfOk, OnOk};
 
 use crate::declare::declare;
 use crate::error::InferError;
@@ -45,18 +45,59 @@ fn append_types(types: &mut List<Ty>, others: List<Ty>) -> Result<(), NoMemory>
 }
 
 /// What is inferred of the declarations so far.
-#[derive(Drop)]
-struct Inference<'p> {
+pub struct Inference<'p> {
     /// The functions with their schemes, as later ones see them.
-    earlier: Scope<'p, Scheme>,
-    schemes: List<Scheme>,
-    types: List<Ty>,
+    pub earlier: Scope<'p, Scheme>,
+    pub schemes: List<Scheme>,
+    pub types: List<Ty>,
     /// Whether a type of a node is too large.
-    large: bool,
+    pub large: bool,
+}
+
+impl<'p> Inference<'p> {
+    /// Nothing is inferred yet.
+    pub fn new(alloc: Global) -> Inference<'p>
+        ensures earlier { result.earlier ≡ [] }
+        ensures schemes { result.schemes ≡ [] }
+        ensures types { result.types ≡ [] }
+        ensures large { result.large ≡ false }
+    {
+        Inference {
+            earlier: Scope::new(alloc),
+            schemes: List::new(alloc),
+            types: List::new(alloc),
+            large: false,
+        }
+    }
+
+    /// The schemes and the types.
+    fn into_typed(self) -> Typed
+        ensures schemes { result.schemes ≡ self.entry.schemes }
+        ensures types { result.types ≡ self.entry.types }
+    {
+        let Inference {
+            earlier: _earlier,
+            schemes,
+            types,
+            large: _large,
+        } = self;
+        Typed { schemes, types }
+    }
+}
+
+impl<'p> Drop for Inference<'p> {
+    fn drop(self) {
+        let Inference {
+            earlier: _earlier,
+            schemes: _schemes,
+            types: _types,
+            large: _large,
+        } = self;
+    }
 }
 
 /// Adds what is inferred of one declaration more.
-fn add_group<'p>(
+pub fn add_group<'p>(
     alloc: Global,
     so_far: &mut Inference<'p>,
     decl: &'p Decl,
@@ -88,12 +129,7 @@ pub fn infer(alloc: Global, program: &Scoped) -> Result<Typed, InferError>
     typing_laws();
     let program = program.program();
     let tables = Tables::of(alloc, program)?;
-    let mut so_far = Inference {
-        earlier: Scope::new(alloc),
-        schemes: List::new(alloc),
-        types: List::new(alloc),
-        large: false,
-    };
+    let mut so_far = Inference::new(alloc);
     for decl in program.decls.as_slice() {
         let group = match infer_group(alloc, &so_far.earlier, &tables, decl, so_far.large) {
             Ok(group) => group,
@@ -101,6 +137,5 @@ pub fn infer(alloc: Global, program: &Scoped) -> Result<Typed, InferError>
         };
         add_group(alloc, &mut so_far, decl, group)?;
     }
-    let Inference { schemes, types, .. } = so_far;
-    Ok(Typed { schemes, types })
+    Ok(so_far.into_typed())
 }

@@ -1,12 +1,17 @@
-use Rattle.std.proofs.Common.{◌≡◌, ◌∙◌, ◌<◌, ◌≤◌, Err, List, length, get_or, ap, subst, sym}
+use Rattle.std.proofs.Common.{◌≡◌, ◌∙◌, ◌<◌, ◌≤◌, Err, List, length, get_or, ap, subst, subst₂, sym}
 use Rattle.lk_ast.specs.declared.declaration.Decl.{Decl}
 use Rattle.lk_infer.proofs.ProgramAnswers.{nothing_done, one_more, ill_typed_there, not_well_typed_there, too_large_there, has_types, are_principal}
 use Rattle.lk_infer.proofs.program.infer.Goals as goal
+use Rattle.lk_infer.specs.Inferred.{HasTypes}
+use Rattle.lk_infer.specs.LacksInOrder.{IsSchemeInOrder}
 use Rattle.lk_infer.specs.declared.error.InferError.TheVariants as errors
 use Rattle.lk_ast.specs.Tables.{tables_of}
+use Rattle.lk_types.specs.Each.{Each}
+use Rattle.lk_typing.specs.EffectRows.{IsEvenScheme}
+use Rattle.lk_typing.specs.Programs.{ArePrincipal}
 
 pub loop-decl-init : goal.loop-decl-init
-loop-decl-init c = nothing_done _ _ _ _ c.new.ensures c.new-2.ensures c.new-3.ensures
+loop-decl-init c = let start = c.new-so_far.ensures in nothing_done _ _ _ _ _ start.large start.earlier start.schemes start.types
 
 pub loop-decl-preserved : goal.loop-decl-preserved
 loop-decl-preserved c =
@@ -41,15 +46,18 @@ returns-in-Err-clause-too_large c at is =
 pub returns-clause-types : goal.returns-clause-types
 returns-clause-types c =
     let decls = c.as_slice-decl-items.ensures ∙ ap (λ program. program.decls) c.program-program.ensures.same in
-    has_types c.args.program.now c.loop-decl.decl-index (subst (λ (ds : List Decl). length ds ≤ c.loop-decl.decl-index) decls c.loop-decl-test.false) _ _ _ _ c.loop-decl.invariant
+    let typed = c.into_typed.ensures in
+    subst₂ (HasTypes c.args.program.now) (sym typed.schemes) (sym typed.types)
+    (has_types c.args.program.now c.loop-decl.decl-index (subst (λ (ds : List Decl). length ds ≤ c.loop-decl.decl-index) decls c.loop-decl-test.false) _ _ _ _ c.loop-decl.invariant)
 
 pub returns-clause-principal : goal.returns-clause-principal
 returns-clause-principal c =
     let decls = c.as_slice-decl-items.ensures ∙ ap (λ program. program.decls) c.program-program.ensures.same in
-    are_principal c.args.program.now c.loop-decl.decl-index (subst (λ (ds : List Decl). length ds ≤ c.loop-decl.decl-index) decls c.loop-decl-test.false) _ _ _ _ c.loop-decl.invariant
+    subst (ArePrincipal c.args.program.now) (sym c.into_typed.ensures.schemes)
+    (are_principal c.args.program.now c.loop-decl.decl-index (subst (λ (ds : List Decl). length ds ≤ c.loop-decl.decl-index) decls c.loop-decl-test.false) _ _ _ _ c.loop-decl.invariant)
 
 pub returns-clause-in_order : goal.returns-clause-in_order
-returns-clause-in_order c = c.loop-decl.invariant.in_order
+returns-clause-in_order c = subst (Each IsSchemeInOrder) (sym c.into_typed.ensures.schemes) c.loop-decl.invariant.in_order
 
 pub returns-clause-even : goal.returns-clause-even
-returns-clause-even c = c.loop-decl.invariant.all_even
+returns-clause-even c = subst (Each IsEvenScheme) (sym c.into_typed.ensures.schemes) c.loop-decl.invariant.all_even
