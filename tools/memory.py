@@ -34,7 +34,7 @@ __attribute__((constructor)) static void begin(void) {
 }
 static int refused(void) {
     if (!at || !(++made == at || (on && made > at))) return 0;
-    if (write(2, "!", 1) != 1) _exit(99);
+    if (write(2, "\x01", 1) != 1) _exit(99);
     return 1;
 }
 void *malloc(size_t n) { return refused() ? 0 : real_malloc ? real_malloc(n) : 0; }
@@ -49,7 +49,8 @@ def run(links, folder, words, at, on):
     """Status, output, and whether an allocation was refused."""
     environment = {"LD_PRELOAD": f"{folder}/refuse.so", "REFUSED_AT": str(at), **({"REFUSED_ON": "1"} if on else {})}
     done = subprocess.run([links, *words], cwd=folder, env=environment, capture_output=True, timeout=SECONDS)
-    return done.returncode, done.stdout, b"!" in done.stderr
+    # No message has this byte: a text's control characters are shown as spaces.
+    return done.returncode, done.stdout, b"\x01" in done.stderr
 
 
 def write(folder, name, content):

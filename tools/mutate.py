@@ -4,7 +4,7 @@
     tools/mutate.py LINKS [--runs N] [--seed N] [--keep FOLDER]
 
 Each text is given to `check`, `sql` and `source`, the last with a tables file that is mutated too. What is looked for is a
-crash, a run of over 20 seconds, more than 2 GiB of memory, a status that the README's table doesn't have, and output at a status
+crash, a run of over 20 seconds, more than 2 GiB of memory, a status that docs/LANGUAGE.md's table doesn't have, and output at a status
 that prints none or the other way round. Such a text is kept in FOLDER. No gate runs this.
 """
 
@@ -24,6 +24,10 @@ BYTES = 2 << 30
 
 # The statuses, and whether something is printed there.
 STATUSES = {0: None, 1: True, 2: True, 3: True, 5: None, 6: True, 8: True, 11: True, 12: True}
+
+# Those with a message on standard error, and the one at which there may be none.
+REFUSED = (1, 2, 3, 6, 11)
+NO_MEMORY = 5
 
 WORDS = (
     "table with sig fun mutual client server var if else for where switch case query orderby desc insert values update set delete "
@@ -141,8 +145,8 @@ def ran(words):
         return None, "over 20 seconds"
     if run.returncode not in STATUSES:
         return run.returncode, f"ended with {run.returncode}: {run.stderr[:200]!r}"
-    if run.stderr:
-        return run.returncode, f"standard error: {run.stderr[:200]!r}"
+    if run.returncode != NO_MEMORY and bool(run.stderr) != (run.returncode in REFUSED):
+        return run.returncode, f"status {run.returncode} with the message {run.stderr[:200]!r}"
     prints = STATUSES[run.returncode]
     if prints is not None and prints != bool(run.stdout):
         return run.returncode, f"status {run.returncode} with {run.stdout[:60]!r}"

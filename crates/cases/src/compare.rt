@@ -7,6 +7,8 @@ use case_files::Content;
 use lk_ast::{
     BaseKind, Column, List, NoMemory, Row, TableDef, Text, holds_function, rows_value, value_text,
 };
+use lk_cli::Refused;
+use lk_explain::explain;
 use lk_outside::{OutFault, Store};
 use std::alloc::Global;
 
@@ -72,6 +74,32 @@ pub fn compare_status(
         told.push(format!(in alloc; "status {status}")?)?;
     }
     Ok(())
+}
+
+/// Tells the message for a refusal where that isn't the one that the run asks for.
+pub fn compare_message(
+    alloc: Global,
+    run: &Run,
+    refused: Option<Refused>,
+    told: &mut Vec<String>,
+) -> Result<(), NoMemory> {
+    if !run.message.has_begun() {
+        return Ok(());
+    }
+    let message = message_of(alloc, refused)?;
+    let message = message.as_str();
+    if !is_text(&run.message, message.as_bytes(), false) {
+        told.push(format!(in alloc; "told {message:?}")?)?;
+    }
+    Ok(())
+}
+
+/// The message for a refusal, if it is one.
+fn message_of(alloc: Global, refused: Option<Refused>) -> Result<Text, NoMemory> {
+    match refused {
+        Some(refused) => explain(alloc, &refused),
+        None => Ok(Text::new(alloc)),
+    }
 }
 
 /// Tells that no store came back where the run says that one does.

@@ -27,6 +27,7 @@ impl Drop for Held {
 enum Begun {
     Word,
     Printed,
+    Message,
     Rows,
 }
 
@@ -41,6 +42,8 @@ pub struct Run {
     pub printed: Vec<Content>,
     /// Whether what is printed only ends with one of these texts.
     pub is_end_alone: bool,
+    /// What is told of a refusal, without its last line feed. It isn't asked where no line says anything of it.
+    pub message: Content,
     /// The statuses of which it ends with one; 0 where there is none.
     pub statuses: Vec<u64>,
     pub held: Vec<Held>,
@@ -59,6 +62,7 @@ impl Drop for Run {
             failing_writes: _,
             printed: _,
             is_end_alone: _,
+            message: _,
             statuses: _,
             held: _,
             back: _,
@@ -77,6 +81,7 @@ impl Run {
             failing_writes: Vec::new(alloc),
             printed: Vec::new(alloc),
             is_end_alone: false,
+            message: Content::new(alloc),
             statuses: Vec::new(alloc),
             held: Vec::new(alloc),
             back: Vec::new(alloc),
@@ -101,6 +106,7 @@ impl Run {
             ">" => self.add_printed(rest),
             "or" => self.begin_printed(),
             "ends" => self.begin_end(rest),
+            "!" => self.add_message(rest),
             "status" => put_numbers(&mut self.statuses, rest),
             "word" => self.add_word(rest),
             "held" => self.add_held(rest),
@@ -147,6 +153,12 @@ impl Run {
         add_content(self.alloc, &mut self.printed, line)
     }
 
+    /// Adds a line to the message.
+    fn add_message(&mut self, line: &str) -> Result<bool, NoMemory> {
+        self.begun = Begun::Message;
+        self.message.add_line(line)
+    }
+
     /// Adds rows that are to be held: `t m n = [..]` of the table `t` with the columns `m` and `n`.
     fn add_held(&mut self, text: &str) -> Result<bool, NoMemory> {
         self.begun = Begun::Rows;
@@ -168,6 +180,7 @@ impl Run {
         match self.begun {
             Begun::Word => take_last(&mut self.words, word, rest),
             Begun::Printed => take_last(&mut self.printed, word, rest),
+            Begun::Message => self.message.take(word, rest),
             Begun::Rows => match self.held.last_mut() {
                 Some(held) => held.rows.take(word, rest),
                 None => Ok(false),

@@ -3,7 +3,9 @@
 ghost use Rattle.std.specs.Prelude.{◌≡◌, All, IfOk, IfSome, false};
 
 use crate::case::{Case, Entry};
-use crate::compare::{compare_none, compare_printed, compare_status, compare_store};
+use crate::compare::{
+    compare_message, compare_none, compare_printed, compare_status, compare_store,
+};
 use crate::reader::read_case;
 use crate::run::Run;
 use lk_ast::{Bytes, List, NoMemory, Text};
@@ -111,9 +113,14 @@ fn run_once(
 {
     let mut world = world_of(alloc, case, run)?;
     let World { words, files, out } = &mut world;
-    let Ran { status, store } = links_main(alloc, words, files, stores, out);
+    let Ran {
+        status,
+        store,
+        refused,
+    } = links_main(alloc, words, files, stores, out);
     compare_printed(alloc, run, world.out.taken().as_slice(), told)?;
     compare_status(alloc, run, status, told)?;
+    compare_message(alloc, run, refused, told)?;
     take_back(alloc, run, store, told)
 }
 

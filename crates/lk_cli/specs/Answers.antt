@@ -1,5 +1,5 @@
 -- The answers to a command line: which come, with their causes; what is printed for each, and the status.
-use Rattle.std.specs.Prelude.{◌≡◌, ◌⊎◌, ℕ, List, [], ◌∷◌, Option, Some, None, Result, Ok, Err, MatchResult, length, ◌<◌, codes, decimal}
+use Rattle.std.specs.Prelude.{◌≡◌, ◌⊎◌, ℕ, List, [], ◌∷◌, Option, Some, None, Result, Ok, Err, MatchResult, IsSomeAnd, length, ◌<◌, codes, decimal}
 use Rattle.std.specs.List.{AllZip}
 use Rattle.lk_ast.specs.Functions.{functions_of}
 use Rattle.lk_ast.specs.Tables.{Tables, table_defs}
@@ -61,6 +61,7 @@ use Rattle.lk_cli.specs.declared.answer.TablesFault.{TablesFault}
 use Rattle.lk_cli.specs.declared.answer.TablesFault.TheVariants as no_tables
 use Rattle.lk_cli.specs.declared.ended.End.{End}
 use Rattle.lk_cli.specs.declared.ended.End.TheVariants as end
+use Rattle.lk_cli.specs.declared.refused.Refused.{Refused}
 use Rattle.lk_words.specs.declared.command.Command.{Command}
 use Rattle.lk_words.specs.declared.command.Command.TheVariants.{Check, Source, Sql}
 use Rattle.lk_words.specs.declared.command.SourceCommand.{SourceCommand}
@@ -416,3 +417,8 @@ abbrev pub Ends : Result Answer Refusal → Option (List ℕ) → Option (List �
 Ends answer before after faults_before faults_after status =
     ((text : List ℕ) × IsPrintedFor answer text × IsWritten answer text before after faults_before faults_after status)
     ⊎ ((status ≡ 5) × (after ≡ before))
+
+-- what is handed back for a message: the refusal, where the answer is one, and else nothing
+abbrev pub IsTold : Result Answer Refusal → Option Refused → Type 0
+IsTold (Ok answer) told = told ≡ None
+IsTold (Err refusal) told = IsSomeAnd told (λ it. it.refusal ≡ refusal)

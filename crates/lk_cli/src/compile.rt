@@ -10,6 +10,7 @@ ghost use Rattle.lk_index.specs.Places.{ArePlaced};
 
 use crate::READ_MAX;
 use crate::answer::{Checked, Refusal};
+use crate::refused::Sources;
 use lk_ast::{List, Program, Text};
 use lk_infer::{Typed, infer};
 use lk_mono::ground;
@@ -21,8 +22,13 @@ use lk_translate::{Translated, translate, translate_laws};
 use std::alloc::Global;
 
 /// The program of the file of that name. Its functions and lambdas begin at places of their own, and so do the uses of
-/// functions in each body, and all that acts on tables. Its tables have columns.
-pub fn read_program<F: Files>(alloc: Global, name: &str, files: &mut F) -> Result<Program, Refusal>
+/// functions in each body, and all that acts on tables. Its tables have columns. What the file contains is kept.
+pub fn read_program<F: Files>(
+    alloc: Global,
+    name: &str,
+    files: &mut F,
+    sources: &mut Sources,
+) -> Result<Program, Refusal>
     ensures contents { F.contents files.new ≡ F.contents files.old }
     ensures later { F.faults files.old ≤ F.faults files.new }
     ensures reads { TellsReads (F.faults files.old) (F.faults files.new) result }
@@ -41,7 +47,9 @@ pub fn read_program<F: Files>(alloc: Global, name: &str, files: &mut F) -> Resul
             return Err(Refusal::ReadFault(Text::from_str(alloc, files.failed())?));
         }
     };
-    Ok(parse(alloc, text.as_slice())?)
+    let parsed = parse(alloc, text.as_slice());
+    sources.keep_program(alloc, name, text);
+    Ok(parsed?)
 }
 
 /// The program with its names bound, its schemes and its types, and its queries, updates and deletions as SQL.

@@ -14,6 +14,7 @@ ghost use Rattle.lk_types.specs.Each.{Each};
 
 use crate::TABLES_READ_MAX;
 use crate::answer::Refusal;
+use crate::refused::Sources;
 use lk_ast::{List, NoMemory, Row, TableDef, TableRows, Text};
 use lk_outside::{Files, OutFault, Store};
 use lk_tables::read_tables;
@@ -27,6 +28,7 @@ pub fn rows_to_load<F: Files>(
     file: Option<&Text>,
     defs: &[TableDef],
     files: &mut F,
+    sources: &mut Sources,
 ) -> Result<List<TableRows>, Refusal>
     ensures contents { F.contents files.new ≡ F.contents files.old }
     ensures later { F.faults files.old ≤ F.faults files.new }
@@ -36,17 +38,18 @@ pub fn rows_to_load<F: Files>(
     ensures refused { IfErr result (HasNoRows (seen F.contents F.failed F.faults files.old files.new) (option_map (λ name. name.now) file.entry) defs.now) }
 {
     match file {
-        Some(name) => Ok(rows_in_file(alloc, name, defs, files)?),
+        Some(name) => Ok(rows_in_file(alloc, name, defs, files, sources)?),
         None => Ok(empty_tables(alloc, defs)?),
     }
 }
 
-/// The declared tables with the rows of the tables file of that name.
+/// The declared tables with the rows of the tables file of that name. What it contains is kept.
 fn rows_in_file<F: Files>(
     alloc: Global,
     name: &Text,
     defs: &[TableDef],
     files: &mut F,
+    sources: &mut Sources,
 ) -> Result<List<TableRows>, Refusal>
     ensures contents { F.contents files.new ≡ F.contents files.old }
     ensures later { F.faults files.old ≤ F.faults files.new }
@@ -62,7 +65,9 @@ fn rows_in_file<F: Files>(
             return Err(Refusal::ReadFault(Text::from_str(alloc, files.failed())?));
         }
     };
-    Ok(read_tables(alloc, text.as_slice(), defs)?)
+    let read = read_tables(alloc, text.as_slice(), defs);
+    sources.keep_tables(alloc, name.as_str(), text);
+    Ok(read?)
 }
 
 /// The declared tables without rows.

@@ -4,7 +4,7 @@ ghost use Rattle.std.specs.List.{AllZip};
 ghost use Rattle.std.specs.Prelude.{◌≡◌, ◌≤◌, false, All, IfErr, IfOk, IfSome, None, Result, Some, bytes_eq, find, map, string_bytes};
 ghost use Rattle.lk_ast.specs.Tables.{table_defs as declared_tables};
 ghost use Rattle.lk_bag.specs.Blocks.{AreBlocksApart};
-ghost use Rattle.lk_cli.specs.Answers.{Answers, AnswersSession, Ends, HasNoAccepted, HasNoRows, HasNoStore, IsAccepted, IsProgram, IsShown, TellsReads, answer_of};
+ghost use Rattle.lk_cli.specs.Answers.{Answers, AnswersSession, Ends, HasNoAccepted, HasNoRows, HasNoStore, IsAccepted, IsProgram, IsShown, IsTold, TellsReads, answer_of};
 ghost use Rattle.lk_cli.specs.Loading.{AreLoaded, IsOfTable};
 ghost use Rattle.lk_cli.specs.Seen.{StoresSeen, seen, stores_seen};
 ghost use Rattle.lk_words.specs.Words.{form_of, store_of};
@@ -18,6 +18,7 @@ ghost use Rattle.lk_sound.specs.Law.{AreBoundAndApart};
 use crate::answer::{Answer, Checked, Refusal, answer_status, print_answer};
 use crate::compile::{check_program, read_program};
 use crate::load::rows_to_load;
+use crate::refused::{Refused, Sources, for_message};
 use crate::session::{Rows, Tried, run_in_box};
 use lk_ast::{Program, Text};
 use lk_bag::table_defs;
@@ -26,11 +27,12 @@ use lk_store::pick;
 use lk_words::{CheckCommand, Command, SourceCommand, SqlCommand, WordsError, read_words};
 use std::alloc::Global;
 
-/// The status of a run, and the store that was picked for it.
+/// The status of a run, the store that was picked for it, and why it was refused, if it was.
 #[derive(Drop)]
 pub struct Ran {
     pub status: u8,
     pub store: Option<Box<dyn Store + Drop>>,
+    pub refused: Option<Refused>,
 }
 
 /// An answer that isn't printed yet, and the store that was picked for it.
@@ -41,7 +43,8 @@ struct Answered {
 }
 
 /// All that the program does: reads the words, does what they ask for over the files and a store, prints to the sink and
-/// gives the status, with the store if one was picked. There is an answer that has its cause, and the run ends with it.
+/// gives the status, with the store if one was picked. There is an answer that has its cause, and the run ends with it. Where
+/// it is a refusal, it is handed back with the files that were read, for a message.
 pub fn links_main<F: Files, O: Sink>(
     alloc: Global,
     words: &[String],
@@ -58,13 +61,19 @@ pub fn links_main<F: Files, O: Sink>(
         (stores_seen (λ store. name store) (λ store. tables store) (λ store. (⟦<dyn Store as Store>⟧ store.vtable).faults store.value) stores.items result.store (store_of (form_of (map string_bytes words.now))))
         (form_of (map string_bytes words.now)) answer
         × TellsReads (F.faults files.old) (F.faults files.new) answer
-        × Ends answer (O.taken out.old) (O.taken out.new) (O.faults out.old) (O.faults out.new) result.status }
+        × Ends answer (O.taken out.old) (O.taken out.new) (O.faults out.old) (O.faults out.new) result.status
+        × IsTold answer result.refused }
     ensures idle { IfSome result.store (λ store. is_open store ≡ false) }
     ensures named { IfSome result.store (λ store. name store ≡ store_of (form_of (map string_bytes words.now))) }
 {
-    let Answered { answer, store } = answer_words(alloc, words, files, stores);
+    let mut sources = Sources::none();
+    let Answered { answer, store } = answer_words(alloc, words, files, stores, &mut sources);
     let status = deliver(alloc, &answer, out);
-    Ran { status, store }
+    Ran {
+        status,
+        store,
+        refused: for_message(answer, sources),
+    }
 }
 
 /// Prints an answer and gives its status, or that of a sink that failed, or of want of memory.
@@ -89,6 +98,7 @@ fn answer_words<F: Files>(
     words: &[String],
     files: &mut F,
     stores: Vec<Box<dyn Store + Drop>>,
+    sources: &mut Sources,
 ) -> Answered
     requires idle { All (λ store. is_open store ≡ false) stores.items }
     ensures contents { F.contents files.new ≡ F.contents files.old }
@@ -111,14 +121,14 @@ fn answer_words<F: Files>(
             store: None,
         },
         Ok(Command::Check(command)) => Answered {
-            answer: answer_check(alloc, &command, files),
+            answer: answer_check(alloc, &command, files, sources),
             store: None,
         },
         Ok(Command::Sql(command)) => Answered {
-            answer: answer_sql(alloc, &command, files),
+            answer: answer_sql(alloc, &command, files, sources),
             store: None,
         },
-        Ok(Command::Source(command)) => answer_source(alloc, &command, files, stores),
+        Ok(Command::Source(command)) => answer_source(alloc, &command, files, stores, sources),
     }
 }
 
@@ -127,6 +137,7 @@ fn answer_check<F: Files>(
     alloc: Global,
     command: &CheckCommand,
     files: &mut F,
+    sources: &mut Sources,
 ) -> Result<Answer, Refusal>
     ensures contents { F.contents files.new ≡ F.contents files.old }
     ensures later { F.faults files.old ≤ F.faults files.new }
@@ -134,7 +145,7 @@ fn answer_check<F: Files>(
     ensures shown { IsShown result }
     ensures answers { (stores : StoresSeen) → stores.back ≡ None → Answers (seen F.contents F.failed F.faults files.old files.new) stores (Some (Check command.now)) result }
 {
-    Ok(Answer::Schemes(accepted_program(alloc, command.program.as_str(), files)?))
+    Ok(Answer::Schemes(accepted_program(alloc, command.program.as_str(), files, sources)?))
 }
 
 /// The answer to `sql`, which asks for no store.
@@ -142,6 +153,7 @@ fn answer_sql<F: Files>(
     alloc: Global,
     command: &SqlCommand,
     files: &mut F,
+    sources: &mut Sources,
 ) -> Result<Answer, Refusal>
     ensures contents { F.contents files.new ≡ F.contents files.old }
     ensures later { F.faults files.old ≤ F.faults files.new }
@@ -149,7 +161,7 @@ fn answer_sql<F: Files>(
     ensures shown { IsShown result }
     ensures answers { (stores : StoresSeen) → stores.back ≡ None → Answers (seen F.contents F.failed F.faults files.old files.new) stores (Some (Sql command.now)) result }
 {
-    Ok(Answer::Queries(accepted_program(alloc, command.program.as_str(), files)?))
+    Ok(Answer::Queries(accepted_program(alloc, command.program.as_str(), files, sources)?))
 }
 
 /// The answer to `source`. Its program is read and accepted before a store is picked.
@@ -158,6 +170,7 @@ fn answer_source<F: Files>(
     command: &SourceCommand,
     files: &mut F,
     stores: Vec<Box<dyn Store + Drop>>,
+    sources: &mut Sources,
 ) -> Answered
     requires idle { All (λ store. is_open store ≡ false) stores.items }
     ensures contents { F.contents files.new ≡ F.contents files.old }
@@ -170,8 +183,15 @@ fn answer_source<F: Files>(
     ensures idle { IfSome result.store (λ store. is_open store ≡ false) }
     ensures named { IfSome result.store (λ store. name store ≡ command.now.store) }
 {
-    match accepted_program(alloc, command.program.as_str(), files) {
-        Ok(checked) => answer_session(alloc, checked.program.program(), command, files, stores),
+    match accepted_program(alloc, command.program.as_str(), files, sources) {
+        Ok(checked) => answer_session(
+            alloc,
+            checked.program.program(),
+            command,
+            files,
+            stores,
+            sources,
+        ),
         Err(refusal) => Answered {
             answer: Err(refusal),
             store: None,
@@ -186,6 +206,7 @@ fn answer_session<F: Files>(
     command: &SourceCommand,
     files: &mut F,
     stores: Vec<Box<dyn Store + Drop>>,
+    sources: &mut Sources,
 ) -> Answered
     requires apart { AreBoundAndApart program.now }
     requires shaped { IsShaped program.now }
@@ -206,7 +227,7 @@ fn answer_session<F: Files>(
             store: None,
         };
     };
-    let rows = match rows_of_session(alloc, program, command, files) {
+    let rows = match rows_of_session(alloc, program, command, files, sources) {
         Ok(rows) => rows,
         Err(refusal) => {
             return Answered {
@@ -242,7 +263,12 @@ fn tell(tried: Tried) -> Answered
 }
 
 /// The program of the file of that name, accepted with its schemes, its types and its queries as SQL.
-fn accepted_program<F: Files>(alloc: Global, file: &str, files: &mut F) -> Result<Checked, Refusal>
+fn accepted_program<F: Files>(
+    alloc: Global,
+    file: &str,
+    files: &mut F,
+    sources: &mut Sources,
+) -> Result<Checked, Refusal>
     ensures contents { F.contents files.new ≡ F.contents files.old }
     ensures later { F.faults files.old ≤ F.faults files.new }
     ensures reads { TellsReads (F.faults files.old) (F.faults files.new) result }
@@ -252,7 +278,7 @@ fn accepted_program<F: Files>(alloc: Global, file: &str, files: &mut F) -> Resul
     ensures blocks { IfOk result (λ checked. AreBlocksApart checked.program) }
     ensures refused { IfErr result (HasNoAccepted (seen F.contents F.failed F.faults files.old files.new) file.now) }
 {
-    let program = read_program(alloc, file, files)?;
+    let program = read_program(alloc, file, files, sources)?;
     Ok(check_program(alloc, program)?)
 }
 
@@ -282,6 +308,7 @@ fn rows_of_session<F: Files>(
     program: &Program,
     command: &SourceCommand,
     files: &mut F,
+    sources: &mut Sources,
 ) -> Result<Rows, Refusal>
     ensures contents { F.contents files.new ≡ F.contents files.old }
     ensures later { F.faults files.old ≤ F.faults files.new }
@@ -292,6 +319,12 @@ fn rows_of_session<F: Files>(
     ensures refused { IfErr result (HasNoRows (seen F.contents F.failed F.faults files.old files.new) command.now.tables (declared_tables program.now)) }
 {
     let defs = table_defs(alloc, program)?;
-    let loaded = rows_to_load(alloc, command.tables.as_ref(), defs.as_slice(), files)?;
+    let loaded = rows_to_load(
+        alloc,
+        command.tables.as_ref(),
+        defs.as_slice(),
+        files,
+        sources,
+    )?;
     Ok(Rows { defs, loaded })
 }

@@ -4,11 +4,12 @@ use Rattle.std.specs.Prelude.{Option, Some, None, Result, option_map}
 use Rattle.std.specs.List.{AllByRecursion}
 use Rattle.std.proofs.lemmas.List.Elements.{recursion_from_All}
 use Rattle.lk_ast.specs.Tables.{Tables}
-use Rattle.lk_cli.specs.Answers.{Answers, Ends, RefusedBy, TellsReads}
+use Rattle.lk_cli.specs.Answers.{Answers, Ends, IsTold, RefusedBy, TellsReads}
 use Rattle.lk_cli.specs.Seen.{FilesSeen, StoreSeen, store_seen, stores_seen}
 use Rattle.lk_cli.specs.declared.answer.Answer.{Answer}
 use Rattle.lk_cli.specs.declared.answer.Refusal.{Refusal}
 use Rattle.lk_cli.specs.declared.answer.Refusal.TheVariants.{NoMemory}
+use Rattle.lk_cli.specs.declared.refused.Refused.{Refused}
 use Rattle.lk_process.specs.Statuses.{EndsFor, memory_for}
 use Rattle.lk_words.specs.Words.{form_of, store_of}
 use Rattle.lk_words.specs.declared.command.Command.{Command}
@@ -43,12 +44,12 @@ module _ {S : Type 0} (name : S → List ℕ) (tables : S → Option Tables) (fa
 
 module _ {S : Type 0} (name : S → List ℕ) (tables : S → Option Tables) (faults : S → ℕ) where
   -- an answer over one store in memory without tables is one for the process
-  pub ends_for : (stores : List S) (returned : Option S) (files : FilesSeen) (words : List (List ℕ)) (before after : Option (List ℕ)) (faults_before faults_after status : ℕ)
+  pub ends_for : (stores : List S) (returned : Option S) (files : FilesSeen) (words : List (List ℕ)) (before after : Option (List ℕ)) (faults_before faults_after status : ℕ) (message : Option Refused)
       → length stores ≡ 1 → All (λ s. name s ≡ codes "memory") stores → All (λ s. tables s ≡ Some (λ x. [])) stores → All (λ s. faults s ≡ 0) stores
       → ((answer : Result Answer Refusal) × Answers files (stores_seen name tables faults stores returned (store_of (form_of words))) (form_of words) answer
-      × TellsReads files.before files.after answer × Ends answer before after faults_before faults_after status)
-      → EndsFor files before after faults_before faults_after words status
-  ends_for stores returned files words before after faults_before faults_after status one named told none ended =
+      × TellsReads files.before files.after answer × Ends answer before after faults_before faults_after status × IsTold answer message)
+      → EndsFor files before after faults_before faults_after words status message
+  ends_for stores returned files words before after faults_before faults_after status message one named told none ended =
       let back : Option StoreSeen = option_map (store_seen tables faults) returned in
       let given = given_is name tables faults (store_of (form_of words)) stores one named told none in
-      (back, ended.0, subst (λ first. Answers files (record { given = first; back = back }) (form_of words) ended.0) given ended.1, ended.2, ended.3)
+      (back, ended.0, subst (λ first. Answers files (record { given = first; back = back }) (form_of words) ended.0) given ended.1, ended.2, ended.3, ended.4)
