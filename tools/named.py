@@ -1,19 +1,19 @@
 #!/usr/bin/env python3
-"""Says what docs/ARCHITECTURE.md names that isn't there, in its table "From the language to the code".
+"""Says what docs/ARCHITECTURE.md names that isn't there, in its tables.
 
     tools/named.py        at the top of the repository
 
-It looks whether each crate, file, definition, function, clause and test of the table is in the tree, as it is spelt. No gate
-runs this.
+It looks whether each file of "The crates", each definition of "Find a rule by construct", and each crate, file, definition,
+function, clause and test of "From the language to the code" is in the tree, as it is spelt. No gate runs this.
 """
 
 import os
 import re
 import sys
 
-HEADING = "## From the language to the code\n"
 FUNCTION = r"\s*(?:pub(?:\(crate\))? )?(?:const )?fn "
-DEFINITION = r"^\s*(?:abbrev pub|unfoldable pub|opaque pub|pub (?:record|data)|pub) "
+# a definition by its name, or a constructor
+DEFINITION = r"^\s*(?:(?:abbrev pub|unfoldable pub|opaque pub|abbrev|pub (?:record|data)|pub) {0}(?=[ :\n])|{0} :)"
 
 
 def text_of(path):
@@ -49,7 +49,7 @@ def missing_definitions(cell):
                 yield path
         else:
             for name in re.findall(r"`(\w+)`", match.group(2)):
-                if not os.path.exists(path) or not re.search(DEFINITION + name + r"(?=[ :\n])", text_of(path), re.M):
+                if not os.path.exists(path) or not re.search(DEFINITION.format(name), text_of(path), re.M):
                     yield f"{path} {name}"
 
 
@@ -88,19 +88,34 @@ def missing_tests(cell):
             yield path
 
 
+def missing_files(crate, cell):
+    """What isn't there of the files of a crate's specs, such as: `Bag` what a query gives; `formers/` how lists are stored."""
+    for name in re.findall(r"`(\w+)/?`", cell):
+        if not os.path.exists(f"crates/{crate}/specs/{name}.antt") and not os.path.isdir(f"crates/{crate}/specs/{name}"):
+            yield f"crates/{crate}/specs/{name}"
+
+
+def rows_of(heading, cells):
+    """The rows of the table under a heading, which have so many cells, without its head."""
+    section = text_of("docs/ARCHITECTURE.md").split(f"\n## {heading}\n")[1].split("\n## ")[0]
+    lines = [line for line in section.split("\n") if line.startswith("| ")][1:]
+    rows = [[cell.strip() for cell in re.split(r"(?<!\\)\|", line.strip())[1:-1]] for line in lines]
+    if any(len(row) != cells for row in rows):
+        sys.exit(f"not {cells} cells: {[row for row in rows if len(row) != cells]}")
+    return rows
+
+
 def main():
-    section = text_of("docs/ARCHITECTURE.md").split(HEADING)[1].split("\n## ")[0]
-    rows = [line.strip().strip("|").split(" | ") for line in section.split("\n") if line.startswith("| ") and not line.startswith("| Rule")]
-    faults = [f"not five cells: {row}" for row in rows if len(row) != 5]
-    for row in rows:
-        if len(row) == 5:
-            _, definition, functions, clause_names, tests = (cell.strip() for cell in row)
-            faults += [] if definition.startswith("none") else missing_definitions(definition)
-            faults += missing_functions(functions, clause_names)
-            faults += missing_tests(tests)
+    crates, constructs, rules = rows_of("The crates", 4), rows_of("Find a rule by construct", 6), rows_of("From the language to the code", 5)
+    faults = [it for crate, _, _, files in crates if crate.startswith("lk_") for it in missing_files(crate, files)]
+    faults += [it for row in constructs for cell in row[1:] for it in missing_definitions(cell)]
+    for _, definition, functions, clause_names, tests in rules:
+        faults += [] if definition.startswith("none") else missing_definitions(definition)
+        faults += missing_functions(functions, clause_names)
+        faults += missing_tests(tests)
     for fault in faults:
         print(fault)
-    print(f"{len(rows)} rows, {len(faults)} names that aren't there")
+    print(f"{len(crates)} crates, {len(constructs)} constructs, {len(rules)} rules, {len(faults)} names that aren't there")
     sys.exit(bool(faults))
 
 

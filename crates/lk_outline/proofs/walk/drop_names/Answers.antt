@@ -1,6 +1,0 @@
-use Rattle.std.proofs.Common.{ap, ◌∙◌, drop}
-use Rattle.lk_outline.proofs.Put.{drop_one}
-use Rattle.lk_outline.proofs.walk.drop_names.Goals as goal
-
-pub loop-i-preserved : goal.loop-i-preserved
-loop-i-preserved c = c.pop.ensures ∙ ap (drop 1) c.loop-i.invariant ∙ drop_one c.loop-i._i c.args.scope.now
