@@ -46,7 +46,7 @@ pub fn copy_base(alloc: Global, base: &Base) -> Result<Base, NoMemory>
     match base {
         Base::Int(number) => Ok(Base::Int(*number)),
         Base::Bool(truth) => Ok(Base::Bool(*truth)),
-        Base::Text(text) => Ok(Base::Text(text.copy(alloc)?)),
+        Base::Text(text) => text.copy(alloc).map(Base::Text),
     }
 }
 
@@ -56,15 +56,15 @@ pub fn copy_value(alloc: Global, value: &Value) -> Result<Value, NoMemory>
     ensures { IfOk result (λ copy. copy ≡ value.now) }
 {
     match value {
-        Value::Base(base) => Ok(Value::Base(copy_base(alloc, base)?)),
-        Value::List(items) => Ok(Value::List(copy_values(alloc, items.as_slice())?)),
-        Value::Fields(fields) => Ok(Value::Fields(copy_fields(alloc, fields.as_slice())?)),
+        Value::Base(base) => copy_base(alloc, base).map(Value::Base),
+        Value::List(items) => copy_values(alloc, items.as_slice()).map(Value::List),
+        Value::Fields(fields) => copy_fields(alloc, fields.as_slice()).map(Value::Fields),
         Value::Tag(tag, inner) => {
             let tag = tag.copy(alloc)?;
             let inner = copy_value(alloc, inner.get())?;
             Ok(Value::Tag(tag, Boxed::new(alloc, inner)?))
         }
-        Value::Fun(fun) => Ok(Value::Fun(copy_fun(alloc, fun)?)),
+        Value::Fun(fun) => copy_fun(alloc, fun).map(Value::Fun),
     }
 }
 

@@ -26,8 +26,8 @@ fn copy_decl(alloc: Global, decl: &Decl) -> Result<Decl, NoMemory>
     ensures { IfOk result (λ copy. copy ≡ decl.now) }
 {
     match decl {
-        Decl::Table(table) => Ok(Decl::Table(copy_table(alloc, table)?)),
-        Decl::Fun(function) => Ok(Decl::Fun(copy_function(alloc, function)?)),
+        Decl::Table(table) => copy_table(alloc, table).map(Decl::Table),
+        Decl::Fun(function) => copy_function(alloc, function).map(Decl::Fun),
         Decl::Mutual(functions) => {
             let functions = copy_functions(alloc, functions.as_slice())?;
             Ok(Decl::Mutual(functions))
@@ -100,8 +100,8 @@ fn copy_type(alloc: Global, ty: &SigType) -> Result<SigType, NoMemory>
             let item = copy_type(alloc, item.get())?;
             Ok(SigType::List(Boxed::new(alloc, item)?))
         }
-        SigType::Fields(fields) => Ok(SigType::Fields(copy_fields(alloc, fields.as_slice())?)),
-        SigType::Tags(tags) => Ok(SigType::Tags(copy_fields(alloc, tags.as_slice())?)),
+        SigType::Fields(fields) => copy_fields(alloc, fields.as_slice()).map(SigType::Fields),
+        SigType::Tags(tags) => copy_fields(alloc, tags.as_slice()).map(SigType::Tags),
         SigType::Fun(params, made) => {
             let params = copy_types(alloc, params.as_slice())?;
             let made = copy_type(alloc, made.get())?;

@@ -6,12 +6,17 @@ use std::marker::Model;
 use std::rc::Rc;
 
 /// A counted reference that contracts see as the value behind it, for a value with several owners.
-#[derive(Drop)]
-pub struct Shared<T: Drop> {
+pub struct Shared<T> {
     inner: Rc<T>,
 }
 
-impl<T: Drop> Model for Shared<T> {
+impl<T: Drop> Drop for Shared<T> {
+    fn drop(self) {
+        let Self { inner: _ } = self;
+    }
+}
+
+impl<T> Model for Shared<T> {
     ghost Value = { T };
 
     ghost coded = { T.code };

@@ -7,6 +7,7 @@ use crate::expression::{Case, ChangeExpr, Expr, LambdaExpr, LastCase, Node, Part
 use crate::list::List;
 use crate::memory::NoMemory;
 use crate::operators::{with_operand, with_operands};
+use crate::place::Word;
 use crate::statements::{Statement, first_statement, make_chain};
 use crate::words::{copy_keys, copy_some, copy_word, copy_words};
 use std::alloc::Global;
@@ -30,7 +31,7 @@ pub fn copy_expr(alloc: Global, e: &Expr) -> Result<Expr, NoMemory>
     let span = rest.span;
     let node = copy_node(alloc, rest.node.get())?;
     let node = Boxed::new(alloc, node)?;
-    Ok(make_chain(alloc, statements, Expr { span, node })?)
+    make_chain(alloc, statements, Expr { span, node })
 }
 
 #[cycle(tree_copies)]
@@ -39,23 +40,22 @@ fn copy_node(alloc: Global, node: &Node) -> Result<Node, NoMemory>
 {
     match node {
         Node::Int(number) => Ok(Node::Int(*number)),
-        Node::Text(text) => Ok(Node::Text(text.copy(alloc)?)),
+        Node::Text(text) => text.copy(alloc).map(Node::Text),
         Node::Bool(truth) => Ok(Node::Bool(*truth)),
-        Node::Name(name) => Ok(Node::Name(name.copy(alloc)?)),
-        Node::Function(name) => Ok(Node::Function(name.copy(alloc)?)),
-        Node::Lambda(lambda) => Ok(Node::Lambda(copy_lambda(alloc, lambda)?)),
+        Node::Name(name) => name.copy(alloc).map(Node::Name),
+        Node::Function(name) => name.copy(alloc).map(Node::Function),
+        Node::Lambda(lambda) => copy_lambda(alloc, lambda).map(Node::Lambda),
         Node::Call(name, args) => {
-            let name = copy_word(alloc, name)?;
-            Ok(Node::Call(name, copy_exprs(alloc, args.as_slice())?))
+            let (name, args) = copy_call(alloc, name, args.as_slice())?;
+            Ok(Node::Call(name, args))
         }
         Node::Apply(f, args) => {
-            let f = copy_expr(alloc, f)?;
-            Ok(Node::Apply(f, copy_exprs(alloc, args.as_slice())?))
+            let (f, args) = copy_application(alloc, f, args.as_slice())?;
+            Ok(Node::Apply(f, args))
         }
         Node::Var(name, bound, rest) => {
-            let name = copy_word(alloc, name)?;
-            let bound = copy_expr(alloc, bound)?;
-            Ok(Node::Var(name, bound, copy_expr(alloc, rest)?))
+            let (name, bound, rest) = copy_binding(alloc, name, bound, rest)?;
+            Ok(Node::Var(name, bound, rest))
         }
         Node::Seq(a, b)
         | Node::And(a, b)
@@ -75,8 +75,7 @@ fn copy_node(alloc: Global, node: &Node) -> Result<Node, NoMemory>
         | Node::Gt(a, b)
         | Node::Ge(a, b)
         | Node::Where(a, b) => {
-            let a = copy_expr(alloc, a)?;
-            let b = copy_expr(alloc, b)?;
+            let (a, b) = copy_both(alloc, a, b)?;
             Ok(with_operands(node, a, b))
         }
         Node::Neg(e)
@@ -87,51 +86,128 @@ fn copy_node(alloc: Global, node: &Node) -> Result<Node, NoMemory>
         | Node::IntToString(e)
         | Node::Print(e) => Ok(with_operand(node, copy_expr(alloc, e)?)),
         Node::If(c, d, e) => {
-            let c = copy_expr(alloc, c)?;
-            let d = copy_expr(alloc, d)?;
-            Ok(Node::If(c, d, copy_expr(alloc, e)?))
+            let (c, d, e) = copy_branches(alloc, c, d, e)?;
+            Ok(Node::If(c, d, e))
         }
-        Node::Record(parts) => Ok(Node::Record(copy_parts(alloc, parts.as_slice())?)),
+        Node::Record(parts) => copy_parts(alloc, parts.as_slice()).map(Node::Record),
         Node::Extend(parts, e) => {
             let parts = copy_parts(alloc, parts.as_slice())?;
             Ok(Node::Extend(parts, copy_expr(alloc, e)?))
         }
-        Node::List(items) => Ok(Node::List(copy_exprs(alloc, items.as_slice())?)),
+        Node::List(items) => copy_exprs(alloc, items.as_slice()).map(Node::List),
         Node::Project(e, label) => {
-            let e = copy_expr(alloc, e)?;
-            Ok(Node::Project(e, copy_word(alloc, label)?))
+            let (label, e) = copy_named(alloc, label, e)?;
+            Ok(Node::Project(e, label))
         }
         Node::Tag(tag, e) => {
-            let tag = copy_word(alloc, tag)?;
-            Ok(Node::Tag(tag, copy_expr(alloc, e)?))
+            let (tag, e) = copy_named(alloc, tag, e)?;
+            Ok(Node::Tag(tag, e))
         }
         Node::Switch(e, cases, last) => {
-            let e = copy_expr(alloc, e)?;
-            let cases = copy_cases(alloc, cases.as_slice())?;
-            Ok(Node::Switch(e, cases, copy_last(alloc, last)?))
+            let (e, cases, last) = copy_switch(alloc, last, e, cases.as_slice())?;
+            Ok(Node::Switch(e, cases, last))
         }
         Node::ForList(name, e, body) => {
-            let name = copy_word(alloc, name)?;
-            let e = copy_expr(alloc, e)?;
-            Ok(Node::ForList(name, e, copy_expr(alloc, body)?))
+            let (name, e, body) = copy_binding(alloc, name, e, body)?;
+            Ok(Node::ForList(name, e, body))
         }
         Node::ForTable(name, rows, body) => {
-            let name = copy_word(alloc, name)?;
-            let rows = copy_expr(alloc, rows)?;
-            Ok(Node::ForTable(name, rows, copy_expr(alloc, body)?))
+            let (name, rows, body) = copy_binding(alloc, name, rows, body)?;
+            Ok(Node::ForTable(name, rows, body))
         }
-        Node::Table(table) => Ok(Node::Table(copy_word(alloc, table)?)),
+        Node::Table(table) => copy_word(alloc, table).map(Node::Table),
         Node::Query(keys, e) => {
             let keys = copy_keys(alloc, keys.as_slice())?;
             Ok(Node::Query(keys, copy_expr(alloc, e)?))
         }
         Node::Insert(table, e) => {
-            let table = copy_word(alloc, table)?;
-            Ok(Node::Insert(table, copy_expr(alloc, e)?))
+            let (table, e) = copy_named(alloc, table, e)?;
+            Ok(Node::Insert(table, e))
         }
-        Node::Update(change) => Ok(Node::Update(copy_change(alloc, change)?)),
-        Node::Delete(change) => Ok(Node::Delete(copy_change(alloc, change)?)),
+        Node::Update(change) => copy_change(alloc, change).map(Node::Update),
+        Node::Delete(change) => copy_change(alloc, change).map(Node::Delete),
     }
+}
+
+/// Two expressions once more.
+#[cycle(tree_copies)]
+fn copy_both(alloc: Global, a: &Expr, b: &Expr) -> Result<(Expr, Expr), NoMemory>
+    ensures { IfOk result (λ copies. copies ≡ (a.now, b.now)) }
+{
+    let a = copy_expr(alloc, a)?;
+    Ok((a, copy_expr(alloc, b)?))
+}
+
+/// A condition and its two branches once more.
+#[cycle(tree_copies)]
+fn copy_branches(
+    alloc: Global,
+    c: &Expr,
+    d: &Expr,
+    e: &Expr,
+) -> Result<(Expr, Expr, Expr), NoMemory>
+    ensures { IfOk result (λ copies. copies ≡ (c.now, d.now, e.now)) }
+{
+    let c = copy_expr(alloc, c)?;
+    let d = copy_expr(alloc, d)?;
+    Ok((c, d, copy_expr(alloc, e)?))
+}
+
+/// The name and the arguments of a call once more.
+#[cycle(tree_copies)]
+fn copy_call(alloc: Global, name: &Word, args: &[Expr]) -> Result<(Word, List<Expr>), NoMemory>
+    ensures { IfOk result (λ copies. copies ≡ (name.now, args.now)) }
+{
+    let name = copy_word(alloc, name)?;
+    Ok((name, copy_exprs(alloc, args)?))
+}
+
+/// What is applied and the arguments once more.
+#[cycle(tree_copies)]
+fn copy_application(alloc: Global, f: &Expr, args: &[Expr]) -> Result<(Expr, List<Expr>), NoMemory>
+    ensures { IfOk result (λ copies. copies ≡ (f.now, args.now)) }
+{
+    let f = copy_expr(alloc, f)?;
+    Ok((f, copy_exprs(alloc, args)?))
+}
+
+/// A word and the expression that stands with it, once more.
+#[cycle(tree_copies)]
+fn copy_named(alloc: Global, name: &Word, e: &Expr) -> Result<(Word, Expr), NoMemory>
+    ensures { IfOk result (λ copies. copies ≡ (name.now, e.now)) }
+{
+    let name = copy_word(alloc, name)?;
+    Ok((name, copy_expr(alloc, e)?))
+}
+
+/// A name, what it is bound to and where it holds, once more.
+#[cycle(tree_copies)]
+fn copy_binding(
+    alloc: Global,
+    name: &Word,
+    bound: &Expr,
+    rest: &Expr,
+) -> Result<(Word, Expr, Expr), NoMemory>
+    ensures { IfOk result (λ copies. copies ≡ (name.now, bound.now, rest.now)) }
+{
+    let name = copy_word(alloc, name)?;
+    let bound = copy_expr(alloc, bound)?;
+    Ok((name, bound, copy_expr(alloc, rest)?))
+}
+
+/// The parts of a switch once more.
+#[cycle(tree_copies)]
+fn copy_switch(
+    alloc: Global,
+    last: &Option<LastCase>,
+    e: &Expr,
+    cases: &[Case],
+) -> Result<(Expr, List<Case>, Option<LastCase>), NoMemory>
+    ensures { IfOk result (λ copies. copies ≡ (e.now, cases.now, last.now)) }
+{
+    let e = copy_expr(alloc, e)?;
+    let cases = copy_cases(alloc, cases)?;
+    Ok((e, cases, copy_last(alloc, last)?))
 }
 
 #[cycle(tree_copies)]

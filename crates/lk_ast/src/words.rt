@@ -24,7 +24,7 @@ pub fn copy_some(alloc: Global, word: Option<&Word>) -> Result<Option<Word>, NoM
 {
     match word {
         None => Ok(None),
-        Some(word) => Ok(Some(copy_word(alloc, word)?)),
+        Some(word) => copy_word(alloc, word).map(Some),
     }
 }
 

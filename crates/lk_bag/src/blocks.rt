@@ -104,7 +104,7 @@ fn add<'p>(found: &mut List<&'p Expr>, e: &'p Expr) -> Result<(), NoMemory>
     ensures { OnOk result (shown found.new ≡ shown found.old ++ itself (acts_on_tables (out-Node e.now.node)) e.now) }
 {
     if acts_on_tables(e.node.get()) {
-        Ok(found.push(e)?)
+        found.push(e)
     } else {
         Ok(())
     }
@@ -136,11 +136,11 @@ fn node<'p>(found: &mut List<&'p Expr>, node: &'p Node) -> Result<(), NoMemory>
         | Node::Name(_)
         | Node::Function(_)
         | Node::Table(_) => Ok(()),
-        Node::Lambda(e) => Ok(lambda(found, e)?),
-        Node::Call(_, list) | Node::List(list) => Ok(exprs(found, list.as_slice())?),
+        Node::Lambda(e) => lambda(found, e),
+        Node::Call(_, list) | Node::List(list) => exprs(found, list.as_slice()),
         Node::Apply(f, args) => {
             expr(found, f)?;
-            Ok(exprs(found, args.as_slice())?)
+            exprs(found, args.as_slice())
         }
         Node::Seq(a, b)
         | Node::And(a, b)
@@ -164,7 +164,7 @@ fn node<'p>(found: &mut List<&'p Expr>, node: &'p Node) -> Result<(), NoMemory>
         | Node::ForList(_, a, b)
         | Node::ForTable(_, a, b) => {
             expr(found, a)?;
-            Ok(expr(found, b)?)
+            expr(found, b)
         }
         Node::Neg(e)
         | Node::Not(e)
@@ -176,23 +176,23 @@ fn node<'p>(found: &mut List<&'p Expr>, node: &'p Node) -> Result<(), NoMemory>
         | Node::Project(e, _)
         | Node::Tag(_, e)
         | Node::Query(_, e)
-        | Node::Insert(_, e) => Ok(expr(found, e)?),
+        | Node::Insert(_, e) => expr(found, e),
         Node::If(c, d, e) => {
             expr(found, c)?;
             expr(found, d)?;
-            Ok(expr(found, e)?)
+            expr(found, e)
         }
-        Node::Record(fields) => Ok(parts(found, fields.as_slice())?),
+        Node::Record(fields) => parts(found, fields.as_slice()),
         Node::Extend(fields, e) => {
             parts(found, fields.as_slice())?;
-            Ok(expr(found, e)?)
+            expr(found, e)
         }
         Node::Switch(e, list, last) => {
             expr(found, e)?;
             cases(found, list.as_slice())?;
-            Ok(last_case(found, last)?)
+            last_case(found, last)
         }
-        Node::Update(rows) | Node::Delete(rows) => Ok(change(found, rows)?),
+        Node::Update(rows) | Node::Delete(rows) => change(found, rows),
     }
 }
 
@@ -223,7 +223,7 @@ fn parts<'p>(found: &mut List<&'p Expr>, list: &'p [PartExpr]) -> Result<(), NoM
 fn lambda<'p>(found: &mut List<&'p Expr>, lambda: &'p LambdaExpr) -> Result<(), NoMemory>
     ensures { OnOk result (shown found.new ≡ shown found.old ++ in_lambda lambda.now) }
 {
-    Ok(expr(found, &lambda.body)?)
+    expr(found, &lambda.body)
 }
 
 /// The blocks in the cases of a switch but for the last one.
@@ -244,7 +244,7 @@ fn last_case<'p>(found: &mut List<&'p Expr>, last: &'p Option<LastCase>) -> Resu
 {
     match last {
         None => Ok(()),
-        Some(last) => Ok(expr(found, &last.body)?),
+        Some(last) => expr(found, &last.body),
     }
 }
 
@@ -254,5 +254,5 @@ fn change<'p>(found: &mut List<&'p Expr>, rows: &'p ChangeExpr) -> Result<(), No
     ensures { OnOk result (shown found.new ≡ shown found.old ++ in_change rows.now) }
 {
     expr(found, &rows.cond)?;
-    Ok(parts(found, rows.sets.as_slice())?)
+    parts(found, rows.sets.as_slice())
 }

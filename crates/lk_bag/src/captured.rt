@@ -14,9 +14,9 @@ fn captured_in<'p>(alloc: Global, block: &'p Expr) -> Result<List<&'p str>, NoMe
     ensures { IfOk result (λ names. texts names ≡ captured_in block.now) }
 {
     match block.node.get() {
-        Node::Query(_, e) => Ok(captured_query(alloc, e)?),
-        Node::Update(change) => Ok(captured_change(alloc, change)?),
-        Node::Delete(change) => Ok(captured_change(alloc, change)?),
+        Node::Query(_, e) => captured_query(alloc, e),
+        Node::Update(change) => captured_change(alloc, change),
+        Node::Delete(change) => captured_change(alloc, change),
         _ => Ok(List::new(alloc)),
     }
 }
@@ -28,5 +28,5 @@ pub fn names_in<'p>(alloc: Global, block: &'p Expr, args: &[Value]) -> Result<Lo
     let names = captured_in(alloc, block)?;
     let args = copy_values(alloc, args)?;
     let none = Locals::new(alloc)?;
-    Ok(none.bind_each(alloc, names.as_slice(), args)?)
+    none.bind_each(alloc, names.as_slice(), args)
 }

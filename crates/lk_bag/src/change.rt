@@ -31,7 +31,7 @@ pub fn updated_rows<'p>(
     ensures { IfOk result (λ after. after ≡ map (updated index.now (names_in block.now args.now) change.now) rows) }
 {
     let names = names_in(alloc, block, args)?;
-    Ok(update_all(alloc, index, change, &names, rows)?)
+    update_all(alloc, index, change, &names, rows)
 }
 
 /// The rows of a table that a deletion leaves. `NoMemory` as for `query_value`.
@@ -46,7 +46,7 @@ pub fn kept_rows<'p>(
     ensures { IfOk result (λ after. after ≡ filter (λ row. not (is_met index.now (names_in block.now args.now) change.now row)) rows) }
 {
     let names = names_in(alloc, block, args)?;
-    Ok(keep_others(alloc, index, change, &names, rows)?)
+    keep_others(alloc, index, change, &names, rows)
 }
 
 /// The rows after an update, under the names that it captured.

@@ -91,7 +91,7 @@ fn add_tables(alloc: Global, defs: &mut List<TableDef>, decl: &Decl) -> Result<(
     ensures { OnOk result (defs.new ≡ defs.old ++ map def_of (tables_in decl.now)) }
 {
     match decl {
-        Decl::Table(table) => Ok(defs.push(table_def(alloc, table)?)?),
+        Decl::Table(table) => defs.push(table_def(alloc, table)?),
         Decl::Fun(_) => Ok(()),
         Decl::Mutual(_) => Ok(()),
     }

@@ -49,7 +49,7 @@ pub fn query_value<'p>(
         index,
         tables,
     };
-    Ok(value(&over, index.function_count(), ROOM, e, &names)?)
+    value(&over, index.function_count(), ROOM, e, &names)
 }
 
 /// What an expression gives where so many calls may stand one in the other. The loop goes down the rests of a block, of
@@ -77,7 +77,7 @@ fn value<'p>(
         }
         rest = next;
     }
-    Ok(form(over, calls, room - 1, rest.node.get(), &inner)?)
+    form(over, calls, room - 1, rest.node.get(), &inner)
 }
 
 /// What a node gives.
@@ -92,24 +92,24 @@ fn form<'p>(
     ensures { IfOk result (λ value. value ≡ form_given (rows_of over.now.tables.now) (called over.now.index.now (rows_of over.now.tables.now) calls) (out-Node node.now) names.now) }
 {
     match node {
-        Node::Name(name) => Ok(named(over.alloc, name, names)?),
+        Node::Name(name) => named(over.alloc, name, names),
         Node::Call(name, args) => {
             let args = values(over, calls, room, args.as_slice(), names)?;
-            Ok(call(over, calls, room, &name.text, args)?)
+            call(over, calls, room, &name.text, args)
         }
         Node::Var(name, e, rest) => {
             let bound = value(over, calls, room, e, names)?;
             let inner = names.share()?.bind(over.alloc, name.text.as_str(), bound)?;
-            Ok(value(over, calls, room, rest, &inner)?)
+            value(over, calls, room, rest, &inner)
         }
-        Node::Seq(_, e) | Node::Query(_, e) => Ok(value(over, calls, room, e, names)?),
+        Node::Seq(_, e) | Node::Query(_, e) => value(over, calls, room, e, names),
         Node::ForList(name, e, body) | Node::ForTable(name, e, body) => {
             let elements = value(over, calls, room, e, names)?;
             let elements = items_of(over.alloc, elements);
-            Ok(for_each(over, calls, room, name, elements, body, names)?)
+            for_each(over, calls, room, name, elements, body, names)
         }
-        Node::Table(name) => Ok(rows_value(over.alloc, rows_under(over.tables, &name.text))?),
-        node => Ok(choice(over, calls, room, node, names)?),
+        Node::Table(name) => rows_value(over.alloc, rows_under(over.tables, &name.text)),
+        node => choice(over, calls, room, node, names),
     }
 }
 
@@ -128,14 +128,14 @@ fn choice<'p>(
     match node {
         Node::If(c, then, other) => {
             if is_true(&value(over, calls, room, c, names)?) {
-                Ok(value(over, calls, room, then, names)?)
+                value(over, calls, room, then, names)
             } else {
-                Ok(value(over, calls, room, other, names)?)
+                value(over, calls, room, other, names)
             }
         }
         Node::And(a, b) => {
             if is_true(&value(over, calls, room, a, names)?) {
-                Ok(value(over, calls, room, b, names)?)
+                value(over, calls, room, b, names)
             } else {
                 Ok(Value::Base(Base::Bool(false)))
             }
@@ -144,17 +144,17 @@ fn choice<'p>(
             if is_true(&value(over, calls, room, a, names)?) {
                 Ok(Value::Base(Base::Bool(true)))
             } else {
-                Ok(value(over, calls, room, b, names)?)
+                value(over, calls, room, b, names)
             }
         }
         Node::Where(c, e) => {
             if is_true(&value(over, calls, room, c, names)?) {
-                Ok(value(over, calls, room, e, names)?)
+                value(over, calls, room, e, names)
             } else {
                 Ok(Value::List(List::new(over.alloc)))
             }
         }
-        node => Ok(operation(over, calls, room, node, names)?),
+        node => operation(over, calls, room, node, names),
     }
 }
 
@@ -171,7 +171,7 @@ fn operation<'p>(
 {
     match node {
         Node::Int(_) | Node::Text(_) | Node::Bool(_) => {
-            Ok(done(over.alloc, node, List::new(over.alloc))?)
+            done(over.alloc, node, List::new(over.alloc))
         }
         Node::Concat(a, b)
         | Node::Append(a, b)
@@ -190,7 +190,7 @@ fn operation<'p>(
             let mut operands = List::new(over.alloc);
             operands.push(value(over, calls, room, a, names)?)?;
             operands.push(value(over, calls, room, b, names)?)?;
-            Ok(done(over.alloc, node, operands)?)
+            done(over.alloc, node, operands)
         }
         Node::Neg(e)
         | Node::Not(e)
@@ -202,20 +202,20 @@ fn operation<'p>(
         | Node::Tag(_, e) => {
             let mut operands = List::new(over.alloc);
             operands.push(value(over, calls, room, e, names)?)?;
-            Ok(done(over.alloc, node, operands)?)
+            done(over.alloc, node, operands)
         }
         Node::List(list) => {
             let operands = values(over, calls, room, list.as_slice(), names)?;
-            Ok(done(over.alloc, node, operands)?)
+            done(over.alloc, node, operands)
         }
         Node::Record(parts) => {
             let operands = part_values(over, calls, room, parts.as_slice(), names)?;
-            Ok(done(over.alloc, node, operands)?)
+            done(over.alloc, node, operands)
         }
         Node::Extend(parts, e) => {
             let mut operands = part_values(over, calls, room, parts.as_slice(), names)?;
             operands.push(value(over, calls, room, e, names)?)?;
-            Ok(done(over.alloc, node, operands)?)
+            done(over.alloc, node, operands)
         }
         Node::Name(_)
         | Node::Function(_)
@@ -328,7 +328,7 @@ fn named(alloc: Global, name: &Text, names: &Locals) -> Result<Value, NoMemory>
     ensures { IfOk result (λ value. value ≡ unwrap_or (lookup names.now name.now) unit) }
 {
     match names.get(name.as_str()) {
-        Some(value) => Ok(copy_value(alloc, value)?),
+        Some(value) => copy_value(alloc, value),
         None => Ok(unit_value(alloc)),
     }
 }
@@ -376,7 +376,7 @@ fn add_items(found: &mut List<Value>, value: Value) -> Result<(), NoMemory>
     ensures { OnOk result (found.new ≡ found.old ++ items value) }
 {
     match value {
-        Value::List(elements) => Ok(add_all(found, elements)?),
+        Value::List(elements) => add_all(found, elements),
         _ => Ok(()),
     }
 }

@@ -36,7 +36,7 @@ pub fn columns_of(alloc: Global, ty: &Ground) -> Result<List<Column>, NoMemory>
     ensures { IfOk result (λ columns. columns ≡ columns_of ty.now) }
 {
     match ty {
-        Ground::Fields(fields) => columns(alloc, fields.as_slice()),
+        Ground::Fields(fields) => columns(alloc, fields.get().as_slice()),
         _ => Ok(List::new(alloc)),
     }
 }

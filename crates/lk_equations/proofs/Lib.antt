@@ -2,6 +2,7 @@ mod Changes
 pub mod Columns
 pub mod Counts
 pub mod Hiding
+pub mod Numbers
 pub mod Seeing
 pub mod Tabling
 pub mod Unfold

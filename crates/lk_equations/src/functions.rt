@@ -4,18 +4,21 @@ ghost use Rattle.std.specs.Prelude.{◌≡◌, ◌∷◌, ◌+◌, [], IfOk, Som
 ghost use Rattle.lk_types.specs.declared.ty.Ty.TheVariants as ty;
 ghost use Rattle.lk_types.specs.declared.ty.Effect.TheVariants as effect;
 ghost use Rattle.lk_typing.specs.Equations.{called as the_called, lacks as the_lacks, local as the_local, own as the_own, used as the_used};
+ghost use Rattle.lk_types.specs.Names.{count};
 ghost use Rattle.lk_typing.specs.Names.{named, Many};
+ghost use Rattle.lk_typing.specs.Renamed.{renamed as renamed_type};
 ghost use Rattle.lk_typing.specs.Unknowns.{has as the_has, same as the_same};
 ghost use Rattle.lk_equations.specs.Made.{as_own};
+ghost use Rattle.lk_equations.specs.Numbered.{place_in};
 ghost use Rattle.lk_equations.specs.Seen.{functions_seen};
 
 use crate::copies::{copy_effects, copy_type, copy_types};
 use crate::own::{Globals, Own, never, only, two};
-use crate::renamed::{moved, renamed, width};
+use crate::renamed::{moved, place, renamed, scheme_names};
 use crate::scope::Scope;
 use crate::unknowns::{field_before, function_of, has, same, unit};
 use lk_ast::{List, NoMemory};
-use lk_types::{Effect, Effects, Equation, Lack, RowTail, Scheme, Ty};
+use lk_types::{Effect, Effects, Equation, Lack, Names, RowTail, Scheme, Ty, Variable};
 use std::alloc::Global;
 
 /// What is said of a local name.
@@ -42,33 +45,49 @@ pub fn used(alloc: Global, globals: &Globals, name: &str, next: u32) -> Result<O
     }
 }
 
+/// A new instance of a scheme, by the numbers of its variables from 1 on: the first gets `next`.
+fn numbered(alloc: Global, names: &Names, scheme: &Scheme, next: u32) -> Result<Own, NoMemory>
+    ensures { IfOk result (λ made. as_own made ≡ the_own (renamed_type (place_in next names.now) scheme.now.body) (map (the_lacks (place_in next names.now)) scheme.now.lacks) (count names.now + next)) }
+{
+    let count = u32::try_from(names.count()).map_err(|_| NoMemory)?;
+    let ty = renamed(alloc, names, next, &scheme.body)?;
+    let equations = all_lacks(alloc, names, next, scheme.lacks.as_slice())?;
+    Ok(Own {
+        ty,
+        equations,
+        next: moved(next, count)?,
+    })
+}
+
 /// A new instance of a scheme.
 fn instance(alloc: Global, scheme: &Scheme, next: u32) -> Result<Own, NoMemory>
     ensures { IfOk result (λ made. as_own made ≡ the_used (Some (Many scheme.now)) next) }
 {
-    Ok(Own {
-        ty: renamed(alloc, next, &scheme.body)?,
-        equations: all_lacks(alloc, next, scheme.lacks.as_slice())?,
-        next: moved(next, width(alloc, scheme)?)?,
-    })
+    let names = scheme_names(alloc, scheme)?;
+    Ok(numbered(alloc, &names, scheme, next)?)
 }
 
 /// What is said of the labels that row variables lack.
-fn all_lacks(alloc: Global, next: u32, lacks: &[Lack]) -> Result<List<Equation>, NoMemory>
-    ensures { IfOk result (λ made. made ≡ map (the_lacks next) lacks.now) }
+fn all_lacks(
+    alloc: Global,
+    names: &Names,
+    next: u32,
+    lacks: &[Lack],
+) -> Result<List<Equation>, NoMemory>
+    ensures { IfOk result (λ made. made ≡ map (the_lacks (place_in next names.now)) lacks.now) }
 {
     let mut equations = List::new(alloc);
     for lack in lacks {
-        equations.push(lacks_label(alloc, next, lack)?)?;
+        equations.push(lacks_label(alloc, names, next, lack)?)?;
     }
     Ok(equations)
 }
 
 /// A row variable lacks a label: a record with that label before it is one.
-fn lacks_label(alloc: Global, next: u32, lack: &Lack) -> Result<Equation, NoMemory>
-    ensures { IfOk result (λ made. made ≡ the_lacks next lack.now) }
+fn lacks_label(alloc: Global, names: &Names, next: u32, lack: &Lack) -> Result<Equation, NoMemory>
+    ensures { IfOk result (λ made. made ≡ the_lacks (place_in next names.now) lack.now) }
 {
-    let tail = RowTail::Var(moved(lack.var, next)?);
+    let tail = RowTail::Var(place(next, names, Variable::Row(lack.var))?);
     let row = field_before(alloc, lack.label.as_str(), unit(alloc), tail)?;
     let ty = Ty::Fields(row);
     let again = copy_type(alloc, &ty)?;

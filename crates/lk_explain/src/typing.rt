@@ -10,9 +10,9 @@ use std::alloc::Global;
 /// The most bytes of a type's text that is shown.
 const SHOWN_BYTES: usize = 300;
 
-/// The most bytes from the beginning of a declaration to a place in it at which the types are looked for: they are read back for
-/// each node before the place, each anew.
-const TRIED_BYTES: u32 = 1_024;
+/// The most bytes from the name of a declaration to the end of a place in it at which the types are looked for: where sizes are near
+/// their limit, that may take time with the square of what stands before the place.
+const TRIED_BYTES: u32 = 4_096;
 
 /// What is wrong in a text that is a program and isn't well typed at this place: the two types that can't be one, as far as they are
 /// known there, or the effect that can't be had.
@@ -45,7 +45,7 @@ fn types_at_odds(alloc: Global, text: &[u8], at: Span) -> Result<Option<Disagree
     first_disagreement(alloc, &scoped)
 }
 
-/// Whether many bytes stand between the beginning of a declaration and the end of a place in it.
+/// Whether many bytes stand between the name of a declaration and the end of a place in it.
 fn is_late(program: &Program, at: Span) -> bool {
     let mut beginning = 0u32;
     for decl in program.decls.as_slice() {

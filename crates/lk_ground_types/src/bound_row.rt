@@ -7,7 +7,7 @@ ghost use Rattle.std.specs.FinMap as finite;
 ghost use Rattle.std.specs.Option.{option_copied};
 ghost use Rattle.std.specs.Prelude.{◌≡◌, ◌+◌, IfOk, OnOk};
 
-use crate::copies::copy_type;
+use crate::copies::share_type;
 use crate::counter::{add, count_ground};
 use crate::made_row::MadeRow;
 use lk_ast::NoMemory;
@@ -90,7 +90,7 @@ impl<'g> BoundRow<'g> {
     {
         let mut made = MadeRow::new(alloc);
         for (label, ty) in self.types.iter() {
-            let copy = copy_type(alloc, *ty)?;
+            let copy = share_type(*ty)?;
             made.put(alloc, *label, copy)?;
         }
         Ok(made)

@@ -8,10 +8,10 @@ ghost use Rattle.std.specs.Option.{option_map};
 ghost use Rattle.std.specs.Prelude.{◌≡◌, IfOk, OnOk, map};
 
 use crate::bindings::Bindings;
-use crate::copies::copy_type;
+use crate::copies::share_type;
 use crate::effect_lists::in_order;
 use crate::made_row::MadeRow;
-use lk_ast::{Boxed, List, NoMemory};
+use lk_ast::{List, NoMemory, Shared};
 use lk_types::{Effect, Effects, Ground, GroundField, RowTail, Ty, TyField, TyRow};
 use std::alloc::Global;
 
@@ -24,13 +24,13 @@ pub fn build_type(alloc: Global, bindings: &Bindings, ty: &Ty) -> Result<Ground,
         Ty::Int => Ok(Ground::Int),
         Ty::Bool => Ok(Ground::Bool),
         Ty::Text => Ok(Ground::Text),
-        Ty::List(item) => Ok(Ground::List(build_boxed(alloc, bindings, item.get())?)),
+        Ty::List(item) => Ok(Ground::List(build_shared(alloc, bindings, item.get())?)),
         Ty::Fields(row) => Ok(Ground::Fields(build_row(alloc, bindings, row)?)),
         Ty::Tags(row) => Ok(Ground::Tags(build_row(alloc, bindings, row)?)),
         Ty::Fun(params, effects, answer) => {
-            let params = build_all(alloc, bindings, params.as_slice())?;
-            let effects = build_effects(alloc, bindings, effects)?;
-            let answer = build_boxed(alloc, bindings, answer.get())?;
+            let params = build_params(alloc, bindings, params.as_slice())?;
+            let effects = shared_effects(alloc, bindings, effects)?;
+            let answer = build_shared(alloc, bindings, answer.get())?;
             Ok(Ground::Fun(params, effects, answer))
         }
         Ty::Var(number) => Ok(build_bound(alloc, bindings, *number)?),
@@ -38,11 +38,23 @@ pub fn build_type(alloc: Global, bindings: &Bindings, ty: &Ty) -> Result<Ground,
 }
 
 #[cycle(building)]
-fn build_boxed(alloc: Global, bindings: &Bindings, ty: &Ty) -> Result<Boxed<Ground>, NoMemory>
+fn build_shared(alloc: Global, bindings: &Bindings, ty: &Ty) -> Result<Shared<Ground>, NoMemory>
     ensures { IfOk result (λ made. IsIfThere (under (grounding_of bindings.now) ty.now) made) }
 {
     let made = build_type(alloc, bindings, ty)?;
-    Boxed::new(alloc, made)
+    Shared::new(alloc, made)
+}
+
+#[cycle(building)]
+fn build_params(
+    alloc: Global,
+    bindings: &Bindings,
+    types: &[Ty],
+) -> Result<Shared<List<Ground>>, NoMemory>
+    ensures { IfOk result (λ made. IsIfThere (all_of (map (under (grounding_of bindings.now)) types.now)) made) }
+{
+    let made = build_all(alloc, bindings, types)?;
+    Shared::new(alloc, made)
 }
 
 #[cycle(building)]
@@ -57,12 +69,18 @@ fn build_all(alloc: Global, bindings: &Bindings, types: &[Ty]) -> Result<List<Gr
 }
 
 #[cycle(building)]
-fn build_row(alloc: Global, bindings: &Bindings, row: &TyRow) -> Result<List<GroundField>, NoMemory>
+fn build_row(
+    alloc: Global,
+    bindings: &Bindings,
+    row: &TyRow,
+) -> Result<Shared<List<GroundField>>, NoMemory>
     ensures { IfOk result (λ made. IsIfThere (option_map fields_of (row_under (grounding_of bindings.now) row.now)) made) }
 {
     let mut types = bound_row(alloc, bindings, row.tail)?;
     build_fields(alloc, bindings, &mut types, row.fields.as_slice())?;
-    Ok(types.into_fields(alloc)?)
+    let made = types.into_fields(alloc)?;
+    let shared = Shared::new(alloc, made)?;
+    Ok(shared)
 }
 
 /// Puts what fields become before others, the last one first.
@@ -88,8 +106,11 @@ fn build_bound(alloc: Global, bindings: &Bindings, number: u32) -> Result<Ground
     ensures { IfOk result (λ made. made ≡ (grounding_of bindings.now).plain number) }
 {
     match bindings.plain.get(&number) {
-        Some(ty) => Ok(copy_type(alloc, *ty)?),
-        None => Ok(Ground::Fields(List::new(alloc))),
+        Some(ty) => Ok(share_type(*ty)?),
+        None => {
+            let none = List::new(alloc);
+            Ok(Ground::Fields(Shared::new(alloc, none)?))
+        }
     }
 }
 
@@ -104,6 +125,18 @@ fn bound_row(alloc: Global, bindings: &Bindings, tail: RowTail) -> Result<MadeRo
             None => Ok(MadeRow::new(alloc)),
         },
     }
+}
+
+/// The effects that these become, for several owners.
+fn shared_effects(
+    alloc: Global,
+    bindings: &Bindings,
+    effects: &Effects,
+) -> Result<Shared<List<Effect>>, NoMemory>
+    ensures { IfOk result (λ made. IsIfThere (option_map effects_of (effects_under (grounding_of bindings.now) effects.now)) made) }
+{
+    let made = build_effects(alloc, bindings, effects)?;
+    Shared::new(alloc, made)
 }
 
 /// The effects that these become, if they become some, in byte order. `NoMemory` where memory runs out.

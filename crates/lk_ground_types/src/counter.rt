@@ -40,11 +40,11 @@ pub fn count_ground(counted: usize, ty: &Ground) -> usize
         Ground::Bool => add(counted, 1),
         Ground::Text => add(counted, 1),
         Ground::List(item) => count_ground(add(counted, 1), item.get()),
-        Ground::Fields(fields) => count_fields(add(counted, 1), fields.as_slice()),
-        Ground::Tags(tags) => count_fields(add(counted, 1), tags.as_slice()),
+        Ground::Fields(fields) => count_fields(add(counted, 1), fields.get().as_slice()),
+        Ground::Tags(tags) => count_fields(add(counted, 1), tags.get().as_slice()),
         Ground::Fun(params, effects, answer) => {
-            let with_params = count_grounds(add(counted, 1), params.as_slice());
-            let with_effects = add(with_params, effects.len());
+            let with_params = count_grounds(add(counted, 1), params.get().as_slice());
+            let with_effects = add(with_params, effects.get().len());
             count_ground(with_effects, answer.get())
         }
     }

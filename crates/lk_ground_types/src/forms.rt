@@ -22,7 +22,7 @@ pub fn record_fields(ty: &Ground) -> Option<&[GroundField]>
     ensures { option_map (λ fields. fields.now) result ≡ fields_in ty.now }
 {
     match ty {
-        Ground::Fields(fields) => Some(fields.as_slice()),
+        Ground::Fields(fields) => Some(fields.get().as_slice()),
         _ => None,
     }
 }
@@ -32,7 +32,7 @@ pub fn variant_tags(ty: &Ground) -> Option<&[GroundField]>
     ensures { option_map (λ tags. tags.now) result ≡ tags_in ty.now }
 {
     match ty {
-        Ground::Tags(tags) => Some(tags.as_slice()),
+        Ground::Tags(tags) => Some(tags.get().as_slice()),
         _ => None,
     }
 }
@@ -43,7 +43,11 @@ pub fn function_parts(ty: &Ground) -> Option<(&[Ground], &[Effect], &Ground)>
 {
     match ty {
         Ground::Fun(params, effects, answer) => {
-            Some((params.as_slice(), effects.as_slice(), answer.get()))
+            Some((
+                params.get().as_slice(),
+                effects.get().as_slice(),
+                answer.get(),
+            ))
         }
         _ => None,
     }
@@ -54,7 +58,7 @@ pub fn effects_of(ty: &Ground) -> &[Effect]
     ensures { result.now ≡ effects_in ty.now }
 {
     match ty {
-        Ground::Fun(_, effects, _) => effects.as_slice(),
+        Ground::Fun(_, effects, _) => effects.get().as_slice(),
         _ => &[],
     }
 }

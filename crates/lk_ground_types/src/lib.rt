@@ -20,7 +20,7 @@ mod shapes;
 mod under;
 
 pub use bindings::Bindings;
-pub use copies::copy_type;
+pub use copies::share_type;
 pub use forms::effects_of;
 pub use law::ground_type_laws;
 pub use same::same_type;

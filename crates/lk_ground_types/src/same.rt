@@ -13,11 +13,17 @@ pub fn same_type(a: &Ground, b: &Ground) -> bool
         (Ground::Int, Ground::Int) | (Ground::Bool, Ground::Bool) | (Ground::Text, Ground::Text) =>
             { true }
         (Ground::List(x), Ground::List(y)) => same_type(x.get(), y.get()),
-        (Ground::Fields(xs), Ground::Fields(ys)) => same_fields(xs.as_slice(), ys.as_slice()),
-        (Ground::Tags(xs), Ground::Tags(ys)) => same_fields(xs.as_slice(), ys.as_slice()),
+        (Ground::Fields(xs), Ground::Fields(ys)) => same_fields(
+            xs.get().as_slice(),
+            ys.get().as_slice(),
+        ),
+        (Ground::Tags(xs), Ground::Tags(ys)) => same_fields(
+            xs.get().as_slice(),
+            ys.get().as_slice(),
+        ),
         (Ground::Fun(xs, es, x), Ground::Fun(ys, fs, y)) => {
-            same_types(xs.as_slice(), ys.as_slice())
-                && same_effects(es.as_slice(), fs.as_slice())
+            same_types(xs.get().as_slice(), ys.get().as_slice())
+                && same_effects(es.get().as_slice(), fs.get().as_slice())
                 && same_type(x.get(), y.get())
         }
         _ => false,

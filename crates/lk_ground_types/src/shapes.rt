@@ -19,8 +19,8 @@ pub fn has_function(ty: &Ground) -> bool
         Ground::Bool => false,
         Ground::Text => false,
         Ground::List(item) => has_function(item.get()),
-        Ground::Fields(fields) => in_fields(fields.as_slice()),
-        Ground::Tags(tags) => in_fields(tags.as_slice()),
+        Ground::Fields(fields) => in_fields(fields.get().as_slice()),
+        Ground::Tags(tags) => in_fields(tags.get().as_slice()),
         Ground::Fun(..) => true,
     }
 }
@@ -54,7 +54,7 @@ fn is_flat_row(ty: &Ground) -> bool
     ensures { result ≡ flat_row ty.now }
 {
     match ty {
-        Ground::Fields(fields) => are_flat(fields.as_slice()),
+        Ground::Fields(fields) => are_flat(fields.get().as_slice()),
         _ => false,
     }
 }

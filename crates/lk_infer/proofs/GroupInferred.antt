@@ -8,6 +8,7 @@ use Rattle.lk_infer.proofs.GroupTypes.{AreFound, is_group, lacks, loose_bodies, 
 use Rattle.lk_infer.proofs.Made.{BecomeLoosely, loosely_all}
 use Rattle.lk_infer.proofs.Restricted.{restricted, restricted_lacking}
 use Rattle.lk_infer.specs.Generalised.{AreGeneralised}
+use Rattle.lk_infer.proofs.OwnLacks.{all_own}
 use Rattle.lk_infer.specs.Inferred.{IsInferred}
 use Rattle.lk_types.specs.Each.{Each}
 use Rattle.lk_types.specs.Grounding.{Grounding}
@@ -94,4 +95,4 @@ pub group_inferred : WalkLaw → EffectsLaw
 group_inferred walk effects earlier tables decl even bodies nodes rest schemes sides bodies_fit nodes_fit made =
     let found : AreFound earlier tables decl bodies nodes rest =
     record { walk = walk; effects = effects; even = even; sides = sides; bodies_fit = bodies_fit; nodes_fit = nodes_fit } in
-    (record { hold = group_hold found schemes made; lacks = lacks found; general = group_general found schemes made; sound = group_sound found schemes made }, group_even found schemes made)
+    (record { hold = group_hold found schemes made; own = all_own (bodies ++ (nodes ++ rest)) bodies schemes made; lacks = lacks found; general = group_general found schemes made; sound = group_sound found schemes made }, group_even found schemes made)

@@ -21,6 +21,7 @@ pub mod LooselyThere
 pub mod Made
 pub mod NodeVariables
 pub mod OddSides
+pub mod OwnLacks
 pub mod ProgramAnswers
 pub mod Restricted
 pub mod ShownUnfold

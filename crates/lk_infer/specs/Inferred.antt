@@ -19,11 +19,13 @@ use Rattle.lk_typing.specs.Law.{Become}
 use Rattle.lk_typing.specs.Names.{Named}
 use Rattle.lk_typing.specs.Programs.{AreAt, Hold, entries}
 use Rattle.lk_ast.specs.Tables.{tables_of}
+use Rattle.lk_infer.specs.Generalised.{HasOwnLacks}
 use Rattle.lk_infer.specs.Refusals.{AllFine, some_large}
 
 -- the functions of a declaration have these principal schemes, and the nodes in them these principal types
 pub record IsInferred (earlier : Named Scheme) (tables : List TableDecl) (decl : Decl) (schemes : List Scheme) (types : List Ty) : Type 0 where
   pub hold : Hold earlier tables decl schemes
+  pub own : Each HasOwnLacks schemes
   pub lacks : List Lack
   pub general : (ts inside : List Ground) → IsGroup earlier tables decl ts inside → (τ : Grounding) × AreAt τ schemes ts × Become τ types inside × Each (IsLacking τ) lacks
   pub sound : (τ : Grounding) (ts inside : List Ground) → AreAt τ schemes ts → Become τ types inside → Each (IsLacking τ) lacks → IsGroup earlier tables decl ts inside

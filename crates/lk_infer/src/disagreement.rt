@@ -17,7 +17,7 @@ use lk_equations::{Scope, Tables, copy_type};
 use lk_names::Scoped;
 use lk_types::{Equation, Scheme, Ty};
 use lk_typing::{Said, Step};
-use lk_unify::{Constraint, Sizing, UnifyError, first_unsolvable, solve};
+use lk_unify::{Constraint, Sizing, UnifyError, first_unsolvable, solve_first};
 use lk_walk::{GroupWalk, walk_group};
 use std::alloc::Global;
 
@@ -133,7 +133,7 @@ fn solve_odd(alloc: Global, odd: Odd) -> Result<Option<Disagreement>, NoMemory>
     ensures { IfOk result (IsReading odd.equation odd.before) }
 {
     let constraints = plan_odd(alloc, odd)?;
-    match solve(alloc, constraints) {
+    match solve_first(alloc, constraints, 2) {
         Ok(types) => Ok(Some(first_two(types))),
         Err(UnifyError::NoSolution(_)) => Ok(None),
         Err(UnifyError::TypeTooLarge(_)) => Ok(None),

@@ -1,5 +1,6 @@
 //! Inference for whole programs.
 
+ghost use Rattle.lk_infer.specs.Generalised.{HasOwnLacks, IsNarrow};
 ghost use Rattle.lk_infer.specs.Inferred.{HasTypes};
 ghost use Rattle.lk_infer.specs.LacksInOrder.{IsSchemeInOrder};
 ghost use Rattle.lk_infer.specs.Programs.{EndsIllTyped, EndsTooLarge};
@@ -122,6 +123,8 @@ pub fn infer(alloc: Global, program: &Scoped) -> Result<Typed, InferError>
     ensures types { IfOk result (λ typed. HasTypes program.now typed.schemes typed.types) }
     ensures in_order { IfOk result (λ typed. Each IsSchemeInOrder typed.schemes) }
     ensures even { IfOk result (λ typed. Each IsEvenScheme typed.schemes) }
+    ensures own_lacks { IfOk result (λ typed. Each HasOwnLacks typed.schemes) }
+    ensures narrow { IfOk result (λ typed. Each IsNarrow typed.schemes) }
     ensures ill_typed { (at : TheSpan) → result ≡ Err (errors.IllTyped at) → EndsIllTyped program.now at }
     ensures not_well_typed { (at : TheSpan) → result ≡ Err (errors.IllTyped at) → IsWellTyped program.now → ⊥ }
     ensures too_large { (at : TheSpan) → result ≡ Err (errors.TypeTooLarge at) → EndsTooLarge program.now at }

@@ -17,7 +17,7 @@ use crate::body::{Body, Source, gather, walk_all};
 use crate::error::MonoError;
 use crate::member::find_member;
 use crate::queue::{Queue, Use, Wanted};
-use lk_ast::{Boxed, List, NoMemory, main_of};
+use lk_ast::{List, NoMemory, Shared, main_of};
 use lk_ground_types::{Bindings, ground_effects, ground_type};
 use lk_principal::principal_laws;
 use lk_types::{Ground, Ty};
@@ -52,7 +52,9 @@ fn main_type(alloc: Global, body: &Ty) -> Result<Option<Ground>, NoMemory>
     let mut types = List::new(alloc);
     types.push(Ground::Text)?;
     let effects = ground_effects(alloc, &bindings, body)?;
-    Ok(Some(Ground::Fun(types, effects, Boxed::new(alloc, answer)?)))
+    let params = Shared::new(alloc, types)?;
+    let labels = Shared::new(alloc, effects)?;
+    Ok(Some(Ground::Fun(params, labels, Shared::new(alloc, answer)?)))
 }
 
 /// Where a session begins, at its least type.

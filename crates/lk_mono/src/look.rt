@@ -15,9 +15,9 @@ ghost use Rattle.std.specs.Option.{option_map};
 ghost use Rattle.std.specs.Prelude.{◌≡◌, IfOk, List as TheList, Some, drop as the_drop, map, slice_get, take as the_take};
 
 use crate::member::Member;
-use lk_ast::{Boxed, List, NoMemory, Span, Text};
+use lk_ast::{List, NoMemory, Shared, Span, Text};
 use lk_ground_types::{
-    Bindings, copy_type, effects_of, ground_effects, ground_type, ground_type_laws,
+    Bindings, effects_of, ground_effects, ground_type, ground_type_laws, share_type,
 };
 use lk_outline::{Around, Kind, Site};
 use lk_types::{Effect, Ground, Ty};
@@ -112,9 +112,12 @@ fn type_at(
     ensures { IfOk result (λ found. (ts : TheList TheGround) → types.now ≡ map within ts → found ≡ within (the_type_at ts number)) }
 {
     match types.get(number) {
-        Some(Some(ty)) => Ok(Some(copy_type(alloc, ty)?)),
+        Some(Some(ty)) => Ok(Some(share_type(ty)?)),
         Some(None) => Ok(None),
-        None => Ok(Some(Ground::Fields(List::new(alloc)))),
+        None => {
+            let none = List::new(alloc);
+            Ok(Some(Ground::Fields(Shared::new(alloc, none)?)))
+        }
     }
 }
 
@@ -151,8 +154,9 @@ fn call_type(
     let Some(answer) = type_at(alloc, setting.types, site.number)? else {
         return Ok(None);
     };
-    let effects = effects_around(alloc, setting, site.around)?;
-    Ok(Some(Ground::Fun(params, effects, Boxed::new(alloc, answer)?)))
+    let params = Shared::new(alloc, params)?;
+    let effects = Shared::new(alloc, effects_around(alloc, setting, site.around)?)?;
+    Ok(Some(Ground::Fun(params, effects, Shared::new(alloc, answer)?)))
 }
 
 /// The use at a node, if it is one.

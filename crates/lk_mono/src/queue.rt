@@ -8,7 +8,7 @@ ghost use Rattle.std.specs.Prelude.{◌≡◌, ℕ, [], ◌∷◌, IfOk, List as
 
 use crate::look::Found;
 use lk_ast::{List, NoMemory, Text};
-use lk_ground_types::{copy_type, same_type};
+use lk_ground_types::{same_type, share_type};
 use lk_types::Ground;
 use std::alloc::Global;
 
@@ -79,7 +79,7 @@ fn add_use<'p>(alloc: Global, queue: &mut Queue<'p>, found: &Found<'p>) -> Resul
     }
     queue.room -= 1;
     if let Some(ty) = &found.ty {
-        let ty = copy_type(alloc, ty)?;
+        let ty = share_type(ty)?;
         queue.listed.push(Use {
             name: found.name,
             ty,

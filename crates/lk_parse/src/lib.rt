@@ -14,6 +14,7 @@ mod signs;
 mod start;
 
 pub use error::ParseError;
+pub use lk_ast::{Token, TokenKind};
 pub use nesting::check_nesting;
 pub use program::parse;
 pub use scan::tokens;

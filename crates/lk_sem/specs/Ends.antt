@@ -12,7 +12,7 @@ stop_of (halt.Trap trap) = Trapped trap
 stop_of halt.Spent = Spent
 stop_of (halt.Stuck at) = Stuck at
 
--- the end, if a well typed program may come to it
+-- the end, if an accepted program may come to it
 abbrev pub end_of : Halt → Option SourceEnd
 end_of (halt.Trap trap) = Some (end.Trap trap)
 end_of halt.Spent = Some end.Spent

@@ -2,7 +2,7 @@
 
 use lk_ast::{Event, List, Span, Trap, Value};
 
-/// How the evaluation of a well typed program ends: with a value or a trap, without fuel, where the store refused a reading
+/// How the evaluation of an accepted program ends: with a value or a trap, without fuel, where the store refused a reading
 /// or writing, or at an insertion that would have left that many rows in its table, too many.
 #[derive(Drop)]
 pub enum SourceEnd {
@@ -35,7 +35,7 @@ impl Halt {
     ghost use Rattle.lk_sem.specs.Ends.{end_of};
     ghost use Rattle.std.specs.Prelude.{◌≡◌};
 
-    /// That end, if a well typed program may come to it.
+    /// That end, if an accepted program may come to it.
     pub fn end(self) -> Option<SourceEnd>
         ensures { result ≡ end_of self }
     {

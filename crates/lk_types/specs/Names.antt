@@ -1,4 +1,4 @@
--- The numbers that variables have in a text, as entries of a map.
+-- The numbers of variables, from 1 on, as entries of a map.
 use Rattle.std.specs.Prelude.{ℕ, ◌+◌, List, length}
 use Rattle.std.specs.Map.{lookup}
 use Rattle.std.specs.Option.{unwrap_or}
@@ -10,6 +10,10 @@ use Rattle.lk_types.specs.declared.ty.Variable.{Variable}
 -- the number of a variable, or the next one where it has none
 abbrev pub number : Names → Variable → ℕ
 number names x = unwrap_or (lookup (same_variable x) names.numbers.entries) (1 + length names.numbers.entries)
+
+-- how many have one
+abbrev pub count : Names → ℕ
+count names = length names.numbers.entries
 
 abbrev pub name : Names → Variable → List ℕ
 name names x = name_of (number names x)

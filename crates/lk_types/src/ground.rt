@@ -1,5 +1,5 @@
 use crate::ty::Effect;
-use lk_ast::{Boxed, List, Text};
+use lk_ast::{List, Shared, Text};
 
 /// A field of a record, or a tag of a variant with the type of what stands behind it.
 #[cycle(ground)]
@@ -15,17 +15,18 @@ impl Drop for GroundField {
     }
 }
 
-/// A type without variables. Fields, tags and effects stand in byte order, each once.
+/// A type without variables. Fields, tags and effects stand in byte order, each once. What stands in a type may have several owners,
+/// so a type that is handed on takes no more room for it.
 #[cycle(ground)]
 pub enum Ground {
     Int,
     Bool,
     Text,
-    List(Boxed<Ground>),
-    Fields(List<GroundField>),
-    Tags(List<GroundField>),
+    List(Shared<Ground>),
+    Fields(Shared<List<GroundField>>),
+    Tags(Shared<List<GroundField>>),
     /// Parameters, effects and result.
-    Fun(List<Ground>, List<Effect>, Boxed<Ground>),
+    Fun(Shared<List<Ground>>, Shared<List<Effect>>, Shared<Ground>),
 }
 
 impl Drop for Ground {

@@ -31,13 +31,13 @@ fn write_ground(text: &mut Text, ty: &Ground) -> Result<(), NoMemory>
         Ground::Bool => text.push("Bool"),
         Ground::Text => text.push("String"),
         Ground::List(item) => write_list(text, item.get()),
-        Ground::Fields(fields) => write_record(text, fields.as_slice()),
-        Ground::Tags(tags) => write_variant(text, tags.as_slice()),
+        Ground::Fields(fields) => write_record(text, fields.get().as_slice()),
+        Ground::Tags(tags) => write_variant(text, tags.get().as_slice()),
         Ground::Fun(params, labels, answer) => {
             text.push("(")?;
-            write_grounds(text, params.as_slice())?;
+            write_grounds(text, params.get().as_slice())?;
             text.push(") ")?;
-            write_effects(text, labels.as_slice())?;
+            write_effects(text, labels.get().as_slice())?;
             text.push("-> ")?;
             write_ground(text, answer.get())
         }

@@ -17,6 +17,7 @@ mod variables;
 pub use equation::{Binding, Equation, Image, Subst};
 pub use ground::{Ground, GroundField};
 pub use ground_text::print_ground;
+pub use names::Names;
 pub use scheme::{Lack, Scheme};
 pub use ty::{Effect, Effects, MOST_NODES, RowTail, Ty, TyField, TyRow, Variable};
 pub use type_text::{effect_word, print_type};

@@ -1,4 +1,4 @@
-//! The names of variables in a text.
+//! The numbers of variables, from 1 on.
 
 use crate::ty::Variable;
 use lk_ast::NoMemory;
@@ -12,15 +12,16 @@ pub struct Names {
 }
 
 impl Names {
-    ghost use Rattle.lk_types.specs.Names.{number};
+    ghost use Rattle.lk_types.specs.Names.{count, number};
     ghost use Rattle.lk_types.specs.TypeText.{number_in};
     ghost use Rattle.lk_types.specs.Variables.{firsts};
     ghost use Rattle.lk_types.specs.declared.ty.Variable.{Variable as TheVariable};
-    ghost use Rattle.std.specs.Prelude.{◌≡◌, IfOk};
+    ghost use Rattle.std.specs.Prelude.{◌≡◌, IfOk, length};
 
     /// The numbers of these variables, in the order in which they come first.
     pub fn of(alloc: Global, variables: &[Variable]) -> Result<Names, NoMemory>
-        ensures { IfOk result (λ names. (x : TheVariable) → number names x ≡ number_in (firsts variables.now) x) }
+        ensures numbers { IfOk result (λ names. (x : TheVariable) → number names x ≡ number_in (firsts variables.now) x) }
+        ensures count { IfOk result (λ names. count names ≡ length (firsts variables.now)) }
     {
         let mut names = Names {
             numbers: BTreeMap::new(alloc),
@@ -30,6 +31,13 @@ impl Names {
             names.numbers.insert(*variable, number)?;
         }
         Ok(names)
+    }
+
+    /// How many variables have a number.
+    pub fn count(&self) -> usize
+        ensures { result ≡ count self.now }
+    {
+        self.numbers.len()
     }
 
     /// The number of a variable, or the next one where it has none.

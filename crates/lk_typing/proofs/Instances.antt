@@ -1,16 +1,19 @@
 -- What a function or a local name stands for, in the walk and by the rules.
-use Rattle.std.proofs.Common.{◌≡◌, ℕ, zero, suc, ◌+◌, ◌<◌, ◌≤◌, length, arith, add-zero, Bool, true, false, List, [], ◌∷◌, map, refl, sym, ap, ◌∙◌, Option, Some, None, if◌then◌else◌, subst, ap₂}
-use Rattle.std.proofs.Math.Nat.{le-max_left, le-max_right}
+use Rattle.std.proofs.Common.{◌≡◌, ℕ, suc, ◌+◌, length, arith, add-zero, Bool, true, false, not, cond, ◌||◌, List, [], ◌∷◌, ◌++◌, map, refl, sym, ap, ◌∙◌, Option, Some, None, if◌then◌else◌, subst, ap₂}
 use Rattle.std.specs.FinMap as fin
+use Rattle.std.specs.List.{list_any, position_or_len}
 use Rattle.std.specs.Option.{option_map}
 use Rattle.std.specs.Prelude.{bytes_eq, IsSome}
 use Rattle.lk_types.proofs.Agreement.{AgreeAt, agrees, under_rolled, under_rolled_row, under_rolled_field}
+use Rattle.lk_types.proofs.Members.{each_front, each_back}
+use Rattle.lk_types.proofs.SameVariable.{same_is}
 use Rattle.lk_types.proofs.Unfold.{under_int, under_bool, under_text, under_list, under_fields, under_tags, under_function, under_variable, under_field}
 use Rattle.lk_types.specs.Each.{Each}
 use Rattle.lk_types.specs.Grounding.{Grounding, under, Known, row_under, field_under, ty_level, before_row, row_tail, effect_tail, before_effects, all_of, function_of}
 use Rattle.lk_types.specs.Rows.{Label, Row, has_label, with_field, fields_of}
 use Rattle.lk_types.specs.Schemes.{IsLacking, IsInstance}
 use Rattle.lk_types.specs.Solutions.{IsMet}
+use Rattle.lk_types.specs.Variables.{firsts, same_variable, variables_of}
 use Rattle.lk_types.specs.declared.ground.Ground.{Ground}
 use Rattle.lk_types.specs.declared.ground.Ground.TheVariants as known
 use Rattle.lk_types.specs.declared.scheme.Lack.{Lack}
@@ -25,11 +28,12 @@ use Rattle.lk_types.specs.declared.ty.TyField.{TyField, roll-TyField}
 use Rattle.lk_types.specs.declared.ty.TyRow.{TyRow, roll-TyRow}
 use Rattle.lk_types.specs.declared.ty.Variable.{Variable}
 use Rattle.lk_types.specs.declared.ty.Variable.TheVariants as variable
-use Rattle.lk_typing.proofs.Meaning.{seen, entry_seen, Names, Functions, Letter, Stand, OwnMet}
+use Rattle.lk_typing.proofs.Meaning.{seen, entry_seen, Names, Functions, Letter, IsLetter, Stand, OwnMet}
 use Rattle.lk_typing.proofs.Nodes.{there_is}
+use Rattle.lk_typing.proofs.Places.{firsts_have, number_of, IsThere}
 use Rattle.lk_typing.specs.Equations.{own, lacks, used}
 use Rattle.lk_typing.specs.Names.{Named, named, Entry, One, Many, IsUse, MayBe}
-use Rattle.lk_typing.specs.Renamed.{number_of, beyond, width, tail_renamed, ty_renamed, row_renamed, field_renamed, renamed, renamed_row, renamed_field}
+use Rattle.lk_typing.specs.Renamed.{place_among, place_from, scheme_variables, width, tail_renamed, ty_renamed, row_renamed, field_renamed, renamed, renamed_row, renamed_field}
 use Rattle.lk_typing.specs.Types as types
 use Rattle.lk_typing.specs.Unknowns.{record_of, unit, same}
 
@@ -68,37 +72,37 @@ local_complete σ names known_names x g are is = by_both (named x names) (both_n
 
 -- ---- a renamed type
 
--- what stands for the variables from that number on
-abbrev pub moved : ℕ → Grounding → Grounding
-moved n σ = record { plain = λ v. σ.plain (n + v); rows = λ v. σ.rows (n + v); effects = λ v. σ.effects (n + v) }
+-- what stands for the variables with those numbers
+abbrev pub moved : (Variable → ℕ) → Grounding → Grounding
+moved place σ = record { plain = λ v. σ.plain (place (variable.Plain v)); rows = λ v. σ.rows (place (variable.Row v)); effects = λ v. σ.effects (place (variable.Effects v)) }
 
 -- one level
 
-module _ (n : ℕ) where
-  pub rolled : (x : Ty-F Ty TyField TyRow) → renamed n (roll-Ty x) ≡ ty_renamed n (map-Ty Ty TyField TyRow Ty TyField TyRow (renamed n) (renamed_field n) (renamed_row n) x)
+module _ (place : Variable → ℕ) where
+  pub rolled : (x : Ty-F Ty TyField TyRow) → renamed place (roll-Ty x) ≡ ty_renamed place (map-Ty Ty TyField TyRow Ty TyField TyRow (renamed place) (renamed_field place) (renamed_row place) x)
   unfolding renamed renamed_field renamed_row
-  rolled x = fold-roll-Ty Ty TyField TyRow (ty_renamed n) (field_renamed n) (row_renamed n) x
+  rolled x = fold-roll-Ty Ty TyField TyRow (ty_renamed place) (field_renamed place) (row_renamed place) x
 
-  pub rolled_row : (x : TyRow-F Ty TyField TyRow) → renamed_row n (roll-TyRow x) ≡ roll-TyRow (record { fields = map (renamed_field n) x.fields; tail = tail_renamed n x.tail })
+  pub rolled_row : (x : TyRow-F Ty TyField TyRow) → renamed_row place (roll-TyRow x) ≡ roll-TyRow (record { fields = map (renamed_field place) x.fields; tail = tail_renamed place variable.Row x.tail })
   unfolding renamed renamed_field renamed_row
-  rolled_row x = fold-roll-TyRow Ty TyField TyRow (ty_renamed n) (field_renamed n) (row_renamed n) x
+  rolled_row x = fold-roll-TyRow Ty TyField TyRow (ty_renamed place) (field_renamed place) (row_renamed place) x
 
-  pub rolled_field : (x : TyField-F Ty TyField TyRow) → renamed_field n (roll-TyField x) ≡ record { label = x.label; ty = renamed n x.ty }
+  pub rolled_field : (x : TyField-F Ty TyField TyRow) → renamed_field place (roll-TyField x) ≡ record { label = x.label; ty = renamed place x.ty }
   unfolding renamed renamed_field renamed_row
-  rolled_field x = fold-roll-TyField Ty TyField TyRow (ty_renamed n) (field_renamed n) (row_renamed n) x
+  rolled_field x = fold-roll-TyField Ty TyField TyRow (ty_renamed place) (field_renamed place) (row_renamed place) x
 
-module _ (n : ℕ) (σ : Grounding) where
+module _ (place : Variable → ℕ) (σ : Grounding) where
   abbrev τ : Grounding
-  τ = moved n σ
+  τ = moved place σ
 
   abbrev TyMoves : Ty → Type 0
-  TyMoves t = under σ (renamed n t) ≡ under τ t
+  TyMoves t = under σ (renamed place t) ≡ under τ t
 
   abbrev RowMoves : TyRow → Type 0
-  RowMoves r = row_under σ (renamed_row n r) ≡ row_under τ r
+  RowMoves r = row_under σ (renamed_row place r) ≡ row_under τ r
 
   abbrev FieldMoves : TyField → Type 0
-  FieldMoves f = field_under σ (renamed_field n f) ≡ field_under τ f
+  FieldMoves f = field_under σ (renamed_field place f) ≡ field_under τ f
 
   abbrev Such : Type 0
   Such = (t : Ty) × TyMoves t
@@ -109,19 +113,19 @@ module _ (n : ℕ) (σ : Grounding) where
   abbrev SuchField : Type 0
   SuchField = (f : TyField) × FieldMoves f
 
-  row_tail_moves : (tail : RowTail) → row_tail σ (tail_renamed n tail) ≡ row_tail τ tail
+  row_tail_moves : (tail : RowTail) → row_tail σ (tail_renamed place variable.Row tail) ≡ row_tail τ tail
   row_tail_moves Closed = refl
   row_tail_moves (Var v) = refl
 
-  effect_tail_moves : (tail : RowTail) → effect_tail σ (tail_renamed n tail) ≡ effect_tail τ tail
+  effect_tail_moves : (tail : RowTail) → effect_tail σ (tail_renamed place variable.Effects tail) ≡ effect_tail τ tail
   effect_tail_moves Closed = refl
   effect_tail_moves (Var v) = refl
 
-  types_move : (ts : List Such) → map (under σ) (map (renamed n) (map (λ t. t.0) ts)) ≡ map (under τ) (map (λ t. t.0) ts)
+  types_move : (ts : List Such) → map (under σ) (map (renamed place) (map (λ t. t.0) ts)) ≡ map (under τ) (map (λ t. t.0) ts)
   types_move [] = refl
   types_move (t ∷ ts) = ap₂ (λ a more. a ∷ more) t.1 (types_move ts)
 
-  fields_move : (fs : List SuchField) → map (field_under σ) (map (renamed_field n) (map (λ f. f.0) fs)) ≡ map (field_under τ) (map (λ f. f.0) fs)
+  fields_move : (fs : List SuchField) → map (field_under σ) (map (renamed_field place) (map (λ f. f.0) fs)) ≡ map (field_under τ) (map (λ f. f.0) fs)
   fields_move [] = refl
   fields_move (f ∷ fs) = ap₂ (λ a more. a ∷ more) f.1 (fields_move fs)
 
@@ -129,7 +133,7 @@ module _ (n : ℕ) (σ : Grounding) where
   plain_level = map-Ty Such SuchField SuchRow Ty TyField TyRow (λ t. t.0) (λ f. f.0) (λ r. r.0)
 
   abbrev LevelMoves : Ty-F Ty TyField TyRow → Type 0
-  LevelMoves x = under σ (ty_renamed n (map-Ty Ty TyField TyRow Ty TyField TyRow (renamed n) (renamed_field n) (renamed_row n) x))
+  LevelMoves x = under σ (ty_renamed place (map-Ty Ty TyField TyRow Ty TyField TyRow (renamed place) (renamed_field place) (renamed_row place) x))
       ≡ ty_level τ (map-Ty Ty TyField TyRow (Option Ground) Known (Option Row) (under τ) (field_under τ) (row_under τ) x)
 
   level_moves : (y : Ty-F Such SuchField SuchRow) → LevelMoves (plain_level y)
@@ -143,23 +147,23 @@ module _ (n : ℕ) (σ : Grounding) where
   level_moves (Ty-F.Var v) = under_variable σ _
 
   ty_moves : (y : Ty-F Such SuchField SuchRow) → TyMoves (roll-Ty (plain_level y))
-  ty_moves y = ap (under σ) (rolled n _) ∙ level_moves y ∙ sym (under_rolled τ (plain_level y))
+  ty_moves y = ap (under σ) (rolled place _) ∙ level_moves y ∙ sym (under_rolled τ (plain_level y))
 
   row_moves : (y : TyRow-F Such SuchField SuchRow) → RowMoves (roll-TyRow (record { fields = map (λ f. f.0) y.fields; tail = y.tail }))
-  row_moves y = ap (row_under σ) (rolled_row n _) ∙ under_rolled_row σ _ ∙ ap₂ before_row (fields_move y.fields) (row_tail_moves y.tail) ∙ sym (under_rolled_row τ _)
+  row_moves y = ap (row_under σ) (rolled_row place _) ∙ under_rolled_row σ _ ∙ ap₂ before_row (fields_move y.fields) (row_tail_moves y.tail) ∙ sym (under_rolled_row τ _)
 
   field_moves : (y : TyField-F Such SuchField SuchRow) → FieldMoves (roll-TyField (record { label = y.label; ty = y.ty.0 }))
-  field_moves y = ap (field_under σ) (rolled_field n _) ∙ under_field σ _ ∙ ap (λ t. (y.label, t)) y.ty.1 ∙ sym (under_rolled_field τ _)
+  field_moves y = ap (field_under σ) (rolled_field place _) ∙ under_field σ _ ∙ ap (λ t. (y.label, t)) y.ty.1 ∙ sym (under_rolled_field τ _)
 
-  pub under_moves : (t : Ty) → under σ (renamed n t) ≡ under τ t
+  pub under_moves : (t : Ty) → under σ (renamed place t) ≡ under τ t
   under_moves = ind-Ty TyMoves FieldMoves RowMoves
       (λ x y is. subst (λ z. TyMoves (roll-Ty z)) is (ty_moves y))
       (λ x y is. subst (λ z. FieldMoves (roll-TyField z)) is (field_moves y))
       (λ x y is. subst (λ z. RowMoves (roll-TyRow z)) is (row_moves y))
 
--- the renamed type becomes what the type becomes by what stands for the variables from that number on
-pub under_renamed : (n : ℕ) (σ : Grounding) (t : Ty) → under σ (renamed n t) ≡ under (moved n σ) t
-under_renamed n σ t = under_moves n σ t
+-- the renamed type becomes what the type becomes by what stands for the variables with the new numbers
+pub under_renamed : (place : Variable → ℕ) (σ : Grounding) (t : Ty) → under σ (renamed place t) ≡ under (moved place σ) t
+under_renamed place σ t = under_moves place σ t
 
 -- ---- what is said of a row variable that lacks a label
 
@@ -182,28 +186,28 @@ module _ (σ : Grounding) where
       ∙ ap (λ t. option_map (λ m. known.Fields (fields_of m)) (with_field l t (Some (σ.rows v)))) unit_under
 
 -- where the equation of a lack is met, the row lacks the label
-pub lacks_sound : (σ : Grounding) (n : ℕ) (lack : Lack) → IsMet σ (lacks n lack) → IsLacking (moved n σ) lack
-lacks_sound σ n lack met = by_test (has_label row lack.label) (sym (one_under σ lack.label (n + lack.var)) ∙ met.1)
+pub lacks_sound : (σ : Grounding) (place : Variable → ℕ) (lack : Lack) → IsMet σ (lacks place lack) → IsLacking (moved place σ) lack
+lacks_sound σ place lack met = by_test (has_label row lack.label) (sym (one_under σ lack.label (place (variable.Row lack.var))) ∙ met.1)
   where
     row : Row
-    row = σ.rows (n + lack.var)
+    row = σ.rows (place (variable.Row lack.var))
 
     by_test : (b : Bool) → option_map (λ m. known.Fields (fields_of m)) (if b then None else Some (fin.insert row lack.label types.unit)) ≡ Some met.0 → b ≡ false
     by_test true is = cc
     by_test false is = refl
 
 -- where the row lacks the label, the equation is met
-pub lacks_complete : (σ : Grounding) (n : ℕ) (lack : Lack) → IsLacking (moved n σ) lack → IsMet σ (lacks n lack)
-lacks_complete σ n lack lacking = (t, is, is)
+pub lacks_complete : (σ : Grounding) (place : Variable → ℕ) (lack : Lack) → IsLacking (moved place σ) lack → IsMet σ (lacks place lack)
+lacks_complete σ place lack lacking = (t, is, is)
   where
     row : Row
-    row = σ.rows (n + lack.var)
+    row = σ.rows (place (variable.Row lack.var))
 
     t : Ground
     t = known.Fields (fields_of (fin.insert row lack.label types.unit))
 
-    is : under σ (lacks n lack).left ≡ Some t
-    is = one_under σ lack.label (n + lack.var) ∙ ap (λ b. option_map (λ m. known.Fields (fields_of m)) (if b then None else Some (fin.insert row lack.label types.unit))) lacking
+    is : under σ (lacks place lack).left ≡ Some t
+    is = one_under σ lack.label (place (variable.Row lack.var)) ∙ ap (λ b. option_map (λ m. known.Fields (fields_of m)) (if b then None else Some (fin.insert row lack.label types.unit))) lacking
 
 -- ---- functions
 
@@ -220,20 +224,20 @@ never_met σ met = apart met.0 (sym (under_int σ) ∙ met.1) (sym (under_bool �
     apart : (t : Ground) → Some known.Int ≡ Some t → Some known.Bool ≡ Some t → ⊥
     apart t p q = cc
 
-each_lacks_sound : (σ : Grounding) (n : ℕ) (all : List Lack) → Each (IsMet σ) (map (lacks n) all) → Each (IsLacking (moved n σ)) all
-each_lacks_sound σ n [] met = tt
-each_lacks_sound σ n (lack ∷ all) met = (lacks_sound σ n lack met.0, each_lacks_sound σ n all met.1)
+each_lacks_sound : (σ : Grounding) (place : Variable → ℕ) (all : List Lack) → Each (IsMet σ) (map (lacks place) all) → Each (IsLacking (moved place σ)) all
+each_lacks_sound σ place [] met = tt
+each_lacks_sound σ place (lack ∷ all) met = (lacks_sound σ place lack met.0, each_lacks_sound σ place all met.1)
 
-each_lacks_complete : (σ : Grounding) (n : ℕ) (all : List Lack) → Each (IsLacking (moved n σ)) all → Each (IsMet σ) (map (lacks n) all)
-each_lacks_complete σ n [] lacking = tt
-each_lacks_complete σ n (lack ∷ all) lacking = (lacks_complete σ n lack lacking.0, each_lacks_complete σ n all lacking.1)
+each_lacks_complete : (σ : Grounding) (place : Variable → ℕ) (all : List Lack) → Each (IsLacking (moved place σ)) all → Each (IsMet σ) (map (lacks place) all)
+each_lacks_complete σ place [] lacking = tt
+each_lacks_complete σ place (lack ∷ all) lacking = (lacks_complete σ place lack lacking.0, each_lacks_complete σ place all lacking.1)
 
 -- an instance of a scheme with new variables becomes an instance of it
-instance_sound : (σ : Grounding) (n : ℕ) (scheme : Scheme) → Each (IsMet σ) (map (lacks n) scheme.lacks) → IsSome (under σ (renamed n scheme.body))
-    → (t : Ground) × (under σ (renamed n scheme.body) ≡ Some t) × IsInstance (moved n σ) scheme t
-instance_sound σ n scheme met some =
-    let found : (t : Ground) × (under σ (renamed n scheme.body) ≡ Some t) = there_is _ some in
-    (found.0, found.1, record { body = sym (under_renamed n σ scheme.body) ∙ found.1; lacks = each_lacks_sound σ n scheme.lacks met })
+instance_sound : (σ : Grounding) (place : Variable → ℕ) (scheme : Scheme) → Each (IsMet σ) (map (lacks place) scheme.lacks) → IsSome (under σ (renamed place scheme.body))
+    → (t : Ground) × (under σ (renamed place scheme.body) ≡ Some t) × IsInstance (moved place σ) scheme t
+instance_sound σ place scheme met some =
+    let found : (t : Ground) × (under σ (renamed place scheme.body) ≡ Some t) = there_is _ some in
+    (found.0, found.1, record { body = sym (under_renamed place σ scheme.body) ∙ found.1; lacks = each_lacks_sound σ place scheme.lacks met })
 
 -- a function where it is used gets a type at which it may be used by the rules
 pub used_sound : (σ : Grounding) (functions : Named (Entry Ty)) (known_functions : Named (Entry Ground)) (g : Label) (n : ℕ) → Functions σ functions known_functions
@@ -251,65 +255,69 @@ used_sound σ functions known_functions g n are = by_both (named g functions) (n
     by_both (Some (Many scheme)) (Some (One u)) is met some = cc
     by_both (Some (Many scheme)) (Some (Many other)) is met some =
         let one : scheme ≡ other = cc in
-        let found : (t : Ground) × (under σ (renamed n scheme.body) ≡ Some t) × IsInstance (moved n σ) scheme t = instance_sound σ n scheme met some in
+        let found : (t : Ground) × (under σ (renamed (place_from n scheme) scheme.body) ≡ Some t) × IsInstance (moved (place_from n scheme) σ) scheme t = instance_sound σ (place_from n scheme) scheme met some in
         (found.0, found.1, (Many other, refl, subst (λ z. IsUse (Many z) found.0) one (IsUse.instance found.2)))
 
 -- ---- an instance, letter by letter
 
--- what stands for the variables of that grounding, from that number, so many
-abbrev pub letters_of : Grounding → ℕ → ℕ → List Letter
-letters_of τ v zero = []
-letters_of τ v (suc many) = record { plain = τ.plain v; row = τ.rows v; effects = τ.effects v } ∷ letters_of τ (1 + v) many
+-- what the grounding has at the number of a variable
+abbrev letter_at : Grounding → ℕ → Letter
+letter_at τ v = record { plain = τ.plain v; row = τ.rows v; effects = τ.effects v }
 
-as_many : (τ : Grounding) (v many : ℕ) → length (letters_of τ v many) ≡ many
-as_many τ v zero = refl
-as_many τ v (suc many) = ap suc (as_many τ (1 + v) many)
+abbrev letters_of : Grounding → List Variable → List Letter
+letters_of τ xs = map (λ x. letter_at τ (number_of x)) xs
 
--- at variable m of σ stands what stands at variable v of τ
-abbrev AreSame : Grounding → Grounding → ℕ → ℕ → Type 0
-AreSame σ τ m v = (σ.plain m ≡ τ.plain v) × (σ.rows m ≡ τ.rows v) × (σ.effects m ≡ τ.effects v)
+as_many : (τ : Grounding) (xs : List Variable) → length (letters_of τ xs) ≡ length xs
+as_many τ [] = refl
+as_many τ (x ∷ xs) = ap suc (as_many τ xs)
 
-standing : (σ τ : Grounding) (many m v i : ℕ) → Stand σ m (letters_of τ v many) → i < many → AreSame σ τ (m + i) (v + i)
-standing σ τ zero m v i stand below = absurd (omega arith)
-standing σ τ (suc many) m v zero stand below =
-    subst (λ a. AreSame σ τ a (v + zero)) (sym (add-zero m)) (subst (λ a. AreSame σ τ m a) (sym (add-zero v)) (stand.0.plain, stand.0.row, stand.0.effects))
-standing σ τ (suc many) m v (suc i) stand below =
-    subst (λ a. AreSame σ τ a (v + suc i)) (one_on m) (subst (λ a. AreSame σ τ ((1 + m) + i) a) (one_on v) (standing σ τ many (1 + m) (1 + v) i stand.1 (omega arith)))
+-- at number m of σ stands what stands for the variable in τ
+abbrev IsAt : Grounding → Grounding → ℕ → Variable → Type 0
+IsAt σ τ m x = IsLetter σ m (letter_at τ (number_of x))
+
+standing : (σ τ : Grounding) (x : Variable) (xs : List Variable) (m : ℕ) → Stand σ m (letters_of τ xs) → IsThere xs x → IsAt σ τ (m + position_or_len (same_variable x) xs) x
+standing σ τ x [] m stand there = cc
+standing σ τ x (y ∷ ys) m stand there = by_test (same_variable x y) refl there (standing σ τ x ys (1 + m) stand.1)
   where
-    one_on : (k : ℕ) → (1 + k) + i ≡ k + suc i
-    one_on k = omega arith
+    by_test : (b : Bool) → same_variable x y ≡ b → (b || list_any (same_variable x) ys) ≡ true → (IsThere ys x → IsAt σ τ ((1 + m) + position_or_len (same_variable x) ys) x)
+        → IsAt σ τ (m + cond (not b) (1 + position_or_len (same_variable x) ys) 0) x
+    by_test true same there later = subst (λ k. IsAt σ τ k x) (sym (add-zero m)) (subst (IsAt σ τ m) (sym (same_is x y same)) stand.0)
+    by_test false same there later = let further : (1 + m) + position_or_len (same_variable x) ys ≡ m + (1 + position_or_len (same_variable x) ys) = omega arith in
+        subst (λ k. IsAt σ τ k x) further (later there)
 
-module _ (σ τ : Grounding) (n many : ℕ) (stand : Stand σ n (letters_of τ 0 many)) where
-  agree_below : (v : ℕ) → v < many → AreSame (moved n σ) τ v v
-  agree_below v below = subst (λ a. AreSame σ τ (n + v) a) none_more (standing σ τ many n 0 v stand below)
-    where
-      none_more : 0 + v ≡ v
-      none_more = omega arith
+module _ (σ τ : Grounding) (n : ℕ) (xs : List Variable) (stand : Stand σ n (letters_of τ xs)) where
+  abbrev new : Grounding
+  new = moved (place_among n xs) σ
 
-  agree_at : (x : Variable) → number_of x < many → AgreeAt (moved n σ) τ x
-  agree_at (variable.Plain v) below = (agree_below v below).0
-  agree_at (variable.Row v) below = (agree_below v below).1
-  agree_at (variable.Effects v) below = (agree_below v below).2
+  agree_at : (x : Variable) → IsThere xs x → AgreeAt new τ x
+  agree_at (variable.Plain v) there = (standing σ τ (variable.Plain v) xs n stand there).plain
+  agree_at (variable.Row v) there = (standing σ τ (variable.Row v) xs n stand there).row
+  agree_at (variable.Effects v) there = (standing σ τ (variable.Effects v) xs n stand there).effects
 
-  -- the two agree on variables with numbers below
-  agree_all : (xs : List Variable) → beyond (map number_of xs) ≤ many → Each (AgreeAt (moved n σ) τ) xs
-  agree_all [] below = tt
-  agree_all (x ∷ xs) below = (agree_at x (omega arith), agree_all xs (omega arith))
+  -- the two agree on variables that are there
+  agree_all : (ys : List Variable) → Each (IsThere xs) ys → Each (AgreeAt new τ) ys
+  agree_all [] there = tt
+  agree_all (y ∷ ys) there = (agree_at y there.0, agree_all ys there.1)
 
   -- what lacks a label in one lacks it in the other
-  lacking_all : (all : List Lack) → beyond (map (λ lack. lack.var) all) ≤ many → Each (IsLacking τ) all → Each (IsLacking (moved n σ)) all
-  lacking_all [] below lacking = tt
-  lacking_all (lack ∷ all) below lacking =
-      (ap (λ row. has_label row lack.label) (agree_below lack.var (omega arith)).1 ∙ lacking.0, lacking_all all (omega arith) lacking.1)
+  lacking_all : (all : List Lack) → Each (IsThere xs) (map (λ lack. variable.Row lack.var) all) → Each (IsLacking τ) all → Each (IsLacking new) all
+  lacking_all [] there lacking = tt
+  lacking_all (lack ∷ all) there lacking =
+      (ap (λ row. has_label row lack.label) (agree_at (variable.Row lack.var) there.0) ∙ lacking.0, lacking_all all there.1 lacking.1)
 
 -- with these letters the new instance becomes that one
-instance_complete : (σ τ : Grounding) (n : ℕ) (scheme : Scheme) (t : Ground) → Stand σ n (letters_of τ 0 (width scheme)) → IsInstance τ scheme t
-    → OwnMet σ (own (renamed n scheme.body) (map (lacks n) scheme.lacks) (width scheme + n)) (length (letters_of τ 0 (width scheme)) + n) t
-instance_complete σ τ n scheme t stand instance = record {
-  next = ap (λ many. many + n) (sym (as_many τ 0 (width scheme)));
-  equations = each_lacks_complete σ n scheme.lacks (lacking_all σ τ n (width scheme) stand scheme.lacks (le-max_right _ _) instance.lacks);
-  ty = under_renamed n σ scheme.body ∙ agrees (moved n σ) τ scheme.body (agree_all σ τ n (width scheme) stand _ (le-max_left _ _)) ∙ instance.body;
-}
+instance_complete : (σ τ : Grounding) (n : ℕ) (scheme : Scheme) (t : Ground) → Stand σ n (letters_of τ (firsts (scheme_variables scheme))) → IsInstance τ scheme t
+    → OwnMet σ (own (renamed (place_from n scheme) scheme.body) (map (lacks (place_from n scheme)) scheme.lacks) (width scheme + n)) (length (letters_of τ (firsts (scheme_variables scheme))) + n) t
+instance_complete σ τ n scheme t stand instance =
+    let body : List Variable = variables_of scheme.body in
+    let lacking : List Variable = map (λ lack. variable.Row lack.var) scheme.lacks in
+    let xs : List Variable = firsts (body ++ lacking) in
+    let there : Each (IsThere xs) (body ++ lacking) = firsts_have (body ++ lacking) in
+    record {
+      next = ap (λ many. many + n) (sym (as_many τ xs));
+      equations = each_lacks_complete σ (place_from n scheme) scheme.lacks (lacking_all σ τ n xs stand scheme.lacks (each_back (IsThere xs) body lacking there) instance.lacks);
+      ty = under_renamed (place_from n scheme) σ scheme.body ∙ agrees (moved (place_from n scheme) σ) τ scheme.body (agree_all σ τ n xs stand body (each_front (IsThere xs) body lacking there)) ∙ instance.body;
+    }
 
 own_named : (σ : Grounding) (functions : Named (Entry Ty)) (known_functions : Named (Entry Ground)) (g : Label) (t : Ground) → Functions σ functions known_functions
     → named g known_functions ≡ Some (One t) → (own_type : Ty) × (named g functions ≡ Some (One own_type)) × (under σ own_type ≡ Some t)
@@ -345,8 +353,8 @@ used_complete known_functions g t may = by_use may.0 may.1 may.2
           subst (λ o. OwnMet σ (used o n) (0 + n) t) (sym found.1) (record { next = omega arith; equations = tt; ty = found.2 }),
     )
     by_use entry is (IsUse.instance {τ} {scheme} instance) = (
-      letters_of τ 0 (width scheme),
+      letters_of τ (firsts (scheme_variables scheme)),
       λ σ functions n are stand.
-          subst (λ o. OwnMet σ (used o n) (length (letters_of τ 0 (width scheme)) + n) t) (sym (scheme_named σ functions known_functions g scheme are is))
+          subst (λ o. OwnMet σ (used o n) (length (letters_of τ (firsts (scheme_variables scheme))) + n) t) (sym (scheme_named σ functions known_functions g scheme are is))
           (instance_complete σ τ n scheme t stand instance),
     )

@@ -10,6 +10,7 @@ pub mod Lists
 pub mod Meaning
 pub mod Nodes
 pub mod Operators
+pub mod Places
 pub mod Samples
 pub mod SchemeCounts
 pub mod Scopes

@@ -10,10 +10,12 @@ use Rattle.lk_types.specs.declared.ty.Effects.{Effects}
 use Rattle.lk_types.specs.declared.ty.RowTail.TheVariants.{Closed, Var}
 use Rattle.lk_types.specs.declared.ty.Ty.{Ty}
 use Rattle.lk_types.specs.declared.ty.Ty.TheVariants as ty
+use Rattle.lk_types.specs.declared.ty.Variable.{Variable}
+use Rattle.lk_types.specs.declared.ty.Variable.TheVariants as variable
 use Rattle.lk_typing.specs.Heads as head
 use Rattle.lk_typing.specs.Heads.{Head}
 use Rattle.lk_typing.specs.Names.{Named, named, Entry, One, Many, table_named}
-use Rattle.lk_typing.specs.Renamed.{renamed, width}
+use Rattle.lk_typing.specs.Renamed.{place_from, renamed, width}
 use Rattle.lk_typing.specs.Types.{labelled}
 use Rattle.lk_typing.specs.Unknowns.{base, record_of, variant_of, unit, row_of, same, has}
 
@@ -37,14 +39,14 @@ local None n = never n
 local (Some t) n = own t [] n
 
 -- a row variable lacks a label: a record with that label before it is one
-abbrev pub lacks : ℕ → Lack → Equation
-lacks n lack = let r : Ty = record_of ((lack.label, unit) ∷ []) (Var (n + lack.var)) in same r r
+abbrev pub lacks : (Variable → ℕ) → Lack → Equation
+lacks place lack = let r : Ty = record_of ((lack.label, unit) ∷ []) (Var (place (variable.Row lack.var))) in same r r
 
 -- the type of a function where it is used: its own one, or a new instance of its scheme
 abbrev pub used : Option (Entry Ty) → ℕ → Own
 used None n = never n
 used (Some (One t)) n = own t [] n
-used (Some (Many scheme)) n = own (renamed n scheme.body) (map (lacks n) scheme.lacks) (width scheme + n)
+used (Some (Many scheme)) n = own (renamed (place_from n scheme) scheme.body) (map (lacks (place_from n scheme)) scheme.lacks) (width scheme + n)
 
 -- a call of a function of that type
 abbrev pub called : Effects → List Ty → Own → Own

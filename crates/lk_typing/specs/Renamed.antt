@@ -1,6 +1,8 @@
--- An instance of a scheme with new variables: each number in it is moved up by the same amount.
-use Rattle.std.specs.Prelude.{ℕ, ◌+◌, max, List, [], ◌∷◌, map}
-use Rattle.lk_types.specs.Variables.{variables_of}
+-- An instance of a scheme with new variables: its variables, in the order in which they come first, get the next numbers. So it takes
+-- as many numbers as the scheme has variables, whichever numbers these have.
+use Rattle.std.specs.Prelude.{ℕ, ◌+◌, List, ◌++◌, length, map}
+use Rattle.std.specs.List.{position_or_len}
+use Rattle.lk_types.specs.Variables.{firsts, same_variable, variables_of}
 use Rattle.lk_types.specs.declared.scheme.Scheme.{Scheme}
 use Rattle.lk_types.specs.declared.ty.Effects.{Effects}
 use Rattle.lk_types.specs.declared.ty.RowTail.{RowTail}
@@ -13,13 +15,14 @@ use Rattle.lk_types.specs.declared.ty.TyRow.{TyRow, roll-TyRow, fold-TyRow}
 use Rattle.lk_types.specs.declared.ty.Variable.{Variable}
 use Rattle.lk_types.specs.declared.ty.Variable.TheVariants as variable
 
-module _ (n : ℕ) where
-  abbrev pub tail_renamed : RowTail → RowTail
-  tail_renamed Closed = Closed
-  tail_renamed (Var v) = Var (n + v)
+-- the number that each variable gets
+module _ (place : Variable → ℕ) where
+  abbrev pub tail_renamed : (ℕ → Variable) → RowTail → RowTail
+  tail_renamed kind Closed = Closed
+  tail_renamed kind (Var v) = Var (place (kind v))
 
   abbrev pub effects_renamed : Effects → Effects
-  effects_renamed es = record { labels = es.labels; tail = tail_renamed es.tail }
+  effects_renamed es = record { labels = es.labels; tail = tail_renamed variable.Effects es.tail }
 
   abbrev pub ty_renamed : Ty-F Ty TyField TyRow → Ty
   ty_renamed Ty-F.Int = ty.Int
@@ -29,33 +32,35 @@ module _ (n : ℕ) where
   ty_renamed (Ty-F.Fields row) = ty.Fields row
   ty_renamed (Ty-F.Tags row) = ty.Tags row
   ty_renamed (Ty-F.Fun params es answer) = ty.Fun params (effects_renamed es) answer
-  ty_renamed (Ty-F.Var v) = ty.Var (n + v)
+  ty_renamed (Ty-F.Var v) = ty.Var (place (variable.Plain v))
 
   abbrev pub row_renamed : TyRow-F Ty TyField TyRow → TyRow
-  row_renamed row = roll-TyRow (record { fields = row.fields; tail = tail_renamed row.tail })
+  row_renamed row = roll-TyRow (record { fields = row.fields; tail = tail_renamed variable.Row row.tail })
 
   abbrev pub field_renamed : TyField-F Ty TyField TyRow → TyField
   field_renamed f = record { label = f.label; ty = f.ty }
 
-unfoldable pub renamed : ℕ → Ty → Ty
-renamed n = fold-Ty Ty TyField TyRow (ty_renamed n) (field_renamed n) (row_renamed n)
+unfoldable pub renamed : (Variable → ℕ) → Ty → Ty
+renamed place = fold-Ty Ty TyField TyRow (ty_renamed place) (field_renamed place) (row_renamed place)
 
-unfoldable pub renamed_row : ℕ → TyRow → TyRow
-renamed_row n = fold-TyRow Ty TyField TyRow (ty_renamed n) (field_renamed n) (row_renamed n)
+unfoldable pub renamed_row : (Variable → ℕ) → TyRow → TyRow
+renamed_row place = fold-TyRow Ty TyField TyRow (ty_renamed place) (field_renamed place) (row_renamed place)
 
-unfoldable pub renamed_field : ℕ → TyField → TyField
-renamed_field n = fold-TyField Ty TyField TyRow (ty_renamed n) (field_renamed n) (row_renamed n)
+unfoldable pub renamed_field : (Variable → ℕ) → TyField → TyField
+renamed_field place = fold-TyField Ty TyField TyRow (ty_renamed place) (field_renamed place) (row_renamed place)
 
-abbrev pub number_of : Variable → ℕ
-number_of (variable.Plain v) = v
-number_of (variable.Row v) = v
-number_of (variable.Effects v) = v
+-- each variable of the scheme where it stands, and those that lack a label
+abbrev pub scheme_variables : Scheme → List Variable
+scheme_variables scheme = variables_of scheme.body ++ map (λ lack. variable.Row lack.var) scheme.lacks
 
--- more than each of these numbers
-abbrev pub beyond : List ℕ → ℕ
-beyond [] = 0
-beyond (v ∷ vs) = max (1 + v) (beyond vs)
-
--- more than each number of a variable of the scheme
+-- how many numbers an instance takes
 abbrev pub width : Scheme → ℕ
-width scheme = max (beyond (map number_of (variables_of scheme.body))) (beyond (map (λ lack. lack.var) scheme.lacks))
+width scheme = length (firsts (scheme_variables scheme))
+
+-- the place of a variable among others, from n on
+abbrev pub place_among : ℕ → List Variable → Variable → ℕ
+place_among n xs x = n + position_or_len (same_variable x) xs
+
+-- the number of a variable of the scheme in an instance whose first number is n
+abbrev pub place_from : ℕ → Scheme → Variable → ℕ
+place_from n scheme = place_among n (firsts (scheme_variables scheme))

@@ -1,6 +1,8 @@
 -- The types that the values of nodes make of the sides of the equations that the nodes say.
 use Rattle.std.proofs.Common.{◌≡◌, ℕ, zero, suc, ◌<◌, true, inl, inr, List, [], ◌∷◌, length, map, take, Option, Some, refl, sym, ◌∙◌, ap, subst, arith}
+use Rattle.std.proofs.lemmas.List.{take-map, take_all}
 use Rattle.std.specs.Option.{option_map}
+use Rattle.std.specs.Prelude.{IfOk, Result, Ok, Err}
 use Rattle.lk_classes.specs.Classes.{class_at}
 use Rattle.lk_types.specs.Each.{Each}
 use Rattle.lk_types.specs.Solutions.{HasSolution}
@@ -19,7 +21,7 @@ use Rattle.lk_arena.specs.Openings.{Opening, IsOpenMet, opened}
 use Rattle.lk_arena.specs.Order.{IsRanked}
 use Rattle.lk_arena.specs.Values.{Value, Plain}
 use Rattle.lk_arena.specs.declared.counting.Count.{Count}
-use Rattle.lk_unify.specs.Constraints.{matters, AreSides, Makes}
+use Rattle.lk_unify.specs.Constraints.{matters, AreFirstSides, AreSides, Makes}
 use Rattle.lk_unify.specs.InOrder.{IsInOrder}
 use Rattle.lk_unify.specs.Loading.{IsKinded}
 use Rattle.lk_unify.specs.Models.{IsOwn}
@@ -31,6 +33,11 @@ use Rattle.lk_unify.specs.Solving.{AreLoaded, IsSide}
 use Rattle.lk_unify.specs.Solving.{AreSides as AreSideNodes}
 use Rattle.lk_unify.specs.declared.constraint.Sizing.{Sizing}
 use Rattle.lk_unify.specs.declared.loader.Loader.{Loader}
+
+first_each : {A : Type 0} (P : A → Type 0) (n : ℕ) (xs : List A) → Each P xs → Each P (take n xs)
+first_each P zero xs each = tt
+first_each P (suc n) [] each = tt
+first_each P (suc n) (x ∷ xs) each = (each.0, first_each P n xs each.1)
 
 some_once : {A : Type 0} (a b : A) → Some a ≡ Some b → a ≡ b
 some_once a b e = cc
@@ -79,6 +86,22 @@ makes_first ρ (suc k) [] [] makes = tt
 makes_first ρ (suc k) (e ∷ es) (t ∷ ts) makes = (makes.0, makes.1, makes_first ρ k es ts makes.2)
 makes_first ρ (suc k) [] (t ∷ ts) makes = absurd makes
 makes_first ρ (suc k) (e ∷ es) [] makes = absurd makes
+
+types_many : (ρ : Opening) (es : List Equation) (ts : List Ty) → Makes ρ es ts → length ts ≡ length es
+types_many ρ [] [] makes = refl
+types_many ρ (e ∷ es) (t ∷ ts) makes = ap suc (types_many ρ es ts makes.2)
+types_many ρ [] (t ∷ ts) makes = absurd makes
+types_many ρ (e ∷ es) [] makes = absurd makes
+
+-- as many as there are equations are all
+pub all_sides : (es : List Equation) (types : List Ty) → AreFirstSides (length es) es types → AreSides es types
+all_sides es types first =
+    let many : length first.0 ≡ length es = types_many first.1.opening es first.0 first.1.sides in
+    subst (AreSides es) (sym (first.2 ∙ take_all (length es) first.0 (omega (arith, many)))) first.1
+
+pub all_if_ok : {E : Type 0} (es : List Equation) (count : ℕ) (r : Result (List Ty) E) → count ≡ length es → IfOk r (AreFirstSides count es) → IfOk r (AreSides es)
+all_if_ok es count (Ok types) many first = all_sides es types (subst (λ n. AreFirstSides n es types) many first)
+all_if_ok es count (Err e) many first = tt
 
 -- ---- their counts
 
@@ -140,7 +163,7 @@ module _ (l : Loader) (sides : List ℕ) (es : List Equation) (loaded : AreLoade
 
   -- ---- as they are read
 
-  pub sides_can : (numbers : List ℕ) (fuel : ℕ) → length numbers ≡ length l.arena.shapes →
+  sides_can : (numbers : List ℕ) (fuel : ℕ) → length numbers ≡ length l.arena.shapes →
       (rank : ℕ → ℕ) × IsRanked l.arena.shapes l.arena.classes rank × ((i : ℕ) → i < length l.arena.shapes → rank i < fuel) →
       Each (λ n. CanRead l.arena numbers fuel n OfTypes) sides
   sides_can numbers fuel many ranks = all_can sides (sides_below l es sides (whole_sides l sides es loaded)) loaded.types
@@ -162,17 +185,26 @@ module _ (l : Loader) (sides : List ℕ) (es : List Equation) (loaded : AreLoade
         all_can ns below.1 types.1,
       )
 
-  pub read_sides : (name : ℕ → ℕ) (types : List Ty) → HasSolution es → ((kind : ℕ → Kind) → IsKinded l kind → (owner : ℕ → ℕ) × IsNaming l kind name owner) →
-      ((u : ℕ → Value) → IsOwn l.arena.shapes l.arena.classes name u → types ≡ map (λ n. type_in (u n)) sides) → AreSides es types
-  read_sides name types solution names read =
-      let naming : (owner : ℕ → ℕ) × IsNaming l loaded.kind name owner = names loaded.kind loaded.kinded in
-      let o : OwnNodes es = own_by_names l es (says_all l sides es loaded) solution loaded.bound loaded.kind loaded.kinded name naming.0 naming.1 in
-      are_sides o solution types (subst (Makes (its_opening o) es) (sym (read o.values o.own)) (sides_made o es sides (whole_sides l sides es loaded) (own_solves es o)))
+  pub first_can : (count : ℕ) (numbers : List ℕ) (fuel : ℕ) → length numbers ≡ length l.arena.shapes →
+      (rank : ℕ → ℕ) × IsRanked l.arena.shapes l.arena.classes rank × ((i : ℕ) → i < length l.arena.shapes → rank i < fuel) →
+      Each (λ n. CanRead l.arena numbers fuel n OfTypes) (take count sides)
+  first_can count numbers fuel many ranks = first_each (λ n. CanRead l.arena numbers fuel n OfTypes) count sides (sides_can numbers fuel many ranks)
 
-  pub sides_in_order : (name : ℕ → ℕ) (types : List Ty) → HasSolution es → ((kind : ℕ → Kind) → IsKinded l kind → (owner : ℕ → ℕ) × IsNaming l kind name owner) →
-      ((u : ℕ → Value) → IsOwn l.arena.shapes l.arena.classes name u → types ≡ map (λ n. type_in (u n)) sides) → Each IsInOrder types
-  sides_in_order name types solution names read =
+  pub read_first : (count : ℕ) (name : ℕ → ℕ) (types : List Ty) → HasSolution es → ((kind : ℕ → Kind) → IsKinded l kind → (owner : ℕ → ℕ) × IsNaming l kind name owner) →
+      ((u : ℕ → Value) → IsOwn l.arena.shapes l.arena.classes name u → types ≡ map (λ n. type_in (u n)) (take count sides)) → AreFirstSides count es types
+  read_first count name types solution names read =
+      let naming : (owner : ℕ → ℕ) × IsNaming l loaded.kind name owner = names loaded.kind loaded.kinded in
+      let o : OwnNodes es = own_by_names l es (says_all l sides es loaded) solution loaded.bound loaded.kind loaded.kinded name naming.0 naming.1 in (
+        map (type_at o) sides,
+        are_sides o solution (map (type_at o) sides) (sides_made o es sides (whole_sides l sides es loaded) (own_solves es o)),
+        read o.values o.own ∙ sym (take-map (type_at o) count sides),
+      )
+
+  pub first_in_order : (count : ℕ) (name : ℕ → ℕ) (types : List Ty) → HasSolution es → ((kind : ℕ → Kind) → IsKinded l kind → (owner : ℕ → ℕ) × IsNaming l kind name owner) →
+      ((u : ℕ → Value) → IsOwn l.arena.shapes l.arena.classes name u → types ≡ map (λ n. type_in (u n)) (take count sides)) → Each IsInOrder types
+  first_in_order count name types solution names read =
       let naming : (owner : ℕ → ℕ) × IsNaming l loaded.kind name owner = names loaded.kind loaded.kinded in
       let o : OwnNodes es = own_by_names l es (says_all l sides es loaded) solution loaded.bound loaded.kind loaded.kinded name naming.0 naming.1 in
       subst (Each IsInOrder) (sym (read o.values o.own))
-      (types_in_order l.arena.shapes l.arena.classes o.rank name o.values loaded.says.whole.arena o.ranked o.own sides (sides_below l es sides (whole_sides l sides es loaded)))
+      (types_in_order l.arena.shapes l.arena.classes o.rank name o.values loaded.says.whole.arena o.ranked o.own (take count sides)
+      (first_each (λ n. n < length l.arena.shapes) count sides (sides_below l es sides (whole_sides l sides es loaded))))

@@ -32,6 +32,10 @@ pub record AreSides (equations : List Equation) (types : List Ty) : Type 0 where
   pub sides : Makes opening equations types
   pub general : (σ : Grounding) → Solves σ equations → (τ : Grounding) × Each (OpensTo τ opening σ) (equation_variables equations)
 
+-- the first of the types that such a solution makes of the sides
+abbrev pub AreFirstSides : ℕ → List Equation → List Ty → Type 0
+AreFirstSides count equations some = (types : List Ty) × AreSides equations types × (some ≡ take count types)
+
 -- ---- sizes
 
 -- whether a size matters where the last constraint has that sizing

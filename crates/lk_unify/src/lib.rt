@@ -19,7 +19,7 @@ mod small;
 mod solvable;
 mod unifying;
 
-pub use constrained::solve;
+pub use constrained::{solve, solve_first};
 pub use constraint::{Constraint, Sizing};
 pub use solvable::first_unsolvable;
 pub use unifying::{UnifyError, unify};

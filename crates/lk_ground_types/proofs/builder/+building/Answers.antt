@@ -1,10 +1,14 @@
-use Rattle.std.proofs.Common.{sym, ap, ◌∙◌}
+use Rattle.std.proofs.Common.{sym, ap, subst, ◌∙◌}
 use Rattle.std.specs.FinMap as fin
+use Rattle.std.specs.Option.{option_map}
 use Rattle.lk_types.proofs.Unfold.{under_bool, under_int, under_text}
+use Rattle.lk_types.specs.Grounding.{row_under}
+use Rattle.lk_types.specs.Rows.{fields_of}
 use Rattle.lk_types.specs.declared.ty.Ty.TheVariants as ty
 use Rattle.lk_types.specs.declared.ground.Ground.TheVariants as known
 use Rattle.lk_ground_types.proofs.Building.{all_made, build_base, build_function, build_list, build_record, build_variable, build_variant, one_before_built, one_more_made, row_built}
 use Rattle.lk_ground_types.specs.Bound.{grounding_of}
+use Rattle.lk_ground_types.specs.Made.{IsIfThere}
 use Rattle.lk_ground_types.proofs.builder.+building.Goals as goal
 
 pub build_type-returns-in-Int : goal.build_type-returns-in-Int
@@ -16,8 +20,8 @@ build_type-returns-in-Bool t c = build_base _ _ ty.Bool known.Bool (under_bool _
 pub build_type-returns-in-Text : goal.build_type-returns-in-Text
 build_type-returns-in-Text t c = build_base _ _ ty.Text known.Text (under_text _) c.in-Text.is
 
-pub build_type-returns-in_ok-build_boxed-in-List : goal.build_type-returns-in_ok-build_boxed-in-List
-build_type-returns-in_ok-build_boxed-in-List t c = build_list _ _ c.get.result.now _ (c.in-List.is ∙ ap ty.List (sym c.get.ensures)) c.in_ok-build_boxed-in-List.ensures
+pub build_type-returns-in_ok-build_shared-in-List : goal.build_type-returns-in_ok-build_shared-in-List
+build_type-returns-in_ok-build_shared-in-List t c = build_list _ _ c.get.result.now _ (c.in-List.is ∙ ap ty.List (sym c.get.ensures)) c.in_ok-build_shared-in-List.ensures
 
 pub build_type-returns-in_ok-build_row-in-Fields : goal.build_type-returns-in_ok-build_row-in-Fields
 build_type-returns-in_ok-build_row-in-Fields t c = build_record _ _ c.in-Fields.row _ c.in-Fields.is c.in_ok-build_row-in-Fields.ensures
@@ -36,8 +40,9 @@ build_type-returns-in_ok-build_bound-in-Var t c = build_variable _ _ c.in-Var.nu
 
 pub build_row-returns : goal.build_row-returns
 build_row-returns t c =
-    row_built (grounding_of c.args.bindings.now) c.args.row.now c.as_slice.result.now c.in_ok-types.types c.build_fields.new.types _ c.as_slice.ensures c.in_ok-types.ensures
-    c.in_ok-build_fields.ensures c.in_ok-into_fields.ensures
+    subst (IsIfThere (option_map fields_of (row_under (grounding_of c.args.bindings.now) c.args.row.now))) (sym c.in_ok-shared.ensures)
+    (row_built (grounding_of c.args.bindings.now) c.args.row.now c.as_slice.result.now c.in_ok-types.types c.build_fields.new.types _ c.as_slice.ensures c.in_ok-types.ensures
+    c.in_ok-build_fields.ensures c.in_ok-made.ensures)
 
 pub build_all-loop-ty-preserved : goal.build_all-loop-ty-preserved
 build_all-loop-ty-preserved t c =

@@ -1,5 +1,6 @@
 use Rattle.std.proofs.Common.{◌≡◌, ◌∙◌, ◌<◌, ◌≤◌, Err, List, length, get_or, ap, subst, subst₂, sym}
 use Rattle.lk_ast.specs.declared.declaration.Decl.{Decl}
+use Rattle.lk_infer.proofs.OwnLacks.{all_narrow, inferred_own}
 use Rattle.lk_infer.proofs.ProgramAnswers.{nothing_done, one_more, ill_typed_there, not_well_typed_there, too_large_there, has_types, are_principal}
 use Rattle.lk_infer.proofs.program.infer.Goals as goal
 use Rattle.lk_infer.specs.Inferred.{HasTypes}
@@ -61,3 +62,9 @@ returns-clause-in_order c = subst (Each IsSchemeInOrder) (sym c.into_typed.ensur
 
 pub returns-clause-even : goal.returns-clause-even
 returns-clause-even c = subst (Each IsEvenScheme) (sym c.into_typed.ensures.schemes) c.loop-decl.invariant.all_even
+
+pub returns-clause-own_lacks : goal.returns-clause-own_lacks
+returns-clause-own_lacks c = inferred_own (returns-clause-types c)
+
+pub returns-clause-narrow : goal.returns-clause-narrow
+returns-clause-narrow c = all_narrow _ (inferred_own (returns-clause-types c))

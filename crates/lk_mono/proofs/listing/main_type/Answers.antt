@@ -12,6 +12,6 @@ returns-in_default-2 c es answer of =
 
 pub returns : goal.returns
 returns c es answer of =
-    made_is es answer c.push.new.self c.in_ok-effects.effects c.in_ok-answer.field-0 _ c.in-Some.answer (c.in_ok-push.ensures.ok ∙ ap (λ xs. xs ++ known.Text ∷ []) c.new-types.ensures)
-    (c.in_ok-effects.ensures _ (becomes_whole es answer _ c.args.body.now c.none-bindings.ensures of) ∙ effects_are es answer)
+    made_is es answer c.in_ok-params.params c.in_ok-labels.labels c.in_ok-answer.field-0 _ c.in-Some.answer (c.in_ok-params.ensures ∙ c.in_ok-push.ensures.ok ∙ ap (λ xs. xs ++ known.Text ∷ []) c.new-types.ensures)
+    (c.in_ok-labels.ensures ∙ c.in_ok-effects.ensures _ (becomes_whole es answer _ c.args.body.now c.none-bindings.ensures of) ∙ effects_are es answer)
     (c.in_ok-answer.ensures answer (becomes es answer _ c.args.body.now _ _ _ _ c.none-bindings.ensures c.in-Fun.is c.get.ensures of)) c.in-Some.is c.in_ok-new.ensures

@@ -1,23 +1,9 @@
-use Rattle.std.proofs.Common.{◌∙◌, subst}
-use Rattle.std.specs.Prelude.{IfOk}
-use Rattle.lk_unify.proofs.Joined.{joined_by}
+use Rattle.std.proofs.Common.{sym, ◌∙◌}
+use Rattle.std.proofs.lemmas.List.{length-map}
+use Rattle.lk_unify.proofs.SideTypes.{all_if_ok}
 use Rattle.lk_unify.proofs.constrained.solve.Goals as goal
-use Rattle.lk_unify.specs.Constraints.{AllFine, IsFirstLarge, IsFirstUnmet}
+use Rattle.lk_unify.specs.Constraints.{equations_of}
 
-pub returns-clause-fine : goal.returns-clause-fine
-returns-clause-fine c =
-    subst (λ cs. IfOk c.solve_parts.result (λ types. AllFine cs))
-    (joined_by c.as_slice.result.now c.as_slice-2.result.now c.args.constraints (c.as_slice.ensures ∙ c.in_ok-parts.ensures.equations) (c.as_slice-2.ensures ∙ c.in_ok-parts.ensures.sizings))
-    c.solve_parts.ensures.fine
-
-pub returns-clause-unmet : goal.returns-clause-unmet
-returns-clause-unmet c k is =
-    subst (λ cs. IsFirstUnmet cs k)
-    (joined_by c.as_slice.result.now c.as_slice-2.result.now c.args.constraints (c.as_slice.ensures ∙ c.in_ok-parts.ensures.equations) (c.as_slice-2.ensures ∙ c.in_ok-parts.ensures.sizings))
-    (c.solve_parts.ensures.unmet k is)
-
-pub returns-clause-large : goal.returns-clause-large
-returns-clause-large c k is =
-    subst (λ cs. IsFirstLarge cs k)
-    (joined_by c.as_slice.result.now c.as_slice-2.result.now c.args.constraints (c.as_slice.ensures ∙ c.in_ok-parts.ensures.equations) (c.as_slice-2.ensures ∙ c.in_ok-parts.ensures.sizings))
-    (c.solve_parts.ensures.large k is)
+pub returns-clause-sides : goal.returns-clause-sides
+returns-clause-sides c =
+    all_if_ok (equations_of c.args.constraints) c.len-count.result c.solve_first.result (c.len-count.ensures ∙ sym (length-map c.args.constraints (λ it. it.equation))) c.solve_first.ensures.sides

@@ -1,4 +1,4 @@
-use Rattle.std.proofs.Common.{sym, ap, subst, ◌∙◌, [], take, get_or, cond, Some, is_some, if◌then◌else◌, ◌+◌}
+use Rattle.std.proofs.Common.{length, sym, ap, subst, ◌∙◌, [], take, get_or, cond, Some, is_some, if◌then◌else◌, ◌+◌}
 use Rattle.std.proofs.lemmas.List.{take_all}
 use Rattle.std.proofs.lemmas.List.Sums.{fold_more}
 use Rattle.std.specs.BTreeMap.{get, is_at, btree_map_len}
@@ -23,5 +23,8 @@ loop-variable-preserved c =
     (λ q. c.in_ok-insert.ensures.updates.0 q ∙ ap (λ n. cond (is_at (cmp-value.it x) q) (Some n) (get cmp-value.it before.numbers q)) c.number-number.ensures)
     (c.in_ok-insert.ensures.len ∙ ap (λ old. btree_map_len before.numbers + (if is_some old then 0 else 1)) c.in_ok-insert.ensures.old))
 
-pub returns : goal.returns
-returns c x = number_is c.loop-variable.names _ c.loop-variable.invariant x ∙ ap (λ xs. number_in (firsts xs) x) (take_all _ c.args.variables.now c.loop-variable-test.false)
+pub returns-clause-numbers : goal.returns-clause-numbers
+returns-clause-numbers c x = number_is c.loop-variable.names _ c.loop-variable.invariant x ∙ ap (λ xs. number_in (firsts xs) x) (take_all _ c.args.variables.now c.loop-variable-test.false)
+
+pub returns-clause-count : goal.returns-clause-count
+returns-clause-count c = c.loop-variable.invariant.count ∙ ap (λ xs. length (firsts xs)) (take_all _ c.args.variables.now c.loop-variable-test.false)
