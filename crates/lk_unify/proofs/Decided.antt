@@ -29,7 +29,7 @@ module _ (l : Loader) (sides : List ℕ) (es : List Equation) (loaded : AreLoade
 
 -- ---- halving
 
-any_solution : HasSolution []
+pub any_solution : HasSolution []
 any_solution = (record { plain = λ n. known.Int; rows = λ n. no_fields; effects = λ n. no_effects }, tt)
 
 pub none_solved : (es : List Equation) → HasSolution (take 0 es)

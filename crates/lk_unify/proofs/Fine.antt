@@ -1,13 +1,13 @@
 -- How large the sides of equations are under what is read back of the nodes. Where each end of a row counts one no side gets smaller
--- by more equations, so that one look at the whole list can be enough.
-use Rattle.std.proofs.Common.{◌≡◌, ℕ, ◌+◌, ◌<◌, ◌≤◌, List, [], ◌∷◌, inl, inr, length, map, take, Some, sym, ◌∙◌, ap, subst, arith}
+-- by more equations.
+use Rattle.std.proofs.Common.{◌≡◌, ℕ, ◌+◌, ◌<◌, ◌≤◌, List, inl, inr, map, take, Some, sym, ◌∙◌, ap, subst, arith}
 use Rattle.std.specs.FinMap as fin
 use Rattle.std.specs.Option.{option_map}
 use Rattle.lk_types.proofs.Unfold.{nodes_variable}
-use Rattle.lk_types.specs.Each.{Each}
+use Rattle.lk_types.specs.Each.{Each, OneOf}
 use Rattle.lk_types.specs.Rows.{Label}
-use Rattle.lk_types.specs.Sizes.{nodes, row_nodes_with, effects_nodes, nodes_with, one, size_of_image, image_size, size_under, most_nodes, IsWithin, IsBeyond, IsFine, IsTooLarge, AreSmall}
-use Rattle.lk_types.specs.Solutions.{HasSolution, IsMet}
+use Rattle.lk_types.specs.Sizes.{nodes, row_nodes_with, effects_nodes, nodes_with, one, size_of_image, image_size, size_under, most_nodes, IsWithin, IsBeyond, IsFine, IsTooLarge}
+use Rattle.lk_types.specs.Solutions.{HasSolution}
 use Rattle.lk_types.specs.declared.equation.Equation.{Equation}
 use Rattle.lk_types.specs.declared.equation.Subst.{Subst}
 use Rattle.lk_types.specs.declared.ty.RowTail.TheVariants.{Var}
@@ -32,8 +32,8 @@ use Rattle.lk_unify.specs.Nodes.{count, value_count}
 use Rattle.lk_arena.specs.Openings.{Opening, IsOpenMet, opened, only_tail, row_type, effects_type, field_type}
 use Rattle.lk_unify.specs.Reading.{opening_by, subst_by}
 use Rattle.lk_arena.specs.Shapes.{FitsNodes, WeakNodes}
-use Rattle.lk_unify.specs.Small.{OwnNodes, IsSideOf, AreWithin, HasBeyond}
-use Rattle.lk_unify.specs.Solving.{HasNodes, AreSides, IsSide}
+use Rattle.lk_unify.specs.Small.{OwnNodes}
+use Rattle.lk_unify.specs.Solving.{HasNodes, IsSide}
 use Rattle.lk_arena.specs.Values.{Value, Plain}
 
 some_once : {A : Type 0} (a b : A) → Some a ≡ Some b → a ≡ b
@@ -57,6 +57,10 @@ module _ (s : Subst) (ρ : Opening) where
   size_is : ((x : Variable) → PutsAt s ρ x) → (t u : Ty) → opened ρ t ≡ Some u → size_under s t ≡ count 0 u
   size_is puts t u is = (λ i. nodes_with (λ x. same_size x (puts x) i) t) ∙ sym (opened_nodes ρ t u is) ∙ sym (count_nodes u)
 
+-- the type that both sides become has so many nodes
+abbrev pub IsSideOf : {equations : List Equation} → OwnNodes equations → (ℕ → Type 0) → Equation → Type 0
+IsSideOf o P e = (t : Ty) × (opened (opening_by o.loader o.values) e.left ≡ Some t) × P (count 0 t)
+
 module _ (es : List Equation) (o : OwnNodes es) where
   sizes_are : (e : Equation) (t : Ty) → IsOpenMet (opening_by o.loader o.values) e → opened (opening_by o.loader o.values) e.left ≡ Some t →
       (size_under (subst_by o.loader o.values) e.left ≡ count 0 t) × (size_under (subst_by o.loader o.values) e.right ≡ count 0 t)
@@ -66,34 +70,31 @@ module _ (es : List Equation) (o : OwnNodes es) where
         size_is (subst_by o.loader o.values) (opening_by o.loader o.values) (puts_at o.loader o.values) e.right t (met.2 ∙ ap Some same),
       )
 
-  its_within : (e : Equation) → IsSideOf o 0 (λ n. n ≤ most_nodes) e → IsOpenMet (opening_by o.loader o.values) e → IsWithin (subst_by o.loader o.values) e
+  its_within : (e : Equation) → IsSideOf o (λ n. n ≤ most_nodes) e → IsOpenMet (opening_by o.loader o.values) e → IsWithin (subst_by o.loader o.values) e
   its_within e side met =
       let sizes = sizes_are e side.0 met side.1 in
       (subst (λ n. n ≤ most_nodes) (sym sizes.0) side.2, subst (λ n. n ≤ most_nodes) (sym sizes.1) side.2)
 
-  its_beyond : (e : Equation) → IsSideOf o 0 (λ n. most_nodes < n) e → IsOpenMet (opening_by o.loader o.values) e → IsBeyond (subst_by o.loader o.values) e
+  its_beyond : (e : Equation) → IsSideOf o (λ n. most_nodes < n) e → IsOpenMet (opening_by o.loader o.values) e → IsBeyond (subst_by o.loader o.values) e
   its_beyond e side met = inl (subst (λ n. most_nodes < n) (sym (sizes_are e side.0 met side.1).0) side.2)
 
-pub fine : (es : List Equation) → AreWithin 0 es → HasSolution es → IsFine es
-fine es within solution =
-    let o = within.0 in (
-      subst_by o.loader o.values,
-      solution_of es o solution,
-      Each-zip (IsSideOf o 0 (λ n. n ≤ most_nodes)) (IsOpenMet (opening_by o.loader o.values)) (IsWithin (subst_by o.loader o.values)) (its_within es o) es within.1 (own_solves es o),
-    )
+  -- no side has more nodes than a type may have
+  pub fine : Each (IsSideOf o (λ n. n ≤ most_nodes)) es → HasSolution es → IsFine es
+  fine within solution = (
+    subst_by o.loader o.values,
+    solution_of es o solution,
+    Each-zip (IsSideOf o (λ n. n ≤ most_nodes)) (IsOpenMet (opening_by o.loader o.values)) (IsWithin (subst_by o.loader o.values)) its_within es within (own_solves es o),
+  )
 
-pub too_large : (es : List Equation) → HasBeyond 0 es → HasSolution es → IsTooLarge es
-too_large es beyond solution =
-    let o = beyond.0 in (
-      subst_by o.loader o.values,
-      solution_of es o solution,
-      OneOf-with (IsSideOf o 0 (λ n. most_nodes < n)) (IsOpenMet (opening_by o.loader o.values)) (IsBeyond (subst_by o.loader o.values)) (its_beyond es o) es beyond.1 (own_solves es o),
-    )
+  -- some side has more
+  pub too_large : OneOf (IsSideOf o (λ n. most_nodes < n)) es → HasSolution es → IsTooLarge es
+  too_large beyond solution = (
+    subst_by o.loader o.values,
+    solution_of es o solution,
+    OneOf-with (IsSideOf o (λ n. most_nodes < n)) (IsOpenMet (opening_by o.loader o.values)) (IsBeyond (subst_by o.loader o.values)) its_beyond es beyond (own_solves es o),
+  )
 
 -- ---- the first equations
-
-pub first_solution : (k : ℕ) (es : List Equation) → HasSolution es → HasSolution (take k es)
-first_solution k es solution = (solution.0, each_first (IsMet solution.0) k es solution.1)
 
 module _ (es : List Equation) (o : OwnNodes es) (k : ℕ) (part : HasNodes (take k es)) (solution : HasSolution (take k es)) where
   abbrev pub p : OwnNodes (take k es)
@@ -123,24 +124,3 @@ module _ (es : List Equation) (o : OwnNodes es) (k : ℕ) (part : HasNodes (take
       let theirs : value_count 1 OfTypes (values.0 n) ≡ count 1 u = ap (value_count 1 OfTypes) (side_value values.0 ρ e n u side weak_values values.2 whole) in
       let open_ends = count_below t in
       omega arith
-
-  within_first : (xs : List Equation) (ns : List ℕ) → AreSides part.loader xs ns → Each (λ n. part.kind n ≡ OfTypes) ns → Each (IsSideOf o 1 (λ n. n ≤ most_nodes)) xs →
-      Each (IsOpenMet (opening_by p.loader p.values)) xs → Each (IsSideOf p 0 (λ n. n ≤ most_nodes)) xs
-  within_first [] [] sides types within met = tt
-  within_first (e ∷ xs) (n ∷ ns) sides types within met =
-      let below = side_below e n met.0.0 within.0.0 sides.0 types.0 met.0.1 within.0.1 in
-      let bound = within.0.2 in
-      ((met.0.0, met.0.1, omega arith), within_first xs ns sides.1 types.1 within.1 met.1)
-  within_first [] (n ∷ ns) sides types within met = absurd sides
-  within_first (e ∷ xs) [] sides types within met = absurd sides
-
-  pub first_within : Each (IsSideOf o 1 (λ n. n ≤ most_nodes)) es → AreWithin 0 (take k es)
-  first_within within = (
-    p,
-    within_first (take k es) part.sides part.sides_are part.types (each_first (IsSideOf o 1 (λ n. n ≤ most_nodes)) k es within) (own_solves (take k es) p),
-  )
-
--- where no side is too large though each end counts one, all first parts are small
-pub all_small : (es : List Equation) → AreWithin 1 es → HasSolution es → ((j : ℕ) → j ≤ length es → HasNodes (take j es)) → AreSmall es
-all_small es within solution nodes k h =
-    fine (take k es) (first_within es within.0 k (nodes k h) (first_solution k es solution) within.1) (first_solution k es solution)

@@ -1,90 +1,68 @@
--- The first of constraints: which of their first parts are fine, and what is first of theirs is first of all.
-use Rattle.std.proofs.Common.{◌≡◌, ℕ, zero, suc, ◌+◌, ◌<◌, ◌≤◌, ⊎_elim, List, [], ◌∷◌, length, take, get_or, Some, sym, ◌∙◌, ap, subst, arith}
-use Rattle.std.proofs.lemmas.Bool.{cases_eq}
-use Rattle.std.proofs.lemmas.List.{take_all, length-take-le}
+-- The first of constraints whose equations and sizings are lists of their own: which of their first parts make no size too large that
+-- matters, and what is first of theirs is first of all.
+use Rattle.std.proofs.Common.{◌≡◌, ℕ, ◌+◌, ◌<◌, ◌≤◌, List, [], length, map, take, get_or, Option, Some, None, sym, ◌∙◌, ap, subst, arith}
+use Rattle.std.proofs.lemmas.List.{length-take-le, take_all}
+use Rattle.std.specs.Prelude.{IfNone, IfSome}
 use Rattle.lk_types.specs.Solutions.{HasSolution}
 use Rattle.lk_types.specs.declared.equation.Equation.{Equation}
-use Rattle.lk_unify.proofs.Decided.{none_solved}
-use Rattle.lk_unify.proofs.FineSides.{all_fine, fine_by, large_by}
-use Rattle.lk_unify.proofs.Firsts.{first_of_first, solution_first}
-use Rattle.lk_unify.proofs.Joined.{end_first, equations_first, joined_first, joined_length, sizings_first}
-use Rattle.lk_unify.proofs.SideCounts.{by_late}
-use Rattle.lk_arena.specs.Openings.{as_opening}
-use Rattle.lk_unify.specs.Constraints.{end_of, equations_of, matters, AllFine, AreFine, AreLarge, AreSides, IsFirstLarge, IsFirstUnmet}
-use Rattle.lk_unify.specs.SideSizes.{is_late, joined, last_by, sizings_of, HasFew, HasMany}
-use Rattle.lk_unify.specs.Solving.{HasNodes, IsFirstWithout}
+use Rattle.lk_unify.proofs.Decided.{any_solution}
+use Rattle.lk_unify.proofs.FineSides.{all_few}
+use Rattle.lk_unify.proofs.FineSides as sides
+use Rattle.lk_unify.proofs.Firsts.{all_first, first_of_first, none_first, one_more, solution_first}
+use Rattle.lk_unify.proofs.Joined.{end_first, equations_first, equations_joined, joined_first, joined_length, sizings_first, sizings_joined}
+use Rattle.lk_unify.proofs.SideCounts.{beyond_more, by_late, within_less}
+use Rattle.lk_unify.proofs.SideTypes.{has_few, has_many, own_sides}
+use Rattle.lk_unify.proofs.Within.{loaded_first, own_of_nodes}
+use Rattle.lk_unify.specs.Constraints.{end_of, equations_of, matters, AllFine, AreLarge, IsFirstLarge, IsFirstUnmet}
+use Rattle.lk_unify.specs.Nodes.{count}
+use Rattle.lk_unify.specs.SideSizes.{is_late, joined, last_by, sizings_of, AllMakeFew, CountFew, CountMany, HasFew, HasMany, IsFirstMany, MakeFew}
+use Rattle.lk_unify.specs.Solving.{AreLoaded, HasNodes, IsFirstWithout}
 use Rattle.lk_unify.specs.declared.constraint.Constraint.{Constraint}
 use Rattle.lk_unify.specs.declared.constraint.Sizing.{Sizing}
 use Rattle.lk_unify.specs.declared.constraint.Sizing.TheVariants.{Late}
+use Rattle.lk_unify.specs.declared.solvable.Loaded.{Loaded}
 
-length_first : (cs : List Constraint) (k : ℕ) → length (take k cs) ≤ k
-length_first cs zero = omega arith
-length_first [] (suc k) = omega arith
-length_first (c ∷ cs) (suc k) = let ih = length_first cs k in omega arith
+pub if_none : {A P Q : Type 0} → (P → Q) → (o : Option A) → IfNone o P → IfNone o Q
+if_none f None is = f is
+if_none f (Some a) is = tt
 
--- ---- lists of constraints
+pub if_some : {A : Type 0} {P Q : A → Type 0} → ((a : A) → P a → Q a) → (o : Option A) → IfSome o P → IfSome o Q
+if_some f None is = tt
+if_some f (Some a) is = f a is
 
-pub fine_first : (cs : List Constraint) (j k : ℕ) → j ≤ k → k ≤ length cs → AllFine (take k cs) → AreFine (take j cs)
-fine_first cs j k h within fine =
-    let l : length (take k cs) ≡ k = length-take-le k cs within in
-    subst AreFine (first_of_first cs j k h) (fine j (omega arith))
-
-pub fine_of_first : (cs : List Constraint) (k : ℕ) → ((j : ℕ) → j ≤ k → AreFine (take j cs)) → AllFine (take k cs)
-fine_of_first cs k all j h =
-    let l = length_first cs k in
-    let m : j ≤ k = omega arith in
-    subst AreFine (sym (first_of_first cs j k m)) (all j m)
-
-no_sides : AreSides [] []
-no_sides = record { some = none_solved []; opening = as_opening (none_solved []).0; sides = tt; general = λ σ solves. (σ, tt) }
-
-pub none_fine : (cs : List Constraint) → AllFine (take 0 cs)
-none_fine cs zero h = ([], no_sides, tt)
-none_fine cs (suc j) h = absurd (omega arith)
-
--- one constraint more
-pub more_fine : (cs : List Constraint) (k : ℕ) → k < length cs → AllFine (take k cs) → AreFine (take (k + 1) cs) → AllFine (take (k + 1) cs)
-more_fine cs k below fine last =
-    fine_of_first cs (k + 1)
-    (λ j h.
-    ⊎_elim
-    (λ (e : j ≡ k + 1). subst (λ n. AreFine (take n cs)) (sym e) last)
-    (λ (ne : j ≡ k + 1 → ⊥). fine_first cs j k (omega arith) (omega arith) fine)
-    (cases_eq j (k + 1)))
-
--- ---- lists of equations and sizings
+-- no constraints make none too large
+pub none_few : HasNodes [] → (cs : List Constraint) → AllMakeFew (take 0 cs)
+none_few nodes cs = none_first MakeFew cs (own_sides (own_of_nodes nodes any_solution) [] tt, tt)
 
 module _ (es : List Equation) (ss : List Sizing) (same : length ss ≡ length es) where
   abbrev cs : List Constraint
   cs = joined es ss
 
-  pub none_are_fine : AllFine (take 0 (joined es ss))
-  none_are_fine = none_fine cs
+  solved : HasSolution es → HasSolution (equations_of cs)
+  solved solution = subst HasSolution (sym (equations_joined es ss same)) solution
 
-  pub some_are_fine : (n : ℕ) → HasFew 1 (Some Late) (take n es) (take n ss) → HasSolution es → ((j : ℕ) → j ≤ length (take n es) → HasNodes (take j (take n es))) → AllFine (take n (joined es ss))
-  some_are_fine n has solution nodes =
-      let equations = sym (equations_first es ss n same) in
-      all_fine (take n cs)
-      (subst (λ es. HasFew 1 (Some Late) es (sizings_of (take n cs))) equations (subst (λ ss. HasFew 1 (Some Late) (take n es) ss) (sym (sizings_first es ss n same)) has))
-      (subst HasSolution equations (solution_first es n solution))
-      (subst (λ es. (j : ℕ) → j ≤ length es → HasNodes (take j es)) equations nodes)
-
-  pub whole_is_fine : HasFew 1 (Some Late) es ss → HasSolution es → ((j : ℕ) → j ≤ length es → HasNodes (take j es)) → AllFine (take (length es) (joined es ss))
-  whole_is_fine has solution nodes =
-      some_are_fine (length es)
-      (subst (λ all. HasFew 1 (Some Late) all (take (length es) ss)) (sym all_equations) (subst (λ ss. HasFew 1 (Some Late) es ss) (sym all_sizings) has)) solution
-      (subst (λ es. (j : ℕ) → j ≤ length es → HasNodes (take j es)) (sym all_equations) nodes)
+  -- of all that are loaded none has one too large, though each end counts one
+  pub surely : (all : Loaded) → AreLoaded all.loader all.sides es (length es) → HasSolution es → CountFew 1 (Some Late) all ss → AllMakeFew (joined es ss)
+  surely all loaded solution counted =
+      all_few cs
+      (subst (λ es. HasFew 1 (Some Late) es (sizings_of cs)) equations (subst (λ ss. HasFew 1 (Some Late) es ss) (sym (sizings_joined es ss same))
+      (has_few all.loader all.sides es loaded solution 1 counted.0 counted.1 (Some Late) ss counted.2)))
+      (solved solution)
+      (subst (λ es. (j : ℕ) → j ≤ length es → HasNodes (take j es)) equations loaded.before)
     where
-      all_equations : take (length es) es ≡ es
-      all_equations = take_all (length es) es (omega arith)
+      equations : es ≡ equations_of cs
+      equations = sym (equations_joined es ss same)
 
-      all_sizings : take (length es) ss ≡ ss
-      all_sizings = take_all (length es) ss (omega arith)
+  pub whole_few : AllMakeFew (joined es ss) → AllMakeFew (take (length es) (joined es ss))
+  whole_few few = subst AllMakeFew (sym (take_all (length es) cs (let l = joined_length es ss same in omega arith))) few
 
-  pub all_are_fine : (k : ℕ) → k ≤ length es → length es ≤ k → AllFine (take k (joined es ss)) → AllFine (joined es ss)
-  all_are_fine k within end fine = subst AllFine (take_all k cs (let l = joined_length es ss same in omega arith)) fine
+  pub all_are_few : (k : ℕ) → length es ≤ k → AllMakeFew (take k (joined es ss)) → AllMakeFew (joined es ss)
+  all_are_few k end few = all_first MakeFew cs k (let l = joined_length es ss same in omega arith) few
 
-  module _ (k : ℕ) (below : k < length es) (solution : HasSolution es) (fine : AllFine (take k (joined es ss))) (d : Sizing) where
+  -- ---- one more is loaded
+
+  module _ (k : ℕ) (below : k < length es) (solution : HasSolution es) (few : AllMakeFew (take k (joined es ss))) (d : Sizing) (all : Loaded)
+      (loaded : AreLoaded all.loader all.sides es (k + 1)) where
     abbrev pub s : Sizing
     s = get_or ss k d
 
@@ -97,25 +75,40 @@ module _ (es : List Equation) (ss : List Sizing) (same : length ss ≡ length es
     below_all : k < length cs
     below_all = let l = joined_length es ss same in omega arith
 
-    part : HasSolution (equations_of (take (k + 1) cs))
-    part = subst HasSolution (sym (equations_first es ss (k + 1) same)) (solution_first es (k + 1) solution)
+    abbrev part : AreLoaded all.loader all.sides (take (k + 1) es) (length (take (k + 1) es))
+    part = loaded_first all.loader all.sides es (k + 1) (omega arith) loaded
 
-    pub one_more_fine : HasFew 0 (last_by (is_late s)) (take (k + 1) es) (take (k + 1) ss) → AllFine (take (k + 1) (joined es ss))
-    one_more_fine has =
-        more_fine cs k below_all fine
-        (fine_by (take (k + 1) cs) (last_by (is_late s)) part (λ t e. sym (matters_as t) ∙ e)
-        (subst (λ es. HasFew 0 (last_by (is_late s)) es (sizings_of (take (k + 1) cs))) (sym (equations_first es ss (k + 1) same))
-        (subst (λ ss. HasFew 0 (last_by (is_late s)) (take (k + 1) es) ss) (sym (sizings_first es ss (k + 1) same)) has)))
+    pub one_more_few : CountFew 0 (last_by (is_late s)) all (take (k + 1) ss) → AllMakeFew (take (k + 1) (joined es ss))
+    one_more_few counted =
+        let has : HasFew 0 (last_by (is_late s)) (take (k + 1) es) (take (k + 1) ss) =
+        has_few all.loader all.sides (take (k + 1) es) part (solution_first es (k + 1) solution) 0 counted.0 counted.1 (last_by (is_late s)) (take (k + 1) ss) counted.2 in
+        let here : HasFew 0 (end_of (take (k + 1) cs)) (take (k + 1) es) (take (k + 1) ss) =
+        (has.0, within_less (last_by (is_late s)) (end_of (take (k + 1) cs)) (λ t m. sym (matters_as t) ∙ m) (take (k + 1) ss) (map (count 0) has.0.types) has.1) in
+        one_more MakeFew cs k below_all few
+        (subst (λ es. HasFew 0 (end_of (take (k + 1) cs)) es (sizings_of (take (k + 1) cs))) (sym (equations_first es ss (k + 1) same))
+        (subst (λ ss. HasFew 0 (end_of (take (k + 1) cs)) (take (k + 1) es) ss) (sym (sizings_first es ss (k + 1) same)) here))
 
-    pub first_is_large : HasMany 0 (last_by (is_late s)) (take (k + 1) es) (take (k + 1) ss) → IsFirstLarge (joined es ss) k
-    first_is_large has = record {
-      within = below_all;
-      fine = fine;
-      large =
-          large_by (take (k + 1) cs) (last_by (is_late s)) part (λ t e. matters_as t ∙ e)
-          (subst (λ es. HasMany 0 (last_by (is_late s)) es (sizings_of (take (k + 1) cs))) (sym (equations_first es ss (k + 1) same))
-          (subst (λ ss. HasMany 0 (last_by (is_late s)) (take (k + 1) es) ss) (sym (sizings_first es ss (k + 1) same)) has));
-    }
+    pub first_many : CountMany 0 (last_by (is_late s)) all (take (k + 1) ss) → IsFirstMany (joined es ss) k
+    first_many counted =
+        let has : HasMany 0 (last_by (is_late s)) (take (k + 1) es) (take (k + 1) ss) =
+        has_many all.loader all.sides (take (k + 1) es) part (solution_first es (k + 1) solution) 0 counted.0 counted.1 (last_by (is_late s)) (take (k + 1) ss) counted.2 in
+        let here : HasMany 0 (end_of (take (k + 1) cs)) (take (k + 1) es) (take (k + 1) ss) =
+        (has.0, beyond_more (end_of (take (k + 1) cs)) (last_by (is_late s)) (λ t m. matters_as t ∙ m) (take (k + 1) ss) (map (count 0) has.0.types) has.1) in
+        record {
+          within = below_all;
+          few = few;
+          many =
+              subst (λ es. HasMany 0 (end_of (take (k + 1) cs)) es (sizings_of (take (k + 1) cs))) (sym (equations_first es ss (k + 1) same))
+              (subst (λ ss. HasMany 0 (end_of (take (k + 1) cs)) (take (k + 1) es) ss) (sym (sizings_first es ss (k + 1) same)) here);
+        }
+
+  -- ---- which are fine
+
+  pub all_fine : HasSolution es → AllMakeFew (joined es ss) → AllFine (joined es ss)
+  all_fine solution few = sides.all_fine cs (solved solution) few
+
+  pub first_large : HasSolution es → (k : ℕ) → IsFirstMany (joined es ss) k → IsFirstLarge (joined es ss) k
+  first_large solution k first = sides.first_large cs k (solved solution) first
 
   -- ---- what is first of the first is first of all
 

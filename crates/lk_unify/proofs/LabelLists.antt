@@ -1,5 +1,5 @@
 -- The labels in a type, on each form of type: where the parts are in order, and the labels of the form itself, the whole is.
-use Rattle.std.proofs.Common.{◌≡◌, ℕ, Bool, true, ◌&&◌, List, [], ◌∷◌, ◌++◌, map, flat_map, refl, sym, ◌∙◌, ap, ap₂, subst}
+use Rattle.std.proofs.Common.{◌≡◌, ℕ, Bool, true, ◌&&◌, List, [], ◌∷◌, ◌++◌, map, flat_map, refl, sym, ap, ap₂, subst}
 use Rattle.std.proofs.lemmas.List.Kept.{IsStrictlySortedBy-filter}
 use Rattle.std.specs.FinMap as fin
 use Rattle.std.specs.List.{AllByRecursion}
@@ -24,7 +24,7 @@ use Rattle.lk_types.specs.declared.ty.Ty.TheVariants as ty
 use Rattle.lk_types.specs.declared.ty.TyField.{TyField}
 use Rattle.lk_types.specs.declared.ty.TyRow.{TyRow, roll-TyRow}
 use Rattle.lk_arena.specs.Openings.{OpenRow, OpenEffects, field_type, row_type, effects_type}
-use Rattle.lk_unify.specs.InOrder.{Labels, LabelledField, labels_in, labels_in_row, labels_in_field, AreSorted, IsInOrder}
+use Rattle.lk_unify.specs.InOrder.{LabelledField, labels_in, labels_in_row, labels_in_field, AreSorted, IsInOrder}
 
 -- ---- equations
 

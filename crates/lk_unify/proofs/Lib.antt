@@ -53,6 +53,7 @@ pub mod RowsBefore
 pub mod Shaping
 pub mod SideCounts
 pub mod SideTypes
+pub mod SmallSides
 pub mod Solved
 pub mod SolvedForm
 pub mod Solving

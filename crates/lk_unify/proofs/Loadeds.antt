@@ -13,8 +13,9 @@ use Rattle.lk_unify.proofs.Solving.{bound_still}
 use Rattle.lk_arena.specs.Kinds.{Kind, OfTypes}
 use Rattle.lk_unify.specs.Loading.{node_for, IsKinded, SameKinds}
 use Rattle.lk_arena.specs.Openings.{IsOpenMet, OpenSolves, as_opening}
-use Rattle.lk_unify.specs.Solving.{Says, HasNodes, AddsEquation, AreBound, AreLoaded, AreSides, IsSide, IsStart, NeverMeets}
+use Rattle.lk_unify.specs.Solving.{Says, HasNodes, AddsEquation, AddsSide, AreBound, AreLoaded, AreSides, IsSide, IsStart, NeverMeets}
 use Rattle.lk_unify.specs.declared.loader.Loader.{Loader}
+use Rattle.lk_unify.specs.declared.solvable.Loaded.{Loaded}
 
 -- ---- the first of a list
 
@@ -149,6 +150,11 @@ loaded_more old new sides es k e node below at loaded adds = record {
     types : Each (λ n. kinds.0 n ≡ OfTypes) (sides ++ node ∷ [])
     types = types_more old new e node adds loaded.kind kinds.0 kinds.1 kinds.3 sides (sides_below old (take k es) sides loaded.sides_are) loaded.types
 
+pub loaded_side : (old new : Loaded) (es : List Equation) (k : ℕ) (e : Equation) → k < length es → e ≡ get_or es k e → AreLoaded old.loader old.sides es k → AddsSide old new e →
+    AreLoaded new.loader new.sides es (k + 1)
+loaded_side old new es k e below at loaded adds =
+    subst (λ sides. AreLoaded new.loader sides es (k + 1)) (sym adds.2) (loaded_more old.loader new.loader old.sides es k e adds.0 below at loaded adds.1)
+
 -- with an equation that what fits doesn't meet there is no solution
 pub loaded_stops : (l : Loader) (sides : List ℕ) (es : List Equation) (k : ℕ) (e : Equation) → k < length es → e ≡ get_or es k e → AreLoaded l sides es k → NeverMeets l e → HasSolution (take (k + 1) es) → ⊥
 loaded_stops l sides es k e below at loaded never solution =
@@ -158,6 +164,3 @@ loaded_stops l sides es k e below at loaded never solution =
 
 pub loaded_never : (l : Loader) (sides : List ℕ) (es : List Equation) (k : ℕ) (e : Equation) → k < length es → e ≡ get_or es k e → AreLoaded l sides es k → NeverMeets l e → HasSolution es → ⊥
 loaded_never l sides es k e below at loaded never solution = loaded_stops l sides es k e below at loaded never (solution.0, each_first (IsMet solution.0) (k + 1) es solution.1)
-
-pub loaded_all : (l : Loader) (sides : List ℕ) (es : List Equation) (k : ℕ) → (k < length es → ⊥) → k ≤ length es → AreLoaded l sides es k → AreLoaded l sides es (length es)
-loaded_all l sides es k end within loaded = subst (AreLoaded l sides es) (let same : k ≡ length es = omega arith in same) loaded

@@ -61,16 +61,29 @@ within_first end (suc k) [] ns all = tt
 within_first end (suc k) (s ∷ ss) [] all = tt
 within_first end (suc k) (s ∷ ss) (n ∷ ns) all = (all.0, within_first end k ss ns all.1)
 
+-- where fewer sizes matter
+module _ (end less : Option Sizing) (fewer : (s : Sizing) → matters less s ≡ true → matters end s ≡ true) where
+  pub within_less : (ss : List Sizing) (ns : List ℕ) → AreAllWithin end ss ns → AreAllWithin less ss ns
+  within_less [] ns all = tt
+  within_less (s ∷ ss) [] all = tt
+  within_less (s ∷ ss) (n ∷ ns) all = ((λ m. all.0 (fewer s m)), within_less ss ns all.1)
+
+  pub beyond_more : (ss : List Sizing) (ns : List ℕ) → IsOneBeyond less ss ns → IsOneBeyond end ss ns
+  beyond_more [] ns one = one
+  beyond_more (s ∷ ss) [] one = one
+  beyond_more (s ∷ ss) (n ∷ ns) (inl is) = inl (fewer s is.0, is.1)
+  beyond_more (s ∷ ss) (n ∷ ns) (inr one) = inr (beyond_more ss ns one)
+
 -- ---- as sizes of types
 
-module _ (end last : Option Sizing) where
-  pub few : ((s : Sizing) → matters last s ≡ true → matters end s ≡ true) → (cs : List Constraint) (types : List Ty) → AreAllWithin end (sizings_of cs) (map (count 0) types) → AreFew last cs types
-  few more [] types all = tt
-  few more (c ∷ cs) [] all = tt
-  few more (c ∷ cs) (t ∷ ts) all = ((λ (e : matters last c.sizing ≡ true). subst (λ n. n ≤ most_nodes) (count_nodes t) (all.0 (more c.sizing e))), few more cs ts all.1)
+module _ (end : Option Sizing) where
+  pub few : (cs : List Constraint) (types : List Ty) → AreAllWithin end (sizings_of cs) (map (count 0) types) → AreFew end cs types
+  few [] types all = tt
+  few (c ∷ cs) [] all = tt
+  few (c ∷ cs) (t ∷ ts) all = ((λ (e : matters end c.sizing ≡ true). subst (λ n. n ≤ most_nodes) (count_nodes t) (all.0 e)), few cs ts all.1)
 
-  pub too_many : ((s : Sizing) → matters end s ≡ true → matters last s ≡ true) → (cs : List Constraint) (types : List Ty) → IsOneBeyond end (sizings_of cs) (map (count 0) types) → AreTooMany last cs types
-  too_many less [] types one = one
-  too_many less (c ∷ cs) [] one = one
-  too_many less (c ∷ cs) (t ∷ ts) (inl is) = inl (less c.sizing is.0, subst (λ n. most_nodes < n) (count_nodes t) is.1)
-  too_many less (c ∷ cs) (t ∷ ts) (inr one) = inr (too_many less cs ts one)
+  pub too_many : (cs : List Constraint) (types : List Ty) → IsOneBeyond end (sizings_of cs) (map (count 0) types) → AreTooMany end cs types
+  too_many [] types one = one
+  too_many (c ∷ cs) [] one = one
+  too_many (c ∷ cs) (t ∷ ts) (inl is) = inl (is.0, subst (λ n. most_nodes < n) (count_nodes t) is.1)
+  too_many (c ∷ cs) (t ∷ ts) (inr one) = inr (too_many cs ts one)

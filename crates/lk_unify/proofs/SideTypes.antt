@@ -1,6 +1,6 @@
 -- The types that the values of nodes make of the sides of the equations that the nodes say.
-use Rattle.std.proofs.Common.{◌≡◌, ℕ, zero, suc, ◌<◌, true, inl, inr, List, [], ◌∷◌, length, map, take, Option, Some, refl, sym, ◌∙◌, ap, subst, arith}
-use Rattle.std.proofs.lemmas.List.{take-map, take_all}
+use Rattle.std.proofs.Common.{◌≡◌, ℕ, zero, suc, ◌<◌, ◌≤◌, true, inl, inr, List, [], ◌∷◌, length, map, take, Option, Some, refl, sym, ◌∙◌, ap, subst, arith}
+use Rattle.std.proofs.lemmas.List.{length-take-le, take-map, take_all}
 use Rattle.std.specs.Option.{option_map}
 use Rattle.std.specs.Prelude.{IfOk, Result, Ok, Err}
 use Rattle.lk_classes.specs.Classes.{class_at}
@@ -144,6 +144,9 @@ sides_many l [] [] sides = refl
 sides_many l (e ∷ es) (n ∷ ns) sides = ap suc (sides_many l es ns sides.1)
 sides_many l [] (n ∷ ns) sides = absurd sides
 sides_many l (e ∷ es) [] sides = absurd sides
+
+pub sides_so_many : (l : Loader) (sides : List ℕ) (es : List Equation) (k : ℕ) → k ≤ length es → AreLoaded l sides es k → length sides ≡ k
+sides_so_many l sides es k within loaded = sides_many l (take k es) sides loaded.sides_are ∙ length-take-le k es within
 
 module _ (l : Loader) (sides : List ℕ) (es : List Equation) (loaded : AreLoaded l sides es (length es)) where
   pub sides_as_many : length sides ≡ length es

@@ -1,13 +1,12 @@
 -- Nodes that say equations with a solution have values where each class of which nothing is known is a variable of its own; what
 -- these values put for the variables agrees with them, and the counts of the classes tell how large the sides become.
-use Rattle.std.proofs.Common.{◌≡◌, ℕ, zero, suc, ◌+◌, ◌<◌, ◌≤◌, true, false, ◌⊎◌, inl, inr, List, [], ◌∷◌, length, Option, Some, None, refl, sym, ◌∙◌, ap, subst, arith}
+use Rattle.std.proofs.Common.{◌≡◌, ℕ, zero, suc, ◌+◌, ◌<◌, ◌≤◌, true, false, ◌⊎◌, inl, inr, List, [], ◌∷◌, length, take, Option, Some, None, refl, sym, ◌∙◌, ap, subst, arith}
 use Rattle.std.proofs.lemmas.Bool.{eqb-true}
-use Rattle.std.proofs.lemmas.List.{take_all}
+use Rattle.std.proofs.lemmas.List.{take_all, length-take-le}
 use Rattle.std.specs.Map.{lookup}
 use Rattle.std.specs.Option.{option_map}
-use Rattle.std.specs.Prelude.{cond}
-use Rattle.lk_types.specs.Each.{Each, OneOf}
-use Rattle.lk_types.specs.Sizes.{most_nodes}
+use Rattle.std.specs.Prelude.{cond, IsSome}
+use Rattle.lk_types.specs.Each.{Each}
 use Rattle.lk_types.specs.Solutions.{HasSolution}
 use Rattle.lk_types.specs.Variables.{same_variable, equation_variables}
 use Rattle.lk_types.specs.declared.equation.Equation.{Equation}
@@ -19,7 +18,8 @@ use Rattle.lk_types.specs.declared.ty.Variable.TheVariants as variable
 use Rattle.lk_unify.proofs.Decided.{says_all}
 use Rattle.lk_unify.proofs.EffectRows.{its_effects}
 use Rattle.lk_unify.proofs.Grounded.{open_solves}
-use Rattle.lk_unify.proofs.Loadeds.{sides_below}
+use Rattle.lk_unify.proofs.Firsts.{first_of_first}
+use Rattle.lk_unify.proofs.Loadeds.{each_first, sides_below, variables_first}
 use Rattle.lk_unify.proofs.OwnModel.{own_exists, ranks_exist}
 use Rattle.lk_unify.proofs.Shaping.{HasValue}
 use Rattle.lk_unify.proofs.ValueKinds.{own_kinds}
@@ -30,12 +30,12 @@ use Rattle.lk_arena.specs.Kinds.{Kind, OfTypes, OfFields, OfEffects, OfUnit, OfN
 use Rattle.lk_unify.specs.Loading.{node_for, value_of, kind_of, Agrees, IsKinded}
 use Rattle.lk_unify.specs.Models.{IsOwn}
 use Rattle.lk_unify.specs.Nodes.{count, value_count}
-use Rattle.lk_arena.specs.Openings.{as_opening, only_tail, opened}
+use Rattle.lk_arena.specs.Openings.{IsOpenMet, as_opening, only_tail, opened}
 use Rattle.lk_arena.specs.Order.{IsRanked}
 use Rattle.lk_unify.specs.Reading.{type_in, row_in, effects_in, value_or, opening_by, own_variable, number_of, IsNaming}
 use Rattle.lk_arena.specs.Shapes.{FitsNodes, WeakNodes}
-use Rattle.lk_unify.specs.Small.{OwnNodes, IsSideOf, AreWithin, HasBeyond}
-use Rattle.lk_unify.specs.Solving.{Says, HasNodes, AreBound, AreLoaded, AreSides, IsSide}
+use Rattle.lk_unify.specs.Small.{OwnNodes}
+use Rattle.lk_unify.specs.Solving.{Says, HasNodes, HasValues, AreBound, AreLoaded, AreSides, IsSide}
 use Rattle.lk_arena.specs.Values.{Value, Plain, OfRow, effect_row}
 use Rattle.lk_arena.specs.declared.counting.Count.{Count}
 use Rattle.lk_unify.specs.declared.loader.Loader.{Loader}
@@ -190,28 +190,7 @@ module _ (closed : ℕ) {es : List Equation} (o : OwnNodes es) (counts : List Co
       (own_counted o.loader.arena.shapes o.loader.arena.classes o.kind o.says.whole.arena o.kinded.nodes o.name o.values o.own closed) n side.below in
       (t.0, t.1, of_types (o.kind n) (count_at o.loader.arena.classes counts n) (o.values n) t.0 kind t.2 counts_are)
 
-  within_at : (e : Equation) (n : ℕ) → IsSideWith e n → side_count n ≤ most_nodes → IsSideOf o closed (λ n. n ≤ most_nodes) e
-  unfolding IsSideWith
-  within_at e n side h = (side.0, side.1, (let is = side.2 in omega arith))
-
-  beyond_at : (e : Equation) (n : ℕ) → IsSideWith e n → most_nodes < side_count n → IsSideOf o closed (λ n. most_nodes < n) e
-  unfolding IsSideWith
-  beyond_at e n side h = (side.0, side.1, (let is = side.2 in omega arith))
-
-  pub all_within : (xs : List Equation) (sides : List ℕ) → AreSides o.loader xs sides → Each (λ n. o.kind n ≡ OfTypes) sides → Each (λ n. side_count n ≤ most_nodes) sides →
-      Each (IsSideOf o closed (λ n. n ≤ most_nodes)) xs
-  all_within [] [] sides types all = tt
-  all_within (e ∷ xs) (n ∷ ns) sides types all = (within_at e n (its_count e n sides.0 types.0) all.0, all_within xs ns sides.1 types.1 all.1)
-  all_within [] (n ∷ ns) sides types all = absurd sides
-  all_within (e ∷ xs) [] sides types all = absurd sides
-
-  pub one_beyond : (xs : List Equation) (sides : List ℕ) → AreSides o.loader xs sides → Each (λ n. o.kind n ≡ OfTypes) sides → OneOf (λ n. most_nodes < side_count n) sides →
-      OneOf (IsSideOf o closed (λ n. most_nodes < n)) xs
-  one_beyond [] [] sides types one = absurd one
-  one_beyond (e ∷ xs) (n ∷ ns) sides types (inl h) = inl (beyond_at e n (its_count e n sides.0 types.0) h)
-  one_beyond (e ∷ xs) (n ∷ ns) sides types (inr one) = inr (one_beyond xs ns sides.1 types.1 one)
-  one_beyond [] (n ∷ ns) sides types one = absurd sides
-  one_beyond (e ∷ xs) [] sides types one = absurd sides
+-- ---- as they are loaded
 
 module _ (l : Loader) (sides : List ℕ) (es : List Equation) (loaded : AreLoaded l sides es (length es)) where
   pub whole_sides : AreSides l es sides
@@ -220,9 +199,29 @@ module _ (l : Loader) (sides : List ℕ) (es : List Equation) (loaded : AreLoade
   pub sides_in_classes : Each (λ n. n < length l.arena.classes) sides
   sides_in_classes = subst (λ k. Each (λ n. n < k) sides) (sym loaded.says.whole.arena.named.count) (sides_below l es sides whole_sides)
 
-  module _ (solution : HasSolution es) (closed : ℕ) (counts : List Count) (counted : AreCountsOf closed l.arena.shapes l.arena.classes counts) where
-    pub are_within : Each (λ n. (count_at l.arena.classes counts n).as_type ≤ most_nodes) sides → AreWithin closed es
-    are_within all = (own_nodes l sides es loaded solution, all_within closed (own_nodes l sides es loaded solution) counts counted es sides whole_sides loaded.types all)
+-- the first of the equations, as a list of their own
+pub loaded_first : (l : Loader) (sides : List ℕ) (es : List Equation) (k : ℕ) → k ≤ length es → AreLoaded l sides es k → AreLoaded l sides (take k es) (length (take k es))
+loaded_first l sides es k within loaded = record {
+  says = subst (Says l) (sym all) loaded.says;
+  bound = variables_first (λ x. IsSome (node_for l x)) k es loaded.bound;
+  sides_are = subst (λ xs. AreSides l xs sides) (sym all) loaded.sides_are;
+  kind = loaded.kind;
+  kinded = loaded.kinded;
+  types = loaded.types;
+  before = λ j h. subst HasNodes (sym (first_of_first es j k (omega (arith, as_many, h)))) (loaded.before j (omega (arith, as_many, h)));
+}
+  where
+    as_many : length (take k es) ≡ k
+    as_many = length-take-le k es within
 
-    pub has_beyond : OneOf (λ n. most_nodes < (count_at l.arena.classes counts n).as_type) sides → HasBeyond closed es
-    has_beyond one = (own_nodes l sides es loaded solution, one_beyond closed (own_nodes l sides es loaded solution) counts counted es sides whole_sides loaded.types one)
+    all : take (length (take k es)) (take k es) ≡ take k es
+    all = take_all (length (take k es)) (take k es) (omega arith)
+
+pub side_nodes : (l : Loader) (sides : List ℕ) (es : List Equation) (k : ℕ) → k ≤ length es → AreLoaded l sides es k → Each (λ n. n < length l.arena.classes) sides
+side_nodes l sides es k within loaded = sides_in_classes l sides (take k es) (loaded_first l sides es k within loaded)
+
+-- values fit where there is a solution
+pub loaded_values : (l : Loader) (sides : List ℕ) (es : List Equation) (k : ℕ) → AreLoaded l sides es k → HasSolution es → HasValues l
+loaded_values l sides es k loaded solution =
+    let v = loaded.says.forth (as_opening solution.0) (each_first (IsOpenMet (as_opening solution.0)) k es (open_solves solution.0 es solution.1)) in
+    (v.0, v.1)

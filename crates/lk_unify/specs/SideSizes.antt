@@ -1,15 +1,18 @@
 -- Which sizes of the sides of constraints are looked at, where the equations and the sizings of the constraints are lists of their own.
-use Rattle.std.specs.Prelude.{◌≡◌, ℕ, ◌<◌, ◌≤◌, ◌⊎◌, Bool, true, false, List, [], ◌∷◌, map, Option, Some, None}
+use Rattle.std.specs.Prelude.{◌≡◌, ℕ, ◌+◌, ◌<◌, ◌≤◌, ◌⊎◌, Bool, true, false, List, [], ◌∷◌, length, map, take, Option, Some, None}
 use Rattle.lk_types.specs.Sizes.{most_nodes}
 use Rattle.lk_types.specs.declared.equation.Equation.{Equation}
 use Rattle.lk_types.specs.declared.ty.Ty.{Ty}
-use Rattle.lk_unify.specs.Constraints.{matters, Makes}
+use Rattle.lk_arena.specs.Counting.{count_at, AreCountsOf}
+use Rattle.lk_arena.specs.declared.counting.Count.{Count}
+use Rattle.lk_unify.specs.Constraints.{end_of, equations_of, matters, Makes}
 use Rattle.lk_unify.specs.Nodes.{count}
 use Rattle.lk_unify.specs.Reading.{opening_by}
 use Rattle.lk_unify.specs.Small.{OwnNodes}
 use Rattle.lk_unify.specs.declared.constraint.Constraint.{Constraint}
 use Rattle.lk_unify.specs.declared.constraint.Sizing.{Sizing}
 use Rattle.lk_unify.specs.declared.constraint.Sizing.TheVariants.{Always, Late, Never}
+use Rattle.lk_unify.specs.declared.solvable.Loaded.{Loaded}
 
 abbrev pub sizings_of : List Constraint → List Sizing
 sizings_of constraints = map (λ c. c.sizing) constraints
@@ -54,3 +57,34 @@ HasFew closed end equations sizings = (o : OwnSides equations) × AreAllWithin e
 -- some has more
 abbrev pub HasMany : ℕ → Option Sizing → List Equation → List Sizing → Type 0
 HasMany closed end equations sizings = (o : OwnSides equations) × IsOneBeyond end sizings (map (count closed) o.types)
+
+-- the same, by the counts of the classes of nodes that are loaded
+abbrev pub CountFew : ℕ → Option Sizing → Loaded → List Sizing → Type 0
+CountFew closed end all sizings =
+    (counts : List Count) × AreCountsOf closed all.loader.arena.shapes all.loader.arena.classes counts ×
+    AreAllWithin end sizings (map (λ n. (count_at all.loader.arena.classes counts n).as_type) all.sides)
+
+abbrev pub CountMany : ℕ → Option Sizing → Loaded → List Sizing → Type 0
+CountMany closed end all sizings =
+    (counts : List Count) × AreCountsOf closed all.loader.arena.shapes all.loader.arena.classes counts ×
+    IsOneBeyond end sizings (map (λ n. (count_at all.loader.arena.classes counts n).as_type) all.sides)
+
+-- ---- constraints
+
+-- nodes of theirs make no type too large whose size matters
+abbrev pub MakeFew : List Constraint → Type 0
+MakeFew constraints = HasFew 0 (end_of constraints) (equations_of constraints) (sizings_of constraints)
+
+-- they make one
+abbrev pub MakeMany : List Constraint → Type 0
+MakeMany constraints = HasMany 0 (end_of constraints) (equations_of constraints) (sizings_of constraints)
+
+-- each first part makes none
+abbrev pub AllMakeFew : List Constraint → Type 0
+AllMakeFew constraints = (k : ℕ) → k ≤ length constraints → MakeFew (take k constraints)
+
+-- the constraints before number k make none, and with it they make one
+pub record IsFirstMany (constraints : List Constraint) (k : ℕ) : Type 0 where
+  pub within : k < length constraints
+  pub few : AllMakeFew (take k constraints)
+  pub many : MakeMany (take (k + 1) constraints)

@@ -1,5 +1,5 @@
 -- What nodes say of the equations that were made into them and merged: just what solves the equations.
-use Rattle.std.specs.Prelude.{◌≡◌, ℕ, ◌+◌, ◌<◌, ◌≤◌, List, [], ◌∷◌, length, take, Some, IsSome}
+use Rattle.std.specs.Prelude.{◌≡◌, ℕ, ◌+◌, ◌<◌, ◌≤◌, List, [], ◌∷◌, ◌++◌, length, take, Some, IsSome}
 use Rattle.lk_types.specs.Each.{Each}
 use Rattle.lk_types.specs.Solutions.{HasSolution}
 use Rattle.lk_types.specs.Variables.{equation_variables}
@@ -11,6 +11,7 @@ use Rattle.lk_arena.specs.Openings.{Opening, IsOpenMet, OpenSolves}
 use Rattle.lk_arena.specs.Shapes.{FitsNodes, WeakNodes}
 use Rattle.lk_arena.specs.Values.{Value}
 use Rattle.lk_unify.specs.declared.loader.Loader.{Loader}
+use Rattle.lk_unify.specs.declared.solvable.Loaded.{Loaded}
 
 -- What is put for the variables solves the equations where values of the nodes fit with it, and where it solves them there are
 -- such values.
@@ -18,6 +19,10 @@ pub record Says (l : Loader) (equations : List Equation) : Type 0 where
   pub whole : IsLoader l
   pub back : (v : ℕ → Value) (ρ : Opening) → WeakNodes l.arena.shapes l.arena.classes v → Agrees l ρ v → OpenSolves ρ equations
   pub forth : (ρ : Opening) → OpenSolves ρ equations → (v : ℕ → Value) × FitsNodes l.arena.shapes l.arena.classes v × Agrees l ρ v
+
+-- values fit the nodes
+abbrev pub HasValues : Loader → Type 0
+HasValues l = (v : ℕ → Value) × FitsNodes l.arena.shapes l.arena.classes v
 
 -- each of them has a node
 abbrev pub AreBound : Loader → List Variable → Type 0
@@ -66,6 +71,10 @@ pub record AddsEquation (old new : Loader) (e : Equation) (node : ℕ) : Type 0 
   pub met : (v : ℕ → Value) (ρ : Opening) → WeakNodes new.arena.shapes new.arena.classes v → Agrees new ρ v → IsOpenMet ρ e × (type_meaning e.left ρ ≡ Some (v node))
   pub forth : (v : ℕ → Value) (ρ : Opening) → FitsNodes old.arena.shapes old.arena.classes v → Agrees old ρ v → IsOpenMet ρ e →
       (w : ℕ → Value) × FitsNodes new.arena.shapes new.arena.classes w × Agrees new ρ w
+
+-- the equation is added to the nodes, and the node of its sides to the sides
+abbrev pub AddsSide : Loaded → Loaded → Equation → Type 0
+AddsSide old new e = (node : ℕ) × AddsEquation old.loader new.loader e node × (new.sides ≡ old.sides ++ node ∷ [])
 
 -- what fits the nodes doesn't meet the equation
 abbrev pub NeverMeets : Loader → Equation → Type 0

@@ -2,7 +2,7 @@
 //!
 //! Equations become nodes that are merged into classes (`lk_arena`). `specs/Loading` and `specs/Solving` say what nodes have to do
 //! with equations, `specs/Models` that there are values of the nodes, and with a variable for each class of which nothing is known;
-//! `specs/Reading` what is read back of those, and `specs/Small` how large the sides of equations are. `specs/Constraints` says what
+//! `specs/Reading` what is read back of those, and `specs/Small` with which values equations are nodes. `specs/Constraints` says what
 //! solves constraints, equations whose sizes needn't matter everywhere, and `specs/SideSizes` which sizes are looked at.
 #![tactic(auto)]
 

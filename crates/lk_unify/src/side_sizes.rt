@@ -1,17 +1,18 @@
 //! How large the types are that the sides of constraints become under a most general solution, as far as their sizes matter.
 
-ghost use Rattle.std.specs.Prelude.{◌≡◌, ◌<◌, ◌≤◌, ℕ, false, true, length, map, take, IfNone, IfOk, IfSome, IsTrue};
+ghost use Rattle.std.specs.Prelude.{◌≡◌, ◌<◌, ◌≤◌, [], false, true, length, map, take, IfNone, IfOk, IfSome, IsTrue};
 ghost use Rattle.lk_classes.specs.Classes.{AreClasses};
 ghost use Rattle.lk_types.specs.Each.{Each};
 ghost use Rattle.lk_types.specs.Sizes.{most_nodes};
 ghost use Rattle.lk_types.specs.Solutions.{HasSolution};
 ghost use Rattle.lk_arena.specs.Counting.{count_at as the_count_at};
 ghost use Rattle.lk_unify.specs.Constraints.{matters, AllFine, IsFirstLarge};
-ghost use Rattle.lk_unify.specs.SideSizes.{is_late, joined, last_by, AreAllWithin, HasFew, HasMany, IsOneBeyond};
-ghost use Rattle.lk_unify.specs.Solving.{HasNodes};
+ghost use Rattle.lk_unify.specs.Loading.{IsLoader};
+ghost use Rattle.lk_unify.specs.SideSizes.{is_late, joined, last_by, AllMakeFew, AreAllWithin, CountFew, CountMany, IsFirstMany, IsOneBeyond};
+ghost use Rattle.lk_unify.specs.Solving.{HasNodes, HasValues};
 
 use crate::constraint::Sizing;
-use crate::small::load_ordered;
+use crate::solvable::{Loaded, load_next, load_solvable, order_of};
 use lk_arena::{Count, count_at, counts};
 use lk_ast::NoMemory;
 use lk_classes::Classes;
@@ -77,31 +78,26 @@ fn counts_within(
 /// Whether no side whose size matters has more nodes than a type may have, where the end of a closed row counts `closed`.
 fn sizes_within(
     alloc: Global,
-    equations: &[Equation],
+    all: &Loaded,
     sizings: &[Sizing],
     late: bool,
     closed: usize,
 ) -> Result<bool, NoMemory>
     requires closed { closed ≤ 1 }
-    requires solution { HasSolution equations.now }
-    requires sizings { length sizings.now ≡ length equations.now }
-    ensures nodes { IfOk result (λ within. (j : ℕ) → j ≤ length equations.now → HasNodes (take j equations.now)) }
-    ensures within { IfOk result (λ within. IsTrue within → HasFew closed (last_by late) equations.now sizings.now) }
-    ensures beyond { IfOk result (λ within. (within ≡ false) → HasMany closed (last_by late) equations.now sizings.now) }
+    requires whole { IsLoader all.now.loader }
+    requires values { HasValues all.now.loader }
+    requires sides { Each (λ n. n < length all.now.loader.arena.classes) all.now.sides }
+    requires sizings { length sizings.now ≡ length all.now.sides }
+    ensures within { IfOk result (λ within. IsTrue within → CountFew closed (last_by late) all.now sizings.now) }
+    ensures beyond { IfOk result (λ within. (within ≡ false) → CountMany closed (last_by late) all.now sizings.now) }
 {
-    let nodes = load_ordered(alloc, equations)?;
-    let arena = &nodes.all.loader.arena;
+    let arena = &all.loader.arena;
+    let order = order_of(alloc, &all.loader)?;
     let shapes = arena.shapes.as_slice();
-    let counts = counts(
-        alloc,
-        shapes,
-        &arena.classes,
-        nodes.order.as_slice(),
-        closed,
-    )?;
+    let counts = counts(alloc, shapes, &arena.classes, order.as_slice(), closed)?;
     let within = counts_within(
         &arena.classes,
-        nodes.all.sides.as_slice(),
+        all.sides.as_slice(),
         sizings,
         counts.as_slice(),
         late,
@@ -109,28 +105,73 @@ fn sizes_within(
     Ok(within)
 }
 
-/// A number of constraints of which each first part is fine, so that they need no test one by one: where the end of a closed row
-/// counts one and all late sizes matter, fewer constraints have no larger sides. It is searched for by halves.
-fn surely_fine(alloc: Global, equations: &[Equation], sizings: &[Sizing]) -> Result<usize, NoMemory>
+/// Whether it is sure that in each first part of the constraints no side whose size matters is too large: where the end of a closed
+/// row counts one and all late sizes matter, fewer constraints have no larger sides.
+fn is_surely_few(
+    alloc: Global,
+    equations: &[Equation],
+    sizings: &[Sizing],
+) -> Result<bool, NoMemory>
+    requires solution { HasSolution equations.now }
+    requires sizings { length sizings.now ≡ length equations.now }
+    ensures nodes { IfOk result (λ few. HasNodes []) }
+    ensures few { IfOk result (λ few. IsTrue few → AllMakeFew (joined equations.now sizings.now)) }
+{
+    let all = load_solvable(alloc, equations, equations.len())?;
+    let few = sizes_within(alloc, &all, sizings, true, 1)?;
+    Ok(few)
+}
+
+/// A number of constraints of which no first part needs a test by itself. It is searched for by halves.
+fn surely_few(alloc: Global, equations: &[Equation], sizings: &[Sizing]) -> Result<usize, NoMemory>
     requires solution { HasSolution equations.now }
     requires sizings { length sizings.now ≡ length equations.now }
     ensures bound { IfOk result (λ n. n ≤ length equations.now) }
-    ensures fine { IfOk result (λ n. AllFine (take n (joined equations.now sizings.now))) }
+    ensures few { IfOk result (λ n. AllMakeFew (take n (joined equations.now sizings.now))) }
 {
-    if sizes_within(alloc, equations, sizings, true, 1)? {
+    if is_surely_few(alloc, equations, sizings)? {
         return Ok(equations.len());
     }
     let mut low = 0;
     let mut high = equations.len();
     'halving: while high - low > 1 {
         let middle = low + (high - low) / 2;
-        if sizes_within(alloc, &equations[..middle], &sizings[..middle], true, 1)? {
+        if is_surely_few(alloc, &equations[..middle], &sizings[..middle])? {
             low = middle;
         } else {
             high = middle;
         }
     }
     Ok(low)
+}
+
+/// The first constraint with which the nodes of those up to it make a side too large whose size matters then, if there is one. From
+/// those that need no test on, one after another is added to the nodes of the ones before.
+pub fn first_beyond(
+    alloc: Global,
+    equations: &[Equation],
+    sizings: &[Sizing],
+) -> Result<Option<usize>, NoMemory>
+    requires solution { HasSolution equations.now }
+    requires sizings { length sizings.now ≡ length equations.now }
+    ensures few { IfOk result (λ found. IfNone found (AllMakeFew (joined equations.now sizings.now))) }
+    ensures first { IfOk result (λ found. IfSome found (λ k. IsFirstMany (joined equations.now sizings.now) k)) }
+{
+    let start = surely_few(alloc, equations, sizings)?;
+    if start == equations.len() {
+        return Ok(None);
+    }
+    let mut all = load_solvable(alloc, equations, start)?;
+    for k in start..equations.len() {
+        if !load_next(alloc, &mut all, &equations[k])? {
+            unreachable!();
+        }
+        let late = is_late(sizings[k]);
+        if !sizes_within(alloc, &all, &sizings[..k + 1], late, 0)? {
+            return Ok(Some(k));
+        }
+    }
+    Ok(None)
 }
 
 /// The first constraint with which those up to it have a side that is too large and whose size matters then, if there is one.
@@ -144,12 +185,6 @@ pub fn first_large(
     ensures fine { IfOk result (λ found. IfNone found (AllFine (joined equations.now sizings.now))) }
     ensures first { IfOk result (λ found. IfSome found (λ k. IsFirstLarge (joined equations.now sizings.now) k)) }
 {
-    let start = surely_fine(alloc, equations, sizings)?;
-    for k in start..equations.len() {
-        let late = is_late(sizings[k]);
-        if !sizes_within(alloc, &equations[..k + 1], &sizings[..k + 1], late, 0)? {
-            return Ok(Some(k));
-        }
-    }
-    Ok(None)
+    let found = first_beyond(alloc, equations, sizings)?;
+    Ok(found)
 }

@@ -2,13 +2,14 @@
 
 ghost use Rattle.lk_types.specs.Solutions.{HasSolution};
 ghost use Rattle.lk_types.specs.Variables.{equation_variables};
+ghost use Rattle.lk_arena.specs.Counting.{IsPartsFirst};
 ghost use Rattle.lk_unify.specs.Loading.{IsLoader};
-ghost use Rattle.lk_unify.specs.Solving.{AddsEquation, AreBound, AreLoaded, IsFirstWithout, IsStart, NeverMeets};
+ghost use Rattle.lk_unify.specs.Solving.{AddsEquation, AddsSide, AreBound, AreLoaded, HasValues, IsFirstWithout, IsStart, NeverMeets};
 ghost use Rattle.std.specs.Prelude.{◌≡◌, ◌≤◌, false, length, take, IfNone, IfOk, IfSome, IsTrue, OnOk};
 
 use crate::load::{load_equation, load_variable};
 use crate::loader::Loader;
-use lk_arena::{is_clean, is_ordered, merge_nodes};
+use lk_arena::{is_clean, is_ordered, merge_nodes, parts_first};
 use lk_ast::{List, NoMemory};
 use lk_types::{Equation, Variable, push_variables};
 use std::alloc::Global;
@@ -75,20 +76,68 @@ fn add_equation(
     Ok(None)
 }
 
-/// Makes nodes of all equations. The answer is none where they have no solution.
-pub fn load_all(alloc: Global, equations: &[Equation]) -> Result<Option<Loaded>, NoMemory>
-    ensures loaded { IfOk result (λ found. IfSome found (λ all. AreLoaded all.loader all.sides equations.now (length equations.now))) }
+/// Makes one equation more into nodes. The answer is whether it can be met with those before.
+pub fn load_next(alloc: Global, all: &mut Loaded, equation: &Equation) -> Result<bool, NoMemory>
+    requires { IsLoader all.old.loader }
+    ensures added { IfOk result (λ met. IsTrue met → AddsSide all.old all.new equation.now) }
+    ensures never { IfOk result (λ met. (met ≡ false) → NeverMeets all.old.loader equation.now) }
+{
+    let Some(side) = add_equation(alloc, &mut all.loader, equation)? else {
+        return Ok(false);
+    };
+    all.sides.push(side)?;
+    Ok(true)
+}
+
+/// Makes nodes of the first of these equations, so many as are asked for. The answer is none where they have no solution.
+fn load_first(
+    alloc: Global,
+    equations: &[Equation],
+    count: usize,
+) -> Result<Option<Loaded>, NoMemory>
+    requires { count ≤ length equations.now }
+    ensures loaded { IfOk result (λ found. IfSome found (λ all. AreLoaded all.loader all.sides equations.now count)) }
     ensures never { IfOk result (λ found. IfNone found (HasSolution equations.now → ⊥)) }
 {
-    let mut loader = start(alloc, equations)?;
-    let mut sides = List::new(alloc);
-    for equation in equations {
-        let Some(side) = add_equation(alloc, &mut loader, equation)? else {
+    let mut all = Loaded {
+        loader: start(alloc, equations)?,
+        sides: List::new(alloc),
+    };
+    for i in 0..count {
+        if !load_next(alloc, &mut all, &equations[i])? {
             return Ok(None);
-        };
-        sides.push(side)?;
+        }
     }
-    Ok(Some(Loaded { loader, sides }))
+    Ok(Some(all))
+}
+
+/// Makes nodes of the first of these equations, which have a solution.
+pub fn load_solvable(
+    alloc: Global,
+    equations: &[Equation],
+    count: usize,
+) -> Result<Loaded, NoMemory>
+    requires solution { HasSolution equations.now }
+    requires count { count ≤ length equations.now }
+    ensures { IfOk result (λ all. AreLoaded all.loader all.sides equations.now count) }
+{
+    let Some(all) = load_first(alloc, equations, count)? else {
+        unreachable!();
+    };
+    Ok(all)
+}
+
+/// The nodes in an order in which parts come first, where values fit them.
+pub fn order_of(alloc: Global, loader: &Loader) -> Result<Vec<usize>, NoMemory>
+    requires whole { IsLoader loader.now }
+    requires values { HasValues loader.now }
+    ensures { IfOk result (λ order. IsPartsFirst loader.now.arena.shapes loader.now.arena.classes order.items) }
+{
+    let arena = &loader.arena;
+    let Some(order) = parts_first(alloc, arena.shapes.as_slice(), &arena.classes)? else {
+        unreachable!();
+    };
+    Ok(order)
 }
 
 /// Whether the equations have a solution.
@@ -96,7 +145,7 @@ pub fn is_solvable(alloc: Global, equations: &[Equation]) -> Result<bool, NoMemo
     ensures solvable { IfOk result (λ solvable. IsTrue solvable → HasSolution equations.now) }
     ensures never { IfOk result (λ solvable. (solvable ≡ false) → HasSolution equations.now → ⊥) }
 {
-    let Some(all) = load_all(alloc, equations)? else {
+    let Some(all) = load_first(alloc, equations, equations.len())? else {
         return Ok(false);
     };
     if !is_clean(alloc, &all.loader.arena)? {
@@ -116,13 +165,14 @@ fn count_unsolvable(alloc: Global, equations: &[Equation]) -> Result<usize, NoMe
     ensures within { IfOk result (λ count. count ≤ length equations.now) }
     ensures never { IfOk result (λ count. (HasSolution equations.now → ⊥) → HasSolution (take count equations.now) → ⊥) }
 {
-    let mut loader = start(alloc, equations)?;
-    let mut sides = List::new(alloc);
+    let mut all = Loaded {
+        loader: start(alloc, equations)?,
+        sides: List::new(alloc),
+    };
     for i in 0..equations.len() {
-        let Some(side) = add_equation(alloc, &mut loader, &equations[i])? else {
+        if !load_next(alloc, &mut all, &equations[i])? {
             return Ok(i + 1);
-        };
-        sides.push(side)?;
+        }
     }
     Ok(equations.len())
 }

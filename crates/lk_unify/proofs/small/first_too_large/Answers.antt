@@ -1,17 +1,36 @@
-use Rattle.std.proofs.Common.{◌+◌}
-use Rattle.lk_unify.proofs.Firsts.{solution_first, all_are_small, more_small, first_large}
+use Rattle.std.proofs.Common.{◌≡◌, length, List, sym, ◌∙◌, ap, subst, rules}
+use Rattle.std.proofs.lemmas.List.{length-replicate}
+use Rattle.std.specs.Prelude.{replicate}
+use Rattle.lk_types.specs.declared.equation.Equation.{Equation}
+use Rattle.lk_unify.proofs.FineFirsts.{if_none, if_some}
+use Rattle.lk_unify.proofs.SmallSides.{all_small, always, first_too_large, AllMatter}
 use Rattle.lk_unify.proofs.small.first_too_large.Goals as goal
+use Rattle.lk_unify.specs.declared.constraint.Sizing.{Sizing}
+use Rattle.lk_unify.specs.declared.constraint.Sizing.TheVariants.{Always}
 
-pub is_within-requires-clause-solution : goal.is_within-requires-clause-solution
-is_within-requires-clause-solution c = solution_first c.args.equations.now (c.loop-k.k + 1) c.requires
+as_many : (es : List Equation) (ss : List Sizing) → ss ≡ replicate (length es) Always → length ss ≡ length es
+as_many es ss is = ap length is ∙ length-replicate (length es) Always
 
-pub returns-then-not-branch-clause-first : goal.returns-then-not-branch-clause-first
-returns-then-not-branch-clause-first c =
-    first_large c.args.equations.now c.loop-k.k c.loop-k-test.true c.requires c.loop-k.invariant (c.in_ok-is_within.ensures.beyond c.if-not-branch.true)
+all_matter : (es : List Equation) (ss : List Sizing) → ss ≡ replicate (length es) Always → AllMatter ss
+all_matter es ss is = subst AllMatter (sym is) (always (length es))
 
-pub loop-k-preserved : goal.loop-k-preserved
-loop-k-preserved c =
-    more_small c.args.equations.now c.loop-k.k c.loop-k-test.true c.requires c.loop-k.invariant (c.in_ok-is_within.ensures.within c.if-not-branch.false)
+pub first_beyond-requires-clause-sizings : goal.first_beyond-requires-clause-sizings
+first_beyond-requires-clause-sizings c =
+    let filled : c.in_ok-sizings.sizings.items ≡ replicate (length c.args.equations.now) Always = c.in_ok-sizings.ensures.items_if_clones_equal (λ y h. search rules) in
+    as_many c.args.equations.now c.as_slice.result.now (c.as_slice.ensures.value ∙ filled)
 
 pub returns-clause-small : goal.returns-clause-small
-returns-clause-small c = all_are_small c.args.equations.now c.loop-k.k (c.loop-k.auto.k-end c.in_ok-start.ensures.bound) c.loop-k-test.false c.loop-k.invariant
+returns-clause-small c =
+    let filled : c.in_ok-sizings.sizings.items ≡ replicate (length c.args.equations.now) Always = c.in_ok-sizings.ensures.items_if_clones_equal (λ y h. search rules) in
+    let are : c.as_slice.result.now ≡ replicate (length c.args.equations.now) Always = c.as_slice.ensures.value ∙ filled in
+    if_none
+    (all_small c.args.equations.now c.as_slice.result.now (as_many c.args.equations.now c.as_slice.result.now are) (all_matter c.args.equations.now c.as_slice.result.now are) c.requires)
+    c.in_ok-found.found c.in_ok-found.ensures.few
+
+pub returns-clause-first : goal.returns-clause-first
+returns-clause-first c =
+    let filled : c.in_ok-sizings.sizings.items ≡ replicate (length c.args.equations.now) Always = c.in_ok-sizings.ensures.items_if_clones_equal (λ y h. search rules) in
+    let are : c.as_slice.result.now ≡ replicate (length c.args.equations.now) Always = c.as_slice.ensures.value ∙ filled in
+    if_some
+    (first_too_large c.args.equations.now c.as_slice.result.now (as_many c.args.equations.now c.as_slice.result.now are) (all_matter c.args.equations.now c.as_slice.result.now are) c.requires)
+    c.in_ok-found.found c.in_ok-found.ensures.first

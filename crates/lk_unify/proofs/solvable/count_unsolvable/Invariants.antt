@@ -2,4 +2,4 @@ use Rattle.lk_unify.proofs.solvable.count_unsolvable.Given as goal
 use Rattle.lk_unify.specs.Solving.{AreLoaded}
 
 abbrev pub invariant-loop-i : goal.invariant-loop-i
-invariant-loop-i l = AreLoaded l.loader l.sides l.equations l.i
+invariant-loop-i l = AreLoaded l.all.loader l.all.sides l.equations l.i

@@ -1,0 +1,22 @@
+use Rattle.std.proofs.Common.{length, sym, ◌∙◌, arith}
+use Rattle.lk_unify.proofs.FineFirsts.{surely}
+use Rattle.lk_unify.proofs.SideTypes.{sides_as_many}
+use Rattle.lk_unify.proofs.Within.{loaded_values, sides_in_classes}
+use Rattle.lk_unify.proofs.side_sizes.is_surely_few.Goals as goal
+
+pub sizes_within-requires-clause-values : goal.sizes_within-requires-clause-values
+sizes_within-requires-clause-values c =
+    loaded_values c.in_ok-all.all.loader c.in_ok-all.all.sides c.args.equations.now (length c.args.equations.now) c.in_ok-all.ensures c.requires.solution
+
+pub sizes_within-requires-clause-sides : goal.sizes_within-requires-clause-sides
+sizes_within-requires-clause-sides c = sides_in_classes c.in_ok-all.all.loader c.in_ok-all.all.sides c.args.equations.now c.in_ok-all.ensures
+
+pub sizes_within-requires-clause-sizings : goal.sizes_within-requires-clause-sizings
+sizes_within-requires-clause-sizings c =
+    c.requires.sizings ∙ sym (sides_as_many c.in_ok-all.all.loader c.in_ok-all.all.sides c.args.equations.now c.in_ok-all.ensures)
+
+pub returns-clause-nodes : goal.returns-clause-nodes
+returns-clause-nodes c = c.in_ok-all.ensures.before 0 (omega arith)
+
+pub returns-clause-few : goal.returns-clause-few
+returns-clause-few c few = surely c.args.equations.now c.args.sizings.now c.requires.sizings c.in_ok-all.all c.in_ok-all.ensures c.requires.solution (c.in_ok-few.ensures.within few)
