@@ -31,7 +31,7 @@ pub fn answer<'p>(
         Node::Query(keys, e) => {
             let names = names_in(alloc, block, args)?;
             let found = items_of(alloc, query_value(alloc, index, tables, e, names)?);
-            Ok(sorted_rows(alloc, keys.as_slice(), found)?)
+            sorted_rows(alloc, keys.as_slice(), found)
         }
         Node::Table(name) => Ok(Some(copy_rows(alloc, rows_under(tables, &name.text))?)),
         _ => Ok(Some(List::new(alloc))),

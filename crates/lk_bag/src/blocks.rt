@@ -96,7 +96,7 @@ fn expr<'p>(found: &mut List<&'p Expr>, e: &'p Expr) -> Result<(), NoMemory>
         rest = next;
     }
     add(found, rest)?;
-    Ok(node(found, rest.node.get())?)
+    node(found, rest.node.get())
 }
 
 /// The expression, if it acts on tables itself.

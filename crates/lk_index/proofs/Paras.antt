@@ -1,6 +1,5 @@
 -- The lambdas in a part of the text, by those in its parts.
-use Rattle.std.proofs.Common.{◌≡◌, ℕ, List, Option, Some, None, ap, sym, ◌∙◌}
-use Rattle.std.specs.Option.{option_map}
+use Rattle.std.proofs.Common.{◌≡◌, ℕ, Option, Some, None, ap, sym, ◌∙◌}
 use Rattle.lk_ast.specs.Layers.{Layer, before, statement_node}
 use Rattle.lk_ast.specs.declared.expression.Case.{Case, para-roll-Case}
 use Rattle.lk_ast.specs.declared.expression.ChangeExpr.{ChangeExpr, out-ChangeExpr, roll-out-ChangeExpr, para-roll-ChangeExpr}
@@ -14,7 +13,7 @@ use Rattle.lk_ast.specs.declared.expression.Node.TheVariants as node
 use Rattle.lk_ast.specs.declared.expression.PartExpr.{PartExpr, para-roll-PartExpr}
 use Rattle.lk_ast.specs.declared.place.Word.{Word}
 use Rattle.lk_ast.specs.declared.statements.Statement.{Statement}
-use Rattle.lk_index.specs.Places.{Gather, Lambdas, gather_all, gather_some, each_with, node_in, case_in, change_in, expr_in, lambda_in, last_in, part_in, gather, gather_node, gather_part, gather_lambda, gather_case, gather_last, gather_change}
+use Rattle.lk_index.specs.Places.{Gather, Lambdas, gather_all, each_with, node_in, case_in, change_in, expr_in, lambda_in, last_in, part_in, gather, gather_node, gather_part, gather_lambda, gather_case, gather_last, gather_change}
 
 pub expr_level : (e : Expr) (found : Lambdas) → gather e found ≡ gather_node e.node e.span.start found
 expr_level e found = ap (λ f. f found) (para-roll-Expr (ℕ → Gather) Gather Gather Gather Gather Gather Gather node_in case_in change_in expr_in lambda_in last_in part_in (record { span = e.span; node = e.node }))
@@ -54,7 +53,3 @@ before_level s next found = expr_level _ found ∙ by_name s.name s.expr next s.
 
 pub node_is : (n : Node) (l : Layer) → n ≡ roll-Node l → (site : ℕ) (found : Lambdas) → gather_node n site found ≡ node_in (with_gathered l) site found
 node_is n l is site found = ap (λ m. gather_node m site found) is ∙ ap (λ f. f site found) (roll_level l)
-
-pub switch_level : (e : Expr) (cases : List Case) (last : Option LastCase) (site : ℕ) (found : Lambdas) → gather_node (node.Switch e cases last) site found ≡ gather_some (option_map (λ last. (last, gather_last last)) last) (gather_all (each_with gather_case cases) (gather e found))
-switch_level e cases None site found = node_is _ (Node-F.Switch e cases None) (sym (node.rolls-Switch e cases None)) site found
-switch_level e cases (Some last) site found = node_is _ (Node-F.Switch e cases (Some last)) (sym (node.rolls-Switch e cases (Some last))) site found

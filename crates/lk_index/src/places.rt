@@ -63,7 +63,7 @@ fn node<'p>(
         | Node::Table(_) => Ok(()),
         Node::Lambda(e) => {
             found.push((site, e))?;
-            Ok(expr(alloc, found, &e.body)?)
+            expr(alloc, found, &e.body)
         }
         Node::Call(_, list) | Node::List(list) => exprs(alloc, found, list.as_slice()),
         Node::Apply(f, args) => {
@@ -113,12 +113,12 @@ fn node<'p>(
         Node::Record(fields) => parts(alloc, found, fields.as_slice()),
         Node::Extend(fields, e) => {
             parts(alloc, found, fields.as_slice())?;
-            Ok(expr(alloc, found, e)?)
+            expr(alloc, found, e)
         }
         Node::Switch(e, list, last) => {
             expr(alloc, found, e)?;
             cases(alloc, found, list.as_slice())?;
-            Ok(last_case(alloc, found, last)?)
+            last_case(alloc, found, last)
         }
         Node::Update(rows) | Node::Delete(rows) => change(alloc, found, rows),
     }

@@ -51,7 +51,7 @@ fn sorted_rows(alloc: Global, rows: &[Row]) -> Result<Vec<Json>, NoMemory>
 {
     let mut written = written_rows(alloc, rows)?;
     written.sort_by(|one, other| one.text.as_str().cmp(other.text.as_str()))?;
-    Ok(taken_rows(alloc, written)?)
+    taken_rows(alloc, written)
 }
 
 fn taken_rows(alloc: Global, written: Vec<WrittenRow>) -> Result<Vec<Json>, NoMemory>

@@ -1,4 +1,5 @@
 use Rattle.std.proofs.Common.{arith, ◌++◌, append_assoc, ap, ap₂, sym, ◌∙◌}
+use Rattle.std.proofs.lemmas.Result.{IfOk-equal}
 use Rattle.lk_ast.specs.Layers.{layer}
 use Rattle.lk_ast.specs.declared.expression.Node.{out-Node}
 use Rattle.lk_bag.specs.Blocks.{acts_on_tables, blocks_in}
@@ -18,8 +19,8 @@ expr-loop-name-preserved t c = (
 pub expr-returns : goal.expr-returns
 expr-returns t c =
     let rest = c.loop-name.rest.now in
-    c.in_ok-node.ensures
-    ∙ ap₂ (λ found n. found ++ inside (out-Node n)) c.in_ok-add.ensures c.get.ensures
+    IfOk-equal c.node.result _ _ _ c.node.ensures
+    (ap₂ (λ found n. found ++ inside (out-Node n)) c.in_ok-add.ensures c.get.ensures
     ∙ append_assoc (shown c.loop-name.found) (itself (acts_on_tables (layer rest)) rest) (inside (layer rest))
     ∙ ap (λ more. shown c.loop-name.found ++ more) (sym (block_level rest))
-    ∙ c.loop-name.invariant.1
+    ∙ c.loop-name.invariant.1)
