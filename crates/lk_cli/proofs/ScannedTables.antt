@@ -1,6 +1,6 @@
 -- Tables that are scanned one after the other, and what a session makes of them.
 use Rattle.std.proofs.Common.{◌≡◌, ◌∙◌, refl, sym, ap, subst, inl, inr, true, ℕ, List, [], ◌∷◌, ◌++◌, map}
-use Rattle.std.specs.Prelude.{Option, Some, None, option_map, IfSome}
+use Rattle.std.specs.Prelude.{Option, Some, None, option_map, IfSome, Result, Ok, Err, IfOk}
 use Rattle.std.specs.List.{AllZip}
 use Rattle.lk_ast.specs.Tables.{Tables, all_fit, rows_of, table_defs}
 use Rattle.lk_ast.specs.declared.declaration.Program.{Program}
@@ -62,7 +62,7 @@ told_session program loaded events printed (Some old) (Some new) history others 
 }
 
 -- a session over tables that were loaded
-pub session_over : (program : Program) (command : SourceCommand) (loaded : List TableRows) (done : Done) (old between new : Option Tables)
+session_over : (program : Program) (command : SourceCommand) (loaded : List TableRows) (done : Done) (old between new : Option Tables)
     → between ≡ option_map (loaded_over (table_defs program) loaded) old
     → IsRun program command.arg command.fuel new (run_of done.run)
     → HasHistory program between new done.run.log → KeepsOthers program between new → AllZip (IsScanned new) (table_defs program) done.tables
@@ -72,6 +72,15 @@ session_over program command loaded done old between new is run history others a
   tables = all_of_table new (table_defs program) done.tables are;
   told = told_session program loaded done.run.log done.tables old new (subst (λ told. HasHistory program told new done.run.log) is history) (subst (λ told. KeepsOthers program told new) is others) are;
 }
+
+-- where it is answered
+pub session_answered : (program : Program) (command : SourceCommand) (loaded : List TableRows) (r : Result Done OutFault) (old between new : Option Tables)
+    → between ≡ option_map (loaded_over (table_defs program) loaded) old
+    → IfOk r (λ done. IsRun program command.arg command.fuel new (run_of done.run))
+    → IfOk r (λ done. HasHistory program between new done.run.log) → KeepsOthers program between new → IfOk r (λ done. AllZip (IsScanned new) (table_defs program) done.tables)
+    → IfOk r (λ done. IsSessionOver program command loaded done old new)
+session_answered program command loaded (Ok done) old between new is run history others are = session_over program command loaded done old between new is run history others are
+session_answered program command loaded (Err fault) old between new is run history others are = tt
 
 -- ---- where a session breaks off
 

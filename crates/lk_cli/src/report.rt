@@ -28,7 +28,7 @@ pub fn report(alloc: Global, done: &Done) -> Result<Text, NoMemory>
     let events = lines_of_events(alloc, done.run.log.as_slice())?;
     let tables = line_of_tables(alloc, done.tables.as_slice())?;
     let end = line_of_end(alloc, &done.run.end, done.run.used)?;
-    Ok(joined(events, &tables, &end)?)
+    joined(events, &tables, &end)
 }
 
 /// Two texts behind another.

@@ -13,7 +13,7 @@ pub fn print_schemes(alloc: Global, program: &Program, schemes: &[Scheme]) -> Re
     ensures { IfOk result (λ text. text ≡ lines_of (functions_of program.now) schemes.now) }
 {
     let functions = functions_of(alloc, program)?;
-    Ok(lines_of(alloc, functions.as_slice(), schemes)?)
+    lines_of(alloc, functions.as_slice(), schemes)
 }
 
 /// A line for each function with its scheme. Where there are more of one than of the other, these have none.

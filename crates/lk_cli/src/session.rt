@@ -83,7 +83,7 @@ fn run_over(
 {
     let Rows { defs, loaded } = rows;
     load(alloc, defs.as_slice(), loaded, store)?;
-    Ok(run_loaded(alloc, program, command, defs.as_slice(), store)?)
+    run_loaded(alloc, program, command, defs.as_slice(), store)
 }
 
 /// Runs a session over a store that has the rows to begin with.

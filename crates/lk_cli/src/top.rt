@@ -279,7 +279,7 @@ fn accepted_program<F: Files>(
     ensures refused { IfErr result (HasNoAccepted (seen F.contents F.failed F.faults files.old files.new) file.now) }
 {
     let program = read_program(alloc, file, files, sources)?;
-    Ok(check_program(alloc, program)?)
+    check_program(alloc, program)
 }
 
 /// The store of that name, which has no transaction under way.

@@ -64,7 +64,7 @@ fn instance(alloc: Global, scheme: &Scheme, next: u32) -> Result<Own, NoMemory>
     ensures { IfOk result (λ made. as_own made ≡ the_used (Some (Many scheme.now)) next) }
 {
     let names = scheme_names(alloc, scheme)?;
-    Ok(numbered(alloc, &names, scheme, next)?)
+    numbered(alloc, &names, scheme, next)
 }
 
 /// What is said of the labels that row variables lack.
@@ -87,7 +87,7 @@ fn all_lacks(
 fn lacks_label(alloc: Global, names: &Names, next: u32, lack: &Lack) -> Result<Equation, NoMemory>
     ensures { IfOk result (λ made. made ≡ the_lacks (place_in next names.now) lack.now) }
 {
-    let tail = RowTail::Var(place(next, names, Variable::Row(lack.var))?);
+    let tail = RowTail::Var(place(names, next, Variable::Row(lack.var))?);
     let row = field_before(alloc, lack.label.as_str(), unit(alloc), tail)?;
     let ty = Ty::Fields(row);
     let again = copy_type(alloc, &ty)?;

@@ -23,7 +23,7 @@ pub fn moved(number: u32, by: u32) -> Result<u32, NoMemory>
 }
 
 /// The number that a variable gets, where the first one gets `next`.
-pub fn place(next: u32, names: &Names, variable: Variable) -> Result<u32, NoMemory>
+pub fn place(names: &Names, next: u32, variable: Variable) -> Result<u32, NoMemory>
     ensures { IfOk result (λ made. made ≡ place_in next names.now variable) }
 {
     let place = names.number(variable).saturating_sub(1);
@@ -53,7 +53,7 @@ pub fn renamed(alloc: Global, names: &Names, next: u32, ty: &Ty) -> Result<Ty, N
             let answer = renamed(alloc, names, next, answer.get())?;
             Ok(Ty::Fun(params, effects, Boxed::new(alloc, answer)?))
         }
-        Ty::Var(number) => Ok(Ty::Var(place(next, names, Variable::Plain(*number))?)),
+        Ty::Var(number) => Ok(Ty::Var(place(names, next, Variable::Plain(*number))?)),
     }
 }
 
@@ -74,7 +74,7 @@ fn renamed_row(alloc: Global, names: &Names, next: u32, row: &TyRow) -> Result<T
     ensures { IfOk result (λ made. made ≡ the_renamed_row (place_in next names.now) row.now) }
 {
     let fields = renamed_fields(alloc, names, next, row.fields.as_slice())?;
-    let tail = row_end(next, names, row.tail)?;
+    let tail = row_end(names, next, row.tail)?;
     Ok(TyRow { fields, tail })
 }
 
@@ -121,25 +121,25 @@ fn renamed_effects(
     for label in effects.labels.as_slice() {
         labels.push(*label)?;
     }
-    let tail = effects_end(next, names, effects.tail)?;
+    let tail = effects_end(names, next, effects.tail)?;
     Ok(Effects { labels, tail })
 }
 
-fn row_end(next: u32, names: &Names, tail: RowTail) -> Result<RowTail, NoMemory>
+fn row_end(names: &Names, next: u32, tail: RowTail) -> Result<RowTail, NoMemory>
     ensures { IfOk result (λ made. made ≡ tail_renamed (place_in next names.now) variable.Row tail) }
 {
     match tail {
         RowTail::Closed => Ok(RowTail::Closed),
-        RowTail::Var(number) => Ok(RowTail::Var(place(next, names, Variable::Row(number))?)),
+        RowTail::Var(number) => Ok(RowTail::Var(place(names, next, Variable::Row(number))?)),
     }
 }
 
-fn effects_end(next: u32, names: &Names, tail: RowTail) -> Result<RowTail, NoMemory>
+fn effects_end(names: &Names, next: u32, tail: RowTail) -> Result<RowTail, NoMemory>
     ensures { IfOk result (λ made. made ≡ tail_renamed (place_in next names.now) variable.Effects tail) }
 {
     match tail {
         RowTail::Closed => Ok(RowTail::Closed),
-        RowTail::Var(number) => Ok(RowTail::Var(place(next, names, Variable::Effects(number))?)),
+        RowTail::Var(number) => Ok(RowTail::Var(place(names, next, Variable::Effects(number))?)),
     }
 }
 

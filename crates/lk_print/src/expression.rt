@@ -33,7 +33,7 @@ pub fn write_inside(alloc: Global, line: &mut Text, e: &Expr) -> Result<(), NoMe
         write_sign(line, ";")?;
         rest = next;
     }
-    Ok(write_node(alloc, line, rest.node.get())?)
+    write_node(alloc, line, rest.node.get())
 }
 
 /// An expression where it stands alone between brackets, commas and the like.

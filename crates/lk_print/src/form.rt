@@ -169,7 +169,7 @@ pub fn write_update(alloc: Global, line: &mut Text, change: &ChangeExpr) -> Resu
     write_word(line, "update")?;
     write_rows(alloc, line, change)?;
     write_word(line, "set")?;
-    Ok(write_sets(alloc, line, change)?)
+    write_sets(alloc, line, change)
 }
 
 /// `delete (x <-- t) where (c)`.
@@ -179,7 +179,7 @@ pub fn write_delete(alloc: Global, line: &mut Text, change: &ChangeExpr) -> Resu
     ensures { OnOk result (line.new ≡ line.old ++ flat_map spaced (print_node (node.Delete change.now)).inside) }
 {
     write_word(line, "delete")?;
-    Ok(write_rows(alloc, line, change)?)
+    write_rows(alloc, line, change)
 }
 
 /// `(x, y) client { e }`.
@@ -203,7 +203,7 @@ fn write_rows(alloc: Global, line: &mut Text, change: &ChangeExpr) -> Result<(),
 {
     write_source(line, &change.name, &change.table)?;
     write_word(line, "where")?;
-    Ok(write_round(alloc, line, &change.cond)?)
+    write_round(alloc, line, &change.cond)
 }
 
 /// `(l = e, m = d)` of an update.

@@ -37,19 +37,19 @@ fn write_type(line: &mut Text, ty: &SigType) -> Result<(), NoMemory>
         SigType::Fields(fields) => {
             write_sign(line, "(")?;
             write_fields(line, fields.as_slice())?;
-            Ok(write_sign(line, ")")?)
+            write_sign(line, ")")
         }
         SigType::Tags(tags) => {
             write_sign(line, "[|")?;
             write_tags(line, tags.as_slice())?;
-            Ok(write_sign(line, "|]")?)
+            write_sign(line, "|]")
         }
         SigType::Fun(params, answer) => {
             write_sign(line, "(")?;
             write_types(line, params.as_slice())?;
             write_sign(line, ")")?;
             write_sign(line, "->")?;
-            Ok(write_type(line, answer.get())?)
+            write_type(line, answer.get())
         }
     }
 }

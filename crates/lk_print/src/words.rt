@@ -71,7 +71,7 @@ pub fn write_order(line: &mut Text, keys: &[SortKey]) -> Result<(), NoMemory>
             write_word(line, "orderby")?;
             write_sign(line, "(")?;
             write_keys(line, first, rest)?;
-            Ok(write_sign(line, ")")?)
+            write_sign(line, ")")
         }
     }
 }

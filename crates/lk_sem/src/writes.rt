@@ -124,7 +124,7 @@ fn insert_rows<'p>(
     let Some(rows) = rows_in(alloc, args)? else {
         unreachable!()
     };
-    Ok(add_rows(alloc, def, store, rows)?)
+    add_rows(alloc, def, store, rows)
 }
 
 /// Puts rows, which fit it, behind those of a table, unless it would have too many.
@@ -202,7 +202,7 @@ fn update_rows<'p>(
         args,
         there.into_rows(),
     )?;
-    Ok(put_rows(alloc, def, store, rows)?)
+    put_rows(alloc, def, store, rows)
 }
 
 /// Leaves the rows of a table that a deletion keeps, where a transaction is under way.
@@ -237,7 +237,7 @@ fn delete_rows<'p>(
         args,
         there.into_rows(),
     )?;
-    Ok(put_rows(alloc, def, store, rows)?)
+    put_rows(alloc, def, store, rows)
 }
 
 /// Replaces all rows of a table.

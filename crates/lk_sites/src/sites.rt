@@ -181,7 +181,7 @@ fn expr<'g, 'p>(
     }
     enter(fun, inside, rest, tour)?;
     let within = is_inside(inside, rest);
-    Ok(node(fun, room - 1, within, rest.node.get(), tour)?)
+    node(fun, room - 1, within, rest.node.get(), tour)
 }
 
 /// The visit inside a node.
@@ -240,9 +240,7 @@ fn node<'g, 'p>(
         Node::If(c, d, e) => three(fun, room, inside, c, d, e, tour),
         Node::Record(list) => parts(fun, room, inside, list.as_slice(), tour),
         Node::Extend(list, e) => Ok(extension(fun, room, inside, list.as_slice(), e, tour)?),
-        Node::Switch(e, list, last) => {
-            Ok(switch(fun, room, inside, e, list.as_slice(), last, tour)?)
-        }
+        Node::Switch(e, list, last) => switch(fun, room, inside, e, list.as_slice(), last, tour),
         Node::Update(rows) | Node::Delete(rows) => change(fun, room, inside, rows, tour),
     }
 }

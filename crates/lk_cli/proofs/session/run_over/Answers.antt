@@ -1,10 +1,11 @@
 use Rattle.std.proofs.Common.{◌≡◌, ◌∙◌, ap, subst, map}
 use Rattle.std.specs.List.{AllZip}
+use Rattle.std.proofs.lemmas.Result.{IfErr-weaker}
 use Rattle.lk_ast.specs.Tables.{table_defs}
 use Rattle.lk_tables.specs.Law.{are_distinct}
 use Rattle.lk_cli.proofs.LoadedTables.{told_fit}
 use Rattle.lk_cli.proofs.Putting.{name_of}
-use Rattle.lk_cli.proofs.ScannedTables.{session_over}
+use Rattle.lk_cli.proofs.ScannedTables.{left_over, session_answered}
 use Rattle.lk_cli.proofs.TablesApart.{tables_apart}
 use Rattle.lk_cli.specs.Loading.{IsOfTable}
 use Rattle.lk_cli.proofs.session.run_over.Goals as goal
@@ -22,5 +23,11 @@ pub returns-clause-session : goal.returns-clause-session
 returns-clause-session g c =
     let declared : c.as_slice.result.now ≡ table_defs c.args.program.now = c.as_slice.ensures ∙ c.requires.declared in
     let again : c.as_slice-2.result.now ≡ table_defs c.args.program.now = c.as_slice-2.ensures ∙ c.requires.declared in
-    let is = c.in_ok-run_loaded.ensures in
-    session_over c.args.program.now c.args.command.now c.args.rows.loaded c.in_ok-run_loaded.field-0 _ _ _ (rw declared at c.in_ok-load.ensures.loaded) is.run is.history is.others (rw again at is.scanned)
+    let is = c.run_loaded.ensures in
+    session_answered c.args.program.now c.args.command.now c.args.rows.loaded c.run_loaded.result _ _ _ (rw declared at c.in_ok-load.ensures.loaded) is.run is.history is.others (rw again at is.scanned)
+
+pub returns-clause-refused : goal.returns-clause-refused
+returns-clause-refused g c =
+    let declared : c.as_slice.result.now ≡ table_defs c.args.program.now = c.as_slice.ensures ∙ c.requires.declared in
+    let is = c.run_loaded.ensures in
+    IfErr-weaker c.run_loaded.result _ _ (λ fault breaks. left_over c.args.program.now c.args.command.now c.args.rows.loaded _ _ _ fault (rw declared at c.in_ok-load.ensures.loaded) breaks is.others) is.refused

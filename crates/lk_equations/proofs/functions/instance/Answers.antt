@@ -1,6 +1,10 @@
 use Rattle.std.proofs.Common.{◌∙◌}
+use Rattle.std.proofs.lemmas.Result.{IfOk-weaker}
 use Rattle.lk_equations.proofs.Numbers.{instance_is}
 use Rattle.lk_equations.proofs.functions.instance.Goals as goal
 
 pub returns : goal.returns
-returns c = c.in_ok-numbered.ensures ∙ instance_is c.args.next c.args.scheme.now c.in_ok-names.names c.in_ok-names.ensures.numbers c.in_ok-names.ensures.count
+returns c =
+    IfOk-weaker c.numbered.result _ _
+    (λ made is. is ∙ instance_is c.args.next c.args.scheme.now c.in_ok-names.names c.in_ok-names.ensures.numbers c.in_ok-names.ensures.count)
+    c.numbered.ensures

@@ -1,5 +1,6 @@
 use Rattle.std.proofs.Common.{◌≡◌, List, Option, Some, None, sym, ap, ◌∙◌}
 use Rattle.std.proofs.lemmas.Option.{none-some}
+use Rattle.std.proofs.lemmas.Result.{IfOk-weaker}
 use Rattle.lk_ast.specs.declared.table.Row.{Row}
 use Rattle.lk_sem.specs.RowValues.{rows_in}
 use Rattle.lk_sem.proofs.Changing.{fits_found, insertion_fits, written_insert}
@@ -20,4 +21,6 @@ add_rows-requires-clause-columns g c =
 
 pub returns-clause-written : goal.returns-clause-written
 returns-clause-written g c =
-    written_insert c.args.catalog.now c.requires.apart.bound c.args.site c.args.args.now c.args.table.now c.requires.insertion c.in-Some.def.now (sym c.in-Some.ensures) c.in-Some-2.rows (sym c.in_ok-rows.ensures ∙ c.in-Some-2.is) _ _ _ c.in_ok-add_rows.ensures.added
+    IfOk-weaker c.add_rows.result _ _
+    (λ written is. written_insert c.args.catalog.now c.requires.apart.bound c.args.site c.args.args.now c.args.table.now c.requires.insertion c.in-Some.def.now (sym c.in-Some.ensures) c.in-Some-2.rows (sym c.in_ok-rows.ensures ∙ c.in-Some-2.is) _ _ _ is)
+    c.add_rows.ensures.added
