@@ -161,25 +161,26 @@ is_not : (b : Bool) → (b ≡ true → ⊥) → not b ≡ true
 is_not true fails = absurd (fails refl)
 is_not false fails = refl
 
-pub generalised : (types : List Ty) (body : Ty) → IsGeneralised types body (scheme_for (in_order (flat_map shown types)) body)
-generalised types body =
-    let p : Lack → Bool = λ q. has_row q.var body && not (has_lack (in_order (shown body)) q) in
-    let all : List Lack = flat_map shown types in
-    record {
-      body_is = refl;
-      lacks = λ q. (
-        (λ is. let kept = kept_is q p (in_order all) is in
-            let tests = and_parts _ _ kept.1 in
-            (ordered_is q all kept.0, has_row_is q.var body tests.0, λ own. not_is _ tests.1 (is_has (in_order (shown body)) q (is_ordered q (shown body) own)))),
-        (λ is. is_kept q p (in_order all)
-            (ap (λ b. b && not (has_lack (in_order (shown body)) q)) (is_has_row q.var body is.1) ∙ is_not _ (λ own. is.2 (ordered_is q (shown body) (has_is (in_order (shown body)) q own))))
-            (is_ordered q all is.0)),
-      );
-    }
+-- the lacks that are put beside a type, where these have the members of what types show
+module _ (types : List Ty) (all : List Lack) (members : (q : Lack) → IsIn q all ↔ IsIn q (flat_map shown types)) where
+  generalised : (body : Ty) → IsGeneralised types body (scheme_for all body)
+  generalised body =
+      let p : Lack → Bool = λ q. has_row q.var body && not (has_lack (in_order (shown body)) q) in
+      record {
+        body_is = refl;
+        lacks = λ q. (
+          (λ is. let kept = kept_is q p all is in
+              let tests = and_parts _ _ kept.1 in
+              ((members q).0 kept.0, has_row_is q.var body tests.0, λ own. not_is _ tests.1 (is_has (in_order (shown body)) q (is_ordered q (shown body) own)))),
+          (λ is. is_kept q p all
+              (ap (λ b. b && not (has_lack (in_order (shown body)) q)) (is_has_row q.var body is.1) ∙ is_not _ (λ own. is.2 (ordered_is q (shown body) (has_is (in_order (shown body)) q own))))
+              ((members q).1 is.0)),
+        );
+      }
 
-pub all_generalised : (types bodies : List Ty) → AreGeneralised types bodies (map (scheme_for (in_order (flat_map shown types))) bodies)
-all_generalised types [] = tt
-all_generalised types (body ∷ bodies) = (generalised types body, all_generalised types bodies)
+  all_generalised : (bodies : List Ty) → AreGeneralised types bodies (map (scheme_for all) bodies)
+  all_generalised [] = tt
+  all_generalised (body ∷ bodies) = (generalised body, all_generalised bodies)
 
 -- ---- the order
 
@@ -227,9 +228,9 @@ pub in_order-rises : (xs : List Lack) → AreInOrder (in_order xs)
 unfolding IsStrictlySortedBy
 in_order-rises xs = order_puts xs [] tt
 
-schemes_in_order : (xs : List Lack) (bodies : List Ty) → Each (λ (scheme : Scheme). AreInOrder scheme.lacks) (map (scheme_for (in_order xs)) bodies)
-schemes_in_order xs [] = tt
-schemes_in_order xs (body ∷ bodies) = (order_kept (λ lack. has_row lack.var body && not (has_lack (in_order (shown body)) lack)) (in_order xs) (in_order-rises xs), schemes_in_order xs bodies)
+schemes_in_order : (all : List Lack) → AreInOrder all → (bodies : List Ty) → Each (λ (scheme : Scheme). AreInOrder scheme.lacks) (map (scheme_for all) bodies)
+schemes_in_order all rise [] = tt
+schemes_in_order all rise (body ∷ bodies) = (order_kept (λ lack. has_row lack.var body && not (has_lack (in_order (shown body)) lack)) all rise, schemes_in_order all rise bodies)
 
 -- ---- the numbers of the variables of rows
 
@@ -244,18 +245,12 @@ rows_are n t xs rows is made = made.0 n ∙ numbers_is n xs ∙ ap (list_any (sa
 
 -- ---- all schemes
 
-module _ (types bodies seen : List Ty) (all : List Lack) (schemes : List Scheme) (same : seen ≡ types) (of : all ≡ in_order (flat_map shown seen)) (made : schemes ≡ map (scheme_for all) bodies) where
-  are : schemes ≡ map (scheme_for (in_order (flat_map shown types))) bodies
-  are = made ∙ ap (λ z. map (scheme_for z) bodies) (of ∙ ap (λ z. in_order (flat_map shown z)) same)
-
+module _ (types bodies : List Ty) (all : List Lack) (schemes : List Scheme) (members : (q : Lack) → IsIn q all ↔ IsIn q (flat_map shown types)) (rise : AreInOrder all) (made : schemes ≡ map (scheme_for all) bodies) where
   pub are_schemes : AreGeneralised types bodies schemes
-  are_schemes = subst (AreGeneralised types bodies) (sym are) (all_generalised types bodies)
+  are_schemes = subst (AreGeneralised types bodies) (sym made) (all_generalised types all members bodies)
 
   pub are_in_order : Each (λ (scheme : Scheme). AreInOrder scheme.lacks) schemes
-  are_in_order = subst (Each (λ (scheme : Scheme). AreInOrder scheme.lacks)) (sym are) (schemes_in_order (flat_map shown types) bodies)
-
-pub is_generalised : (all : List Lack) (body : Ty) (scheme : Scheme) → scheme ≡ scheme_for all body → (types : List Ty) → all ≡ in_order (flat_map shown types) → IsGeneralised types body scheme
-is_generalised all body scheme is types of = subst (IsGeneralised types body) (sym (is ∙ ap (λ z. scheme_for z body) of)) (generalised types body)
+  are_in_order = subst (Each (λ (scheme : Scheme). AreInOrder scheme.lacks)) (sym made) (schemes_in_order all rise bodies)
 
 pub same_members : (found xs : List Lack) → found ≡ in_order xs → (lack : Lack) → IsIn lack found ↔ IsIn lack xs
 same_members found xs is lack = ((λ there. ordered_is lack xs (subst (IsIn lack) is there)), (λ there. subst (IsIn lack) (sym is) (is_ordered lack xs there)))

@@ -12,6 +12,7 @@ pub mod LackMembers
 pub mod LackSets
 pub mod LacksShown
 pub mod LateSteps
+pub mod LevelsShown
 pub mod LooseOf
 pub mod LooseUnfold
 pub mod LooselyAgree
@@ -30,6 +31,7 @@ pub mod SpentNodes
 pub mod Unions
 pub mod WalkAnswers
 pub mod WalkSteps
+pub mod WrittenOut
 pub mod Accepting
 pub mod Continued
 pub mod Further

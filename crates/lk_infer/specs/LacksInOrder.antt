@@ -1,6 +1,6 @@
 -- Lacks in the order of their variables, then in byte order of their labels, each once; the scheme that is made of them, and
 -- schemes that are written in order.
-use Rattle.std.specs.Prelude.{ℕ, Bool, ◌&&◌, not, List, [], ◌∷◌, Option, Some, None, String, string_bytes}
+use Rattle.std.specs.Prelude.{ℕ, Bool, ◌&&◌, not, cond, List, [], ◌∷◌, ◌++◌, map, Option, Some, None, String, string_bytes}
 use Rattle.std.specs.BTreeSet.{insert_key}
 use Rattle.std.specs.Cmp.Lexicographic.{slice_cmp}
 use Rattle.std.specs.List.{filter, list_any}
@@ -8,12 +8,15 @@ use Rattle.std.specs.List.Sorted.{IsStrictlySortedBy}
 use Rattle.std.specs.Ordering.{eq_by_cmp, nat_cmp, ordering_then}
 use Rattle.std.specs.declared.cmp.Ordering.{Ordering}
 use Rattle.lk_types.specs.Variables.{same_variable, variables_of}
+use Rattle.lk_types.specs.declared.levels.Level.{Level}
+use Rattle.lk_types.specs.declared.levels.Level.TheVariants as level
+use Rattle.lk_types.specs.declared.levels.LevelRow.{LevelRow}
 use Rattle.lk_types.specs.declared.scheme.Lack.{Lack}
 use Rattle.lk_types.specs.declared.scheme.Scheme.{Scheme}
 use Rattle.lk_types.specs.declared.ty.Ty.{Ty}
 use Rattle.lk_types.specs.declared.ty.Variable.{Variable}
 use Rattle.lk_types.specs.declared.ty.Variable.TheVariants as variable
-use Rattle.lk_infer.specs.Lacks.{shown}
+use Rattle.lk_infer.specs.Lacks.{shown, tail_lacks}
 use Rattle.lk_unify.specs.InOrder.{IsInOrder}
 
 -- by their variables, then by the bytes of their labels
@@ -65,3 +68,20 @@ scheme_for all body = record { body = body; lacks = lacks_for all body }
 -- the labels and effects of the body stand in byte order, and the lacks in theirs
 abbrev pub IsSchemeInOrder : Scheme → Type 0
 IsSchemeInOrder scheme = IsInOrder scheme.body × AreInOrder scheme.lacks
+
+-- ---- types in a table
+
+-- the labels before the tail of a row
+abbrev pub row_lacks : LevelRow → List Lack
+row_lacks row = tail_lacks (map (λ f. f.label) row.fields) row.tail
+
+-- those of a level, without its parts
+abbrev pub level_lacks : Level → List Lack
+level_lacks (level.Fields row) = row_lacks row
+level_lacks (level.Tags row) = row_lacks row
+level_lacks other = []
+
+-- those of the levels that are marked
+abbrev pub marked_lacks : List Level → List Bool → List Lack
+marked_lacks (l ∷ levels) (m ∷ marks) = cond m (level_lacks l) [] ++ marked_lacks levels marks
+marked_lacks _ _ = []

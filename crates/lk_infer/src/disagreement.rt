@@ -15,7 +15,7 @@ use crate::program::{Inference, add_group};
 use lk_ast::{Decl, List, NoMemory};
 use lk_equations::{Scope, Tables, copy_type};
 use lk_names::Scoped;
-use lk_types::{Equation, Scheme, Ty};
+use lk_types::{Equation, Scheme, Ty, Types};
 use lk_typing::{Said, Step};
 use lk_unify::{Constraint, Sizing, UnifyError, first_unsolvable, solve_first};
 use lk_walk::{GroupWalk, walk_group};
@@ -117,14 +117,13 @@ fn plan_odd(alloc: Global, odd: Odd) -> Result<List<Constraint>, NoMemory>
 }
 
 /// The first two of these types.
-fn first_two(types: List<Ty>) -> Disagreement
-    requires { 2 ≤ length types }
-    ensures { types ≡ result.left ∷ (result.right ∷ drop 2 types) }
+fn first_two(alloc: Global, types: &Types) -> Result<Disagreement, NoMemory>
+    requires { 2 ≤ length types.now }
+    ensures { IfOk result (λ it. types.now ≡ it.left ∷ (it.right ∷ drop 2 types.now)) }
 {
-    let mut types = types.into_vec();
-    let right = types.remove(1);
-    let left = types.remove(0);
-    Disagreement { left, right }
+    let left = types.tree(alloc, 0)?;
+    let right = types.tree(alloc, 1)?;
+    Ok(Disagreement { left, right })
 }
 
 /// What a most general solution of the equations before an equation makes of its sides. `None` where it leaves a side no type, or
@@ -134,7 +133,10 @@ fn solve_odd(alloc: Global, odd: Odd) -> Result<Option<Disagreement>, NoMemory>
 {
     let constraints = plan_odd(alloc, odd)?;
     match solve_first(alloc, constraints, 2) {
-        Ok(types) => Ok(Some(first_two(types))),
+        Ok(types) => {
+            let found = first_two(alloc, &types)?;
+            Ok(Some(found))
+        }
         Err(UnifyError::NoSolution(_)) => Ok(None),
         Err(UnifyError::TypeTooLarge(_)) => Ok(None),
         Err(UnifyError::NoMemory) => Err(NoMemory),

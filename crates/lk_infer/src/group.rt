@@ -9,15 +9,15 @@ ghost use Rattle.lk_infer.specs.declared.error.InferError.TheVariants as errors;
 ghost use Rattle.lk_types.specs.Each.{Each};
 ghost use Rattle.lk_typing.specs.EffectRows.{IsEvenScheme};
 ghost use Rattle.lk_typing.specs.Groups.{group_walked};
-ghost use Rattle.std.specs.Prelude.{◌≡◌, false, take, Err, IfOk};
+ghost use Rattle.std.specs.Prelude.{◌≡◌, false, Err, IfOk};
 
 use crate::error::InferError;
 use crate::late::{first_node, refuse_late};
 use crate::schemes::schemes_of;
 use crate::solving::solve_walk;
-use lk_ast::{Decl, List};
+use lk_ast::{Decl, List, NoMemory};
 use lk_equations::{Scope, Tables};
-use lk_types::{Scheme, Ty};
+use lk_types::{Scheme, Ty, Types};
 use lk_typing::typing_laws;
 use lk_walk::{GroupWalk, walk_group};
 use std::alloc::Global;
@@ -31,13 +31,15 @@ pub struct Group {
     pub types: List<Ty>,
 }
 
-/// The first of these types.
-fn first_types(types: List<Ty>, count: usize) -> List<Ty>
-    ensures { result ≡ take count types }
+/// These types by themselves, each with all its parts.
+fn written_out(alloc: Global, types: &Types) -> Result<List<Ty>, NoMemory>
+    ensures { IfOk result (λ all. all ≡ types.now) }
 {
-    let mut types = types.into_vec();
-    types.truncate(count);
-    List::from_vec(types)
+    let mut all = List::new(alloc);
+    for number in 0..types.len() {
+        all.push(types.tree(alloc, number)?)?;
+    }
+    Ok(all)
 }
 
 /// Schemes of the functions and types of the nodes, by what a walk says of them.
@@ -52,9 +54,10 @@ fn generalise(alloc: Global, walk: GroupWalk) -> Result<Group, InferError>
 {
     let functions = walk.functions.len();
     let nodes = walk.nodes.len();
-    let types = solve_walk(alloc, walk)?;
-    let (schemes, others) = schemes_of(alloc, types, functions)?;
-    let types = first_types(others, nodes);
+    let all = solve_walk(alloc, walk)?;
+    let schemes = schemes_of(alloc, &all, functions)?;
+    let inside = all.part(alloc, functions, nodes)?;
+    let types = written_out(alloc, &inside)?;
     Ok(Group { schemes, types })
 }
 

@@ -2,16 +2,16 @@
 
 ghost use Rattle.lk_infer.specs.Generalised.{IsIn};
 ghost use Rattle.lk_infer.specs.Lacks.{shown, shown_in_row, tail_lacks};
-ghost use Rattle.lk_infer.specs.LacksInOrder.{has_lack, in_order, lack_of, with_lack, with_lacks};
+ghost use Rattle.lk_infer.specs.LacksInOrder.{has_lack, lack_of, level_lacks, marked_lacks, row_lacks, with_lack, with_lacks, AreInOrder};
 ghost use Rattle.lk_types.specs.declared.ty.RowTail.TheVariants as tail;
 ghost use Rattle.lk_types.specs.declared.scheme.Lack.{Lack as TheLack};
 ghost use Rattle.std.specs.BTreeSet.{contains};
 ghost use Rattle.std.specs.List.{filter};
 ghost use Rattle.std.specs.Ordering.{nat_cmp};
-ghost use Rattle.std.specs.Prelude.{◌≡◌, ◌↔◌, ◌&&◌, not, [], IfOk, OnOk, flat_map, map};
+ghost use Rattle.std.specs.Prelude.{◌≡◌, ◌↔◌, ◌&&◌, cond, not, [], IfOk, OnOk, flat_map, length, map};
 
 use lk_ast::{List, NoMemory, Text};
-use lk_types::{Lack, RowTail, Ty, TyField, TyRow};
+use lk_types::{Lack, Level, LevelField, LevelRow, RowTail, Ty, TyField, TyRow, Types, marked};
 use std::alloc::Global;
 use std::collections::BTreeSet;
 use std::marker::Model;
@@ -91,13 +91,79 @@ fn is_left(rows: &BTreeSet<u32>, others: &Shown, pair: &(u32, String)) -> bool
 }
 
 /// What types show.
-pub fn all_shown(alloc: Global, types: &[Ty]) -> Result<Shown, NoMemory>
-    ensures made { IfOk result (λ found. found ≡ in_order (flat_map shown types.now)) }
+pub fn all_shown(alloc: Global, types: &Types) -> Result<Shown, NoMemory>
     ensures members { IfOk result (λ found. (lack : TheLack) → IsIn lack found ↔ IsIn lack (flat_map shown types.now)) }
+    ensures ordered { IfOk result (λ found. AreInOrder found) }
 {
+    let table = types.parts();
+    let marks = marked(alloc, table.0, table.1)?;
     let mut found = Shown::new(alloc);
-    insert_all(alloc, &mut found, types)?;
+    insert_marked(alloc, &mut found, table.0, marks.as_slice())?;
     Ok(found)
+}
+
+/// Adds the labels before the tails of the rows of marked levels.
+fn insert_marked(
+    alloc: Global,
+    found: &mut Shown,
+    levels: &[Level],
+    marks: &[bool],
+) -> Result<(), NoMemory>
+    requires { length marks.now ≡ length levels.now }
+    ensures { OnOk result (found.new ≡ with_lacks found.old (marked_lacks levels.now marks.now)) }
+{
+    for place in 0..levels.len() {
+        insert_level(alloc, found, &levels[place], marks[place])?;
+    }
+    Ok(())
+}
+
+/// Adds the labels before the tail of a level's row, if it is marked.
+fn insert_level(
+    alloc: Global,
+    found: &mut Shown,
+    level: &Level,
+    is_marked: bool,
+) -> Result<(), NoMemory>
+    ensures { OnOk result (found.new ≡ with_lacks found.old (cond is_marked (level_lacks level.now) [])) }
+{
+    if !is_marked {
+        return Ok(());
+    }
+    match level {
+        Level::Fields(row) | Level::Tags(row) => insert_level_row(alloc, found, row),
+        Level::Int
+        | Level::Bool
+        | Level::Text
+        | Level::List(_)
+        | Level::Fun(_, _, _)
+        | Level::Var(_) => Ok(()),
+    }
+}
+
+/// Adds the labels before a tail.
+fn insert_level_row(alloc: Global, found: &mut Shown, row: &LevelRow) -> Result<(), NoMemory>
+    ensures { OnOk result (found.new ≡ with_lacks found.old (row_lacks row.now)) }
+{
+    match row.tail {
+        RowTail::Closed => Ok(()),
+        RowTail::Var(var) => insert_level_labels(alloc, found, row.fields.as_slice(), var),
+    }
+}
+
+/// Adds the labels before a variable.
+fn insert_level_labels(
+    alloc: Global,
+    found: &mut Shown,
+    fields: &[LevelField],
+    var: u32,
+) -> Result<(), NoMemory>
+    ensures { OnOk result (found.new ≡ with_lacks found.old (tail_lacks (map (λ f. f.label) fields.now) (tail.Var var))) }
+{
+    for field in fields {
+        found.insert(alloc, var, field.label.as_str())?;
+    }
+    Ok(())
 }
 
 /// Adds what a type shows.

@@ -1,54 +1,50 @@
 //! The schemes of functions, made of their types.
 
-ghost use Rattle.lk_infer.specs.Generalised.{AreGeneralised, IsGeneralised};
-ghost use Rattle.lk_infer.specs.Lacks.{shown};
-ghost use Rattle.lk_infer.specs.LacksInOrder.{AreInOrder, has_row, in_order, lacks_for, row_number, scheme_for};
+ghost use Rattle.lk_infer.specs.Generalised.{AreGeneralised};
+ghost use Rattle.lk_infer.specs.LacksInOrder.{AreInOrder, has_row, lacks_for, row_number, scheme_for};
 ghost use Rattle.lk_types.specs.Each.{Each};
-ghost use Rattle.lk_types.specs.declared.ty.Ty.{Ty as TheTy};
 ghost use Rattle.std.specs.BTreeSet.{IsFromIterResult, contains};
 ghost use Rattle.std.specs.List.{filter_map};
 ghost use Rattle.std.specs.Ordering.{nat_cmp};
-ghost use Rattle.std.specs.Prelude.{◌≡◌, ◌≤◌, ℕ, List as TheList, IfOk, drop, flat_map, length, map, take};
+ghost use Rattle.std.specs.Prelude.{◌≡◌, ◌≤◌, ℕ, IfOk, length, map, take};
 
 use crate::lacks::{Shown, all_shown, insert_shown};
 use lk_ast::{List, NoMemory};
-use lk_types::{Lack, Scheme, Ty, Variable, push_variables};
+use lk_types::{Lack, Scheme, Ty, Types, Variable, push_variables};
 use std::alloc::Global;
 use std::collections::BTreeSet;
 
-/// The schemes of the first of these types, and the other types. The variables of rows lack what any of the types shows.
-pub fn schemes_of(
-    alloc: Global,
-    types: List<Ty>,
-    count: usize,
-) -> Result<(List<Scheme>, List<Ty>), NoMemory>
-    requires { count ≤ length types }
-    ensures schemes { IfOk result (λ parts. AreGeneralised types (take count types) parts.0) }
-    ensures ordered { IfOk result (λ parts. Each (λ scheme. AreInOrder scheme.lacks) parts.0) }
-    ensures others { IfOk result (λ parts. parts.1 ≡ drop count types) }
+/// The schemes of the first of these types. The variables of rows lack what any of the types shows.
+pub fn schemes_of(alloc: Global, types: &Types, count: usize) -> Result<List<Scheme>, NoMemory>
+    requires { count ≤ length types.now }
+    ensures schemes { IfOk result (λ schemes. AreGeneralised types.now (take count types.now) schemes) }
+    ensures ordered { IfOk result (λ schemes. Each (λ scheme. AreInOrder scheme.lacks) schemes) }
 {
-    let all = all_shown(alloc, types.as_slice())?;
-    let mut bodies = types.into_vec();
-    let others = bodies.split_off(count)?;
-    let schemes = schemes_for(alloc, bodies, &all)?;
-    Ok((schemes, List::from_vec(others)))
+    let all = all_shown(alloc, types)?;
+    schemes_for(alloc, types, count, &all)
 }
 
-/// The scheme of each type, where its variables of rows lack what is shown.
-fn schemes_for(alloc: Global, bodies: Vec<Ty>, all: &Shown) -> Result<List<Scheme>, NoMemory>
-    ensures { IfOk result (λ schemes. schemes ≡ map (scheme_for all.now) bodies.items) }
+/// The schemes of the first of these types, where their variables of rows lack what is shown.
+fn schemes_for(
+    alloc: Global,
+    types: &Types,
+    count: usize,
+    all: &Shown,
+) -> Result<List<Scheme>, NoMemory>
+    requires { count ≤ length types.now }
+    ensures { IfOk result (λ schemes. schemes ≡ map (scheme_for all.now) (take count types.now)) }
 {
     let mut schemes = List::new(alloc);
-    for body in bodies {
+    for number in 0..count {
+        let body = types.tree(alloc, number)?;
         schemes.push(scheme_of(alloc, body, all)?)?;
     }
     Ok(schemes)
 }
 
 /// The scheme of a type, where its variables of rows lack what is shown, but for what it shows itself.
-pub fn scheme_of(alloc: Global, body: Ty, all: &Shown) -> Result<Scheme, NoMemory>
-    ensures made { IfOk result (λ scheme. scheme ≡ scheme_for all.now body) }
-    ensures general { IfOk result (λ scheme. (types : TheList TheTy) → all.now ≡ in_order (flat_map shown types) → IsGeneralised types body scheme) }
+fn scheme_of(alloc: Global, body: Ty, all: &Shown) -> Result<Scheme, NoMemory>
+    ensures { IfOk result (λ scheme. scheme ≡ scheme_for all.now body) }
 {
     let lacks = lacks_of(alloc, &body, all)?;
     Ok(Scheme { body, lacks })
@@ -70,7 +66,7 @@ fn rows_of(alloc: Global, ty: &Ty) -> Result<BTreeSet<u32>, NoMemory>
 {
     let mut variables = List::new(alloc);
     push_variables(&mut variables, ty)?;
-    Ok(numbers_of(alloc, variables.as_slice())?)
+    numbers_of(alloc, variables.as_slice())
 }
 
 /// The numbers of those variables that are variables of rows.

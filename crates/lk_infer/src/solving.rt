@@ -12,7 +12,7 @@ ghost use Rattle.std.specs.Prelude.{◌≡◌, ℕ, ◌+◌, ◌<◌, false, len
 use crate::constraints::{push_asked, push_steps};
 use crate::error::InferError;
 use lk_ast::{List, NoMemory, Span};
-use lk_types::Ty;
+use lk_types::Types;
 use lk_unify::{Constraint, UnifyError, solve};
 use lk_walk::GroupWalk;
 use std::alloc::Global;
@@ -61,7 +61,7 @@ fn place_of(places: &[Span], asked: usize, number: u64) -> Span
 
 /// The types of the functions, those of the nodes, and those of what the steps say, under a most general solution of the
 /// steps.
-pub fn solve_walk(alloc: Global, walk: GroupWalk) -> Result<List<Ty>, InferError>
+pub fn solve_walk(alloc: Global, walk: GroupWalk) -> Result<Types, InferError>
     requires functions { Each IsPlain walk.functions }
     requires nodes { Each IsPlain walk.nodes }
     ensures sides { IfOk result (λ types. AreSides (equations_of (walk_constraints walk)) types) }

@@ -1,15 +1,15 @@
 -- A type has no more variables than nodes.
-use Rattle.std.proofs.Common.{◌≡◌, ◌≤◌, ℕ, suc, ◌+◌, List, [], ◌∷◌, ◌++◌, length, map, flat_map, refl, sym, ap, subst, ◌∙◌}
+use Rattle.std.proofs.Common.{◌≡◌, ◌≤◌, ℕ, ◌+◌, List, [], ◌∷◌, ◌++◌, length, map, flat_map, refl, sym, ap, subst}
 use native.Mathlib.Omega.{arith}
 use Rattle.std.proofs.lemmas.List.{length-append}
 use Rattle.std.proofs.lemmas.List.Sums.{sum_by-cons}
 use Rattle.std.specs.List.{cons_option}
 use Rattle.std.specs.Prelude.{sum}
 use Rattle.lk_types.proofs.TypeInduction.{Hereditary, every_type}
-use Rattle.lk_types.proofs.Unfold.{variables_int, variables_bool, variables_text, variables_list, variables_fields, variables_tags, variables_function, variables_variable, variables_row, variables_field, nodes_int, nodes_bool, nodes_text, nodes_list, nodes_fields, nodes_tags, nodes_function, nodes_variable, nodes_row, nodes_field}
+use Rattle.lk_types.proofs.Unfold.{variables_int, variables_bool, variables_text, variables_list, variables_fields, variables_tags, variables_function, variables_variable, variables_row, variables_field, nodes_list, nodes_fields, nodes_tags, nodes_function, nodes_variable, nodes_row, nodes_field}
 use Rattle.lk_types.specs.Each.{Each}
 use Rattle.lk_types.specs.Sizes.{effects_nodes, field_nodes_with, nodes_with, one, row_nodes_with, tail_nodes}
-use Rattle.lk_types.specs.Variables.{before_tail, tail_variable, variables_of, variables_of_field, variables_of_row}
+use Rattle.lk_types.specs.Variables.{tail_variable, variables_of, variables_of_field, variables_of_row}
 use Rattle.lk_types.specs.declared.ty.Effects.{Effects}
 use Rattle.lk_types.specs.declared.ty.RowTail.{RowTail}
 use Rattle.lk_types.specs.declared.ty.RowTail.TheVariants.{Closed, Var}

@@ -1,6 +1,11 @@
+pub mod Counts
 pub mod Each
 pub mod Grounding
+pub mod Levels
+pub mod Moves
 pub mod Names
+pub mod Places
+pub mod Planted
 pub mod Rows
 pub mod Schemes
 pub mod Sizes

@@ -2,13 +2,20 @@
 //!
 //! `specs/Grounding` says which ground type a type becomes once its variables stand for something, `specs/Solutions` what
 //! solves equations of types and which solution is most general, `specs/Schemes` what a scheme stands for, `specs/Sizes`
-//! how large types are, and `specs/TypeText` how they are written.
+//! how large types are, and `specs/TypeText` how they are written. `specs/Levels` says which types a table of levels holds,
+//! and `specs/Places` which of its levels stand in some of them.
 #![tactic(auto)]
 
+mod counts;
 mod equation;
 mod ground;
 mod ground_text;
+mod levels;
+mod marks;
+mod moves;
 mod names;
+mod places;
+mod planting;
 mod scheme;
 mod ty;
 mod type_text;
@@ -17,6 +24,8 @@ mod variables;
 pub use equation::{Binding, Equation, Image, Subst};
 pub use ground::{Ground, GroundField};
 pub use ground_text::print_ground;
+pub use levels::{Level, LevelField, LevelRow, Types};
+pub use marks::marked;
 pub use names::Names;
 pub use scheme::{Lack, Scheme};
 pub use ty::{Effect, Effects, MOST_NODES, RowTail, Ty, TyField, TyRow, Variable};

@@ -1,4 +1,7 @@
-use lk_ast::{Boxed, List, Text};
+ghost use Rattle.std.specs.Prelude.{◌≡◌, IfOk};
+
+use lk_ast::{Boxed, List, NoMemory, Text};
+use std::alloc::Global;
 
 /// The most nodes that a type may have: its bases, lists, records, variants, functions, labels, effects and variables, each of
 /// which counts one.
@@ -29,6 +32,22 @@ pub enum Effect {
 pub struct Effects {
     pub labels: List<Effect>,
     pub tail: RowTail,
+}
+
+impl Effects {
+    /// The same effects once more.
+    pub fn copy(&self, alloc: Global) -> Result<Effects, NoMemory>
+        ensures { IfOk result (λ copy. copy ≡ self.now) }
+    {
+        let mut labels = List::new(alloc);
+        for label in self.labels.as_slice() {
+            labels.push(*label)?;
+        }
+        Ok(Effects {
+            labels,
+            tail: self.tail,
+        })
+    }
 }
 
 /// A field of a record, or a tag of a variant with the type of what stands behind it.

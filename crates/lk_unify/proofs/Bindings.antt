@@ -3,10 +3,11 @@ use Rattle.std.proofs.Common.{◌≡◌, ℕ, Bool, true, false, List, [], ◌�
 use Rattle.std.proofs.lemmas.Bool.{eqb-true, eq-eqb}
 use Rattle.std.specs.FinMap as fin
 use Rattle.std.specs.Map.{lookup}
-use Rattle.std.specs.Option.{option_map, option_or}
-use Rattle.std.specs.Prelude.{◌==◌, flat_map, is_some}
+use Rattle.std.specs.Option.{option_or}
+use Rattle.std.specs.Prelude.{◌==◌, flat_map, is_some, map}
+use Rattle.lk_types.specs.Each.{OneOf}
 use Rattle.lk_types.specs.Rows.{label_order}
-use Rattle.lk_types.specs.Solutions.{first_image, plain_of, row_of, effects_of, plain_image, row_image, effects_image, IsUnbound}
+use Rattle.lk_types.specs.Solutions.{first_image, plain_of, row_of, effects_of, IsUnbound}
 use Rattle.lk_types.specs.TypeText.{effect_word}
 use Rattle.lk_types.specs.Variables.{same_variable}
 use Rattle.lk_types.specs.declared.equation.Binding.{Binding}
@@ -21,7 +22,7 @@ use Rattle.lk_unify.proofs.Instances.{PutsAt}
 use Rattle.lk_types.proofs.SameVariable.{same_is}
 use Rattle.lk_unify.specs.Loading.{node_for}
 use Rattle.lk_arena.specs.Openings.{only_tail, only_effects_tail, row_type, effects_type}
-use Rattle.lk_unify.specs.Reading.{type_in, row_in, effects_in, value_or, opening_by, image_of, number_of, binding_by, subst_by}
+use Rattle.lk_unify.specs.Reading.{type_in, row_in, effects_in, value_or, opening_by, image_of, number_of, binding_by, subst_of}
 use Rattle.lk_arena.specs.Values.{Value, Plain, OfRow}
 use Rattle.lk_unify.specs.declared.loader.Loader.{Loader}
 
@@ -37,8 +38,8 @@ Passes of_kind x = (y : Variable) (v : Value) → same_variable x y ≡ false �
 
 module _ (l : Loader) (u : ℕ → Value) {A : Type 0} (of_kind : Image → Option A) (x : Variable) (value : Value → A)
     (here : (v : Value) → of_kind (image_of x v) ≡ Some (value v)) (there : Passes of_kind x) where
-  binds : List (Variable × ℕ) → List Binding
-  binds es = flat_map (λ e. binding_by e.0 u (node_for l e.0)) es
+  binds : List Variable → List Binding
+  binds xs = flat_map (λ y. binding_by y u (node_for l y)) xs
 
   -- another variable's binding is passed
   passed : (y : Variable) (o : Option ℕ) (bs : List Binding) → same_variable x y ≡ false → first_image of_kind (binding_by y u o ++ bs) (number_of x) ≡ first_image of_kind bs (number_of x)
@@ -52,35 +53,35 @@ module _ (l : Loader) (u : ℕ → Value) {A : Type 0} (of_kind : Image → Opti
       ∙ ap (λ o. option_or o (first_image of_kind bs (number_of x))) (here (u n))
 
   -- a variable without a node has no image
-  without : (es : List (Variable × ℕ)) → node_for l x ≡ None → first_image of_kind (binds es) (number_of x) ≡ None
+  without : (xs : List Variable) → node_for l x ≡ None → first_image of_kind (binds xs) (number_of x) ≡ None
   unfolding binds
   without [] none = refl
-  without (e ∷ es) none = by_test (bool_cases (same_variable x e.0)) (without es none)
+  without (y ∷ xs) none = by_test (bool_cases (same_variable x y)) (without xs none)
     where
-      by_test : ((same_variable x e.0 ≡ true) ⊎ (same_variable x e.0 ≡ false)) → first_image of_kind (binds es) (number_of x) ≡ None → first_image of_kind (binds (e ∷ es)) (number_of x) ≡ None
+      by_test : ((same_variable x y ≡ true) ⊎ (same_variable x y ≡ false)) → first_image of_kind (binds xs) (number_of x) ≡ None → first_image of_kind (binds (y ∷ xs)) (number_of x) ≡ None
       by_test (inl t) ih =
-          let y : e.0 ≡ x = sym (same_is x e.0 t) in
-          ap (λ y. first_image of_kind (binding_by y u (node_for l y) ++ binds es) (number_of x)) y
-          ∙ ap (λ o. first_image of_kind (binding_by x u o ++ binds es) (number_of x)) none ∙ ih
-      by_test (inr f) ih = passed e.0 (node_for l e.0) (binds es) f ∙ ih
+          ap (λ y. first_image of_kind (binding_by y u (node_for l y) ++ binds xs) (number_of x)) (sym (same_is x y t))
+          ∙ ap (λ o. first_image of_kind (binding_by x u o ++ binds xs) (number_of x)) none ∙ ih
+      by_test (inr f) ih = passed y (node_for l y) (binds xs) f ∙ ih
 
-  with_node : (es : List (Variable × ℕ)) (n k : ℕ) → node_for l x ≡ Some n → lookup (same_variable x) es ≡ Some k → first_image of_kind (binds es) (number_of x) ≡ Some (value (u n))
+  with_node : (xs : List Variable) (n : ℕ) → node_for l x ≡ Some n → OneOf (λ y. y ≡ x) xs → first_image of_kind (binds xs) (number_of x) ≡ Some (value (u n))
   unfolding binds
-  with_node [] n k some is = let f : None ≡ Some k = is in cc
-  with_node (e ∷ es) n k some is = by_test (bool_cases (same_variable x e.0)) (with_node es n k some)
+  with_node [] n some one = absurd one
+  with_node (y ∷ xs) n some (inl is) = ap (λ y. first_image of_kind (binding_by y u (node_for l y) ++ binds xs) (number_of x)) is ∙ own n (node_for l x) (binds xs) some
+  with_node (y ∷ xs) n some (inr one) = by_test (bool_cases (same_variable x y)) (with_node xs n some one)
     where
-      by_test : ((same_variable x e.0 ≡ true) ⊎ (same_variable x e.0 ≡ false)) → (lookup (same_variable x) es ≡ Some k → first_image of_kind (binds es) (number_of x) ≡ Some (value (u n))) →
-          first_image of_kind (binds (e ∷ es)) (number_of x) ≡ Some (value (u n))
-      by_test (inl t) ih =
-          let y : e.0 ≡ x = sym (same_is x e.0 t) in
-          ap (λ y. first_image of_kind (binding_by y u (node_for l y) ++ binds es) (number_of x)) y ∙ own n (node_for l x) (binds es) some
-      by_test (inr f) ih =
-          passed e.0 (node_for l e.0) (binds es) f ∙ ih (sym (ap (λ b. cond b (Some e.1) (lookup (same_variable x) es)) f) ∙ is)
+      by_test : ((same_variable x y ≡ true) ⊎ (same_variable x y ≡ false)) → first_image of_kind (binds xs) (number_of x) ≡ Some (value (u n)) →
+          first_image of_kind (binds (y ∷ xs)) (number_of x) ≡ Some (value (u n))
+      by_test (inl t) ih = ap (λ y. first_image of_kind (binding_by y u (node_for l y) ++ binds xs) (number_of x)) (sym (same_is x y t)) ∙ own n (node_for l x) (binds xs) some
+      by_test (inr f) ih = passed y (node_for l y) (binds xs) f ∙ ih
 
-  pub image_is : (o : Option ℕ) → node_for l x ≡ o → first_image of_kind (subst_by l u).binds (number_of x) ≡ option_map (λ n. value (u n)) o
+  pub no_image : (xs : List Variable) → node_for l x ≡ None → first_image of_kind (subst_of xs l u).binds (number_of x) ≡ None
   unfolding binds
-  image_is None is = without l.names.entries is
-  image_is (Some n) is = with_node l.names.entries n n is is
+  no_image xs none = without xs none
+
+  pub image_is : (xs : List Variable) (n : ℕ) → node_for l x ≡ Some n → OneOf (λ y. y ≡ x) xs → first_image of_kind (subst_of xs l u).binds (number_of x) ≡ Some (value (u n))
+  unfolding binds
+  image_is xs n some one = with_node xs n some one
 
 -- ---- for the three kinds
 
@@ -117,35 +118,49 @@ passes_effects n (variable.Effects m) v e = ap (λ b. cond b (Some (effects_type
 passes_effects n (variable.Plain m) v e = same_none (m == n)
 passes_effects n (variable.Row m) v e = same_none (m == n)
 
-module _ (l : Loader) (u : ℕ → Value) where
-  pub plain_image_is : (n : ℕ) (o : Option ℕ) → node_for l (variable.Plain n) ≡ o → plain_image (subst_by l u) n ≡ option_map (λ m. type_in (u m)) o
-  plain_image_is n o is = image_is l u plain_of (variable.Plain n) type_in (λ v. refl) (passes_plain n) o is
+-- a variable that has a node is among these
+abbrev pub IsRead : List Variable → Loader → Variable → Type 0
+IsRead xs l x = (n : ℕ) → node_for l x ≡ Some n → OneOf (λ y. y ≡ x) xs
 
-  pub row_image_is : (n : ℕ) (o : Option ℕ) → node_for l (variable.Row n) ≡ o → row_image (subst_by l u) n ≡ option_map (λ m. row_type (row_in (u m))) o
-  row_image_is n o is = image_is l u row_of (variable.Row n) (λ v. row_type (row_in v)) (λ v. refl) (passes_row n) o is
+module _ (xs : List Variable) (l : Loader) (u : ℕ → Value) where
+  pub unbound : (x : Variable) → node_for l x ≡ None → IsUnbound (subst_of xs l u) x
+  unbound (variable.Plain n) is = no_image l u plain_of (variable.Plain n) type_in (λ v. refl) (passes_plain n) xs is
+  unbound (variable.Row n) is = no_image l u row_of (variable.Row n) (λ v. row_type (row_in v)) (λ v. refl) (passes_row n) xs is
+  unbound (variable.Effects n) is = no_image l u effects_of (variable.Effects n) (λ v. effects_type (effects_in (row_in v))) (λ v. refl) (passes_effects n) xs is
 
-  pub effects_image_is : (n : ℕ) (o : Option ℕ) → node_for l (variable.Effects n) ≡ o → effects_image (subst_by l u) n ≡ option_map (λ m. effects_type (effects_in (row_in (u m)))) o
-  effects_image_is n o is = image_is l u effects_of (variable.Effects n) (λ v. effects_type (effects_in (row_in v))) (λ v. refl) (passes_effects n) o is
-
-  pub unbound : (x : Variable) → node_for l x ≡ None → IsUnbound (subst_by l u) x
-  unbound (variable.Plain n) is = plain_image_is n None is
-  unbound (variable.Row n) is = row_image_is n None is
-  unbound (variable.Effects n) is = effects_image_is n None is
-
-  pub puts_at : (x : Variable) → PutsAt (subst_by l u) (opening_by l u) x
-  puts_at (variable.Plain n) = by_node (node_for l (variable.Plain n)) refl
+  pub puts_at : (x : Variable) → IsRead xs l x → PutsAt (subst_of xs l u) (opening_by l u) x
+  puts_at (variable.Plain n) read = by_node (node_for l (variable.Plain n)) refl
     where
-      by_node : (o : Option ℕ) → node_for l (variable.Plain n) ≡ o → PutsAt (subst_by l u) (opening_by l u) (variable.Plain n)
-      by_node None is = inl (plain_image_is n None is, ap (λ o. type_in (value_or o u (Plain (ty.Var n)))) is)
-      by_node (Some m) is = inr (plain_image_is n (Some m) is ∙ ap Some (sym (ap (λ o. type_in (value_or o u (Plain (ty.Var n)))) is)))
-  puts_at (variable.Row n) = by_node (node_for l (variable.Row n)) refl
+      by_node : (o : Option ℕ) → node_for l (variable.Plain n) ≡ o → PutsAt (subst_of xs l u) (opening_by l u) (variable.Plain n)
+      by_node None is = inl (unbound (variable.Plain n) is, ap (λ o. type_in (value_or o u (Plain (ty.Var n)))) is)
+      by_node (Some m) is = inr (image_is l u plain_of (variable.Plain n) type_in (λ v. refl) (passes_plain n) xs m is (read m is)
+          ∙ ap Some (sym (ap (λ o. type_in (value_or o u (Plain (ty.Var n)))) is)))
+  puts_at (variable.Row n) read = by_node (node_for l (variable.Row n)) refl
     where
-      by_node : (o : Option ℕ) → node_for l (variable.Row n) ≡ o → PutsAt (subst_by l u) (opening_by l u) (variable.Row n)
-      by_node None is = inl (row_image_is n None is, ap (λ o. row_in (value_or o u (OfRow (only_tail (Var n))))) is)
-      by_node (Some m) is = inr (row_image_is n (Some m) is ∙ ap Some (sym (ap (λ o. row_type (row_in (value_or o u (OfRow (only_tail (Var n)))))) is)))
-  puts_at (variable.Effects n) = by_node (node_for l (variable.Effects n)) refl
+      by_node : (o : Option ℕ) → node_for l (variable.Row n) ≡ o → PutsAt (subst_of xs l u) (opening_by l u) (variable.Row n)
+      by_node None is = inl (unbound (variable.Row n) is, ap (λ o. row_in (value_or o u (OfRow (only_tail (Var n))))) is)
+      by_node (Some m) is = inr (image_is l u row_of (variable.Row n) (λ v. row_type (row_in v)) (λ v. refl) (passes_row n) xs m is (read m is)
+          ∙ ap Some (sym (ap (λ o. row_type (row_in (value_or o u (OfRow (only_tail (Var n)))))) is)))
+  puts_at (variable.Effects n) read = by_node (node_for l (variable.Effects n)) refl
     where
-      by_node : (o : Option ℕ) → node_for l (variable.Effects n) ≡ o → PutsAt (subst_by l u) (opening_by l u) (variable.Effects n)
+      by_node : (o : Option ℕ) → node_for l (variable.Effects n) ≡ o → PutsAt (subst_of xs l u) (opening_by l u) (variable.Effects n)
       by_node None is =
-          inl (effects_image_is n None is, ap (λ o. effects_in (row_in (value_or o u (OfRow (only_tail (Var n)))))) is ∙ no_labels n)
-      by_node (Some m) is = inr (effects_image_is n (Some m) is ∙ ap Some (sym (ap (λ o. effects_type (effects_in (row_in (value_or o u (OfRow (only_tail (Var n))))))) is)))
+          inl (unbound (variable.Effects n) is, ap (λ o. effects_in (row_in (value_or o u (OfRow (only_tail (Var n)))))) is ∙ no_labels n)
+      by_node (Some m) is = inr (image_is l u effects_of (variable.Effects n) (λ v. effects_type (effects_in (row_in v))) (λ v. refl) (passes_effects n) xs m is (read m is)
+          ∙ ap Some (sym (ap (λ o. effects_type (effects_in (row_in (value_or o u (OfRow (only_tail (Var n))))))) is)))
+
+-- ---- for all variables that have nodes
+
+abbrev pub names_of : Loader → List Variable
+names_of l = map (λ e. e.0) l.names.entries
+
+found_there : (x : Variable) (es : List (Variable × ℕ)) (n : ℕ) → lookup (same_variable x) es ≡ Some n → OneOf (λ y. y ≡ x) (map (λ e. e.0) es)
+found_there x [] n is = let f : None ≡ Some n = is in cc
+found_there x (e ∷ es) n is = by_test (bool_cases (same_variable x e.0)) (found_there x es n)
+  where
+    by_test : ((same_variable x e.0 ≡ true) ⊎ (same_variable x e.0 ≡ false)) → (lookup (same_variable x) es ≡ Some n → OneOf (λ y. y ≡ x) (map (λ e. e.0) es)) → OneOf (λ y. y ≡ x) (map (λ e. e.0) (e ∷ es))
+    by_test (inl t) ih = inl (sym (same_is x e.0 t))
+    by_test (inr f) ih = inr (ih (sym (ap (λ b. cond b (Some e.1) (lookup (same_variable x) es)) f) ∙ is))
+
+pub all_read : (l : Loader) (x : Variable) → IsRead (names_of l) l x
+all_read l x n is = found_there x l.names.entries n is

@@ -3,18 +3,20 @@
 use Rattle.std.proofs.Common.{◌≡◌, ℕ, ◌+◌, ◌<◌, ◌≤◌, List, inl, inr, map, take, Some, sym, ◌∙◌, ap, subst, arith}
 use Rattle.std.specs.FinMap as fin
 use Rattle.std.specs.Option.{option_map}
+use Rattle.lk_types.proofs.Members.{each_of_in}
 use Rattle.lk_types.proofs.Unfold.{nodes_variable}
 use Rattle.lk_types.specs.Each.{Each, OneOf}
 use Rattle.lk_types.specs.Rows.{Label}
-use Rattle.lk_types.specs.Sizes.{nodes, row_nodes_with, effects_nodes, nodes_with, one, size_of_image, image_size, size_under, most_nodes, IsWithin, IsBeyond, IsFine, IsTooLarge}
+use Rattle.lk_types.specs.Sizes.{nodes, row_nodes_with, effects_nodes, nodes_with, one, size_of_image, image_size, size_under, most_nodes, IsWithin, IsBeyond, IsFine, IsSolution, IsTooLarge}
 use Rattle.lk_types.specs.Solutions.{HasSolution}
+use Rattle.lk_types.specs.Variables.{equation_variables}
 use Rattle.lk_types.specs.declared.equation.Equation.{Equation}
 use Rattle.lk_types.specs.declared.equation.Subst.{Subst}
 use Rattle.lk_types.specs.declared.ty.RowTail.TheVariants.{Var}
 use Rattle.lk_types.specs.declared.ty.Ty.{Ty}
 use Rattle.lk_types.specs.declared.ty.Variable.{Variable}
 use Rattle.lk_types.specs.declared.ty.Variable.TheVariants as variable
-use Rattle.lk_unify.proofs.Bindings.{puts_at}
+use Rattle.lk_unify.proofs.Bindings.{all_read, names_of, puts_at, IsRead}
 use Rattle.lk_arena.proofs.EachLemmas.{Each-zip, OneOf-with}
 use Rattle.lk_unify.proofs.Instances.{PutsAt}
 use Rattle.lk_unify.proofs.Loadeds.{each_first}
@@ -30,11 +32,12 @@ use Rattle.lk_arena.specs.Kinds.{OfTypes}
 use Rattle.lk_unify.specs.Loading.{Agrees}
 use Rattle.lk_unify.specs.Nodes.{count, value_count}
 use Rattle.lk_arena.specs.Openings.{Opening, IsOpenMet, opened, only_tail, row_type, effects_type, field_type}
-use Rattle.lk_unify.specs.Reading.{opening_by, subst_by}
+use Rattle.lk_unify.specs.Reading.{opening_by, subst_of}
 use Rattle.lk_arena.specs.Shapes.{FitsNodes, WeakNodes}
 use Rattle.lk_unify.specs.Small.{OwnNodes}
 use Rattle.lk_unify.specs.Solving.{HasNodes, IsSide}
 use Rattle.lk_arena.specs.Values.{Value, Plain}
+use Rattle.lk_unify.specs.declared.loader.Loader.{Loader}
 
 some_once : {A : Type 0} (a b : A) → Some a ≡ Some b → a ≡ b
 some_once a b e = cc
@@ -61,13 +64,20 @@ module _ (s : Subst) (ρ : Opening) where
 abbrev pub IsSideOf : {equations : List Equation} → OwnNodes equations → (ℕ → Type 0) → Equation → Type 0
 IsSideOf o P e = (t : Ty) × (opened (opening_by o.loader o.values) e.left ≡ Some t) × P (count 0 t)
 
+-- what they put for all variables that have nodes
+abbrev subst_by : Loader → (ℕ → Value) → Subst
+subst_by l u = subst_of (names_of l) l u
+
+puts_all : (l : Loader) (u : ℕ → Value) (x : Variable) → PutsAt (subst_by l u) (opening_by l u) x
+puts_all l u x = puts_at (names_of l) l u x (all_read l x)
+
 module _ (es : List Equation) (o : OwnNodes es) where
   sizes_are : (e : Equation) (t : Ty) → IsOpenMet (opening_by o.loader o.values) e → opened (opening_by o.loader o.values) e.left ≡ Some t →
       (size_under (subst_by o.loader o.values) e.left ≡ count 0 t) × (size_under (subst_by o.loader o.values) e.right ≡ count 0 t)
   sizes_are e t met is =
       let same : met.0 ≡ t = (let f : Some met.0 ≡ Some t = sym met.1 ∙ is in some_once met.0 t f) in (
-        size_is (subst_by o.loader o.values) (opening_by o.loader o.values) (puts_at o.loader o.values) e.left t is,
-        size_is (subst_by o.loader o.values) (opening_by o.loader o.values) (puts_at o.loader o.values) e.right t (met.2 ∙ ap Some same),
+        size_is (subst_by o.loader o.values) (opening_by o.loader o.values) (puts_all o.loader o.values) e.left t is,
+        size_is (subst_by o.loader o.values) (opening_by o.loader o.values) (puts_all o.loader o.values) e.right t (met.2 ∙ ap Some same),
       )
 
   its_within : (e : Equation) → IsSideOf o (λ n. n ≤ most_nodes) e → IsOpenMet (opening_by o.loader o.values) e → IsWithin (subst_by o.loader o.values) e
@@ -78,11 +88,14 @@ module _ (es : List Equation) (o : OwnNodes es) where
   its_beyond : (e : Equation) → IsSideOf o (λ n. most_nodes < n) e → IsOpenMet (opening_by o.loader o.values) e → IsBeyond (subst_by o.loader o.values) e
   its_beyond e side met = inl (subst (λ n. most_nodes < n) (sym (sizes_are e side.0 met side.1).0) side.2)
 
+  its_solution : HasSolution es → IsSolution (subst_by o.loader o.values) es
+  its_solution solution = solution_of es o (names_of o.loader) (each_of_in (IsRead (names_of o.loader) o.loader) (equation_variables es) (λ x one. all_read o.loader x)) solution
+
   -- no side has more nodes than a type may have
   pub fine : Each (IsSideOf o (λ n. n ≤ most_nodes)) es → HasSolution es → IsFine es
   fine within solution = (
     subst_by o.loader o.values,
-    solution_of es o solution,
+    its_solution solution,
     Each-zip (IsSideOf o (λ n. n ≤ most_nodes)) (IsOpenMet (opening_by o.loader o.values)) (IsWithin (subst_by o.loader o.values)) its_within es within (own_solves es o),
   )
 
@@ -90,7 +103,7 @@ module _ (es : List Equation) (o : OwnNodes es) where
   pub too_large : OneOf (IsSideOf o (λ n. most_nodes < n)) es → HasSolution es → IsTooLarge es
   too_large beyond solution = (
     subst_by o.loader o.values,
-    solution_of es o solution,
+    its_solution solution,
     OneOf-with (IsSideOf o (λ n. most_nodes < n)) (IsOpenMet (opening_by o.loader o.values)) (IsBeyond (subst_by o.loader o.values)) its_beyond es beyond (own_solves es o),
   )
 

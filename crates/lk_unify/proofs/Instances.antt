@@ -1,7 +1,7 @@
 -- A substitution that puts for each variable what an opening does: its instances, and that they solve what the opening solves.
 use Rattle.std.proofs.Common.{◌≡◌, ℕ, List, [], ◌∷◌, ◌++◌, ◌⊎◌, inl, inr, Option, Some, None, refl, sym, ◌∙◌, ap, subst, arith}
 use Rattle.std.specs.Prelude.{IsSome}
-use Rattle.lk_types.proofs.Members.{each_front, each_back}
+use Rattle.lk_types.proofs.Members.{each_front, each_back, each_weaker}
 use Rattle.lk_types.proofs.Parts.{same_some}
 use Rattle.lk_types.proofs.Unfold.{under_variable}
 use Rattle.lk_types.specs.Each.{Each}
@@ -16,6 +16,7 @@ use Rattle.lk_types.specs.declared.ty.Ty.{Ty}
 use Rattle.lk_types.specs.declared.ty.Ty.TheVariants as ty
 use Rattle.lk_types.specs.declared.ty.Variable.{Variable}
 use Rattle.lk_types.specs.declared.ty.Variable.TheVariants as variable
+use Rattle.lk_arena.proofs.EachLemmas.{Each-zip}
 use Rattle.lk_unify.proofs.OpenComposed.{type_composed}
 use Rattle.lk_unify.proofs.OpenRows.{only_tail-under}
 use Rattle.lk_arena.specs.Openings.{Opening, OpensTo, OpenSolves, IsOpenMet, only_tail, only_effects_tail, row_type, effects_type, opened}
@@ -71,35 +72,44 @@ module _ (σ : Grounding) (s : Subst) (τ : Grounding) (ρ : Opening) where
   opens_instance (variable.Effects n) (inl p) to = own_becomes (effects_under τ) (effects_image s n) (τ.effects n) (σ.effects n) p.0 (same_some (sym to ∙ effects_stay τ ρ n p.1))
   opens_instance (variable.Effects n) (inr p) to = image_becomes (effects_under τ) (effects_image s n) (effects_type (ρ.effects n)) (τ.effects n) (σ.effects n) p to
 
-  module _ (puts : (x : Variable) → PutsAt s ρ x) where
-    -- ---- an instance solves what the opening solves
+  -- ---- an instance solves what the opening solves
 
-    open_all : (xs : List Variable) → Each (IsInstanceAt σ s τ) xs → Each (OpensTo τ ρ σ) xs
-    open_all [] all = tt
-    open_all (x ∷ xs) all = (instance_opens x (puts x) all.0, open_all xs all.1)
+  open_all : (xs : List Variable) → Each (PutsAt s ρ) xs → Each (IsInstanceAt σ s τ) xs → Each (OpensTo τ ρ σ) xs
+  open_all xs puts all = Each-zip (PutsAt s ρ) (IsInstanceAt σ s τ) (OpensTo τ ρ σ) instance_opens xs puts all
 
-    pub instance_all : (xs : List Variable) → Each (OpensTo τ ρ σ) xs → Each (IsInstanceAt σ s τ) xs
-    instance_all [] all = tt
-    instance_all (x ∷ xs) all = (opens_instance x (puts x) all.0, instance_all xs all.1)
+  pub instance_all : (xs : List Variable) → Each (PutsAt s ρ) xs → Each (OpensTo τ ρ σ) xs → Each (IsInstanceAt σ s τ) xs
+  instance_all xs puts all = Each-zip (PutsAt s ρ) (OpensTo τ ρ σ) (IsInstanceAt σ s τ) opens_instance xs puts all
 
-    its_side : (t u : Ty) → Each (IsInstanceAt σ s τ) (variables_of t) → opened ρ t ≡ Some u → IsSome (under σ t) → (g : Ground) × (under σ t ≡ Some g) × (under τ u ≡ Some g)
-    its_side t u at is some = by_side (under σ t) refl some
-      where
-        by_side : (o : Option Ground) → under σ t ≡ o → IsSome o → (g : Ground) × (under σ t ≡ Some g) × (under τ u ≡ Some g)
-        by_side None e some = absurd (grind arith)
-        by_side (Some g) e some = (g, e, type_composed τ ρ σ t u g (open_all (variables_of t) at) is e)
+  its_side : (t u : Ty) → Each (PutsAt s ρ) (variables_of t) → Each (IsInstanceAt σ s τ) (variables_of t) → opened ρ t ≡ Some u → IsSome (under σ t) →
+      (g : Ground) × (under σ t ≡ Some g) × (under τ u ≡ Some g)
+  its_side t u puts at is some = by_side (under σ t) refl some
+    where
+      by_side : (o : Option Ground) → under σ t ≡ o → IsSome o → (g : Ground) × (under σ t ≡ Some g) × (under τ u ≡ Some g)
+      by_side None e some = absurd (grind arith)
+      by_side (Some g) e some = (g, e, type_composed τ ρ σ t u g (open_all (variables_of t) puts at) is e)
 
-    met : (e : Equation) → Each (IsInstanceAt σ s τ) (variables_of e.left) → Each (IsInstanceAt σ s τ) (variables_of e.right) → IsOpenMet ρ e → HasSides σ e → IsMet σ e
-    met e lefts rights both sides =
-        let l = its_side e.left both.0 lefts both.1 sides.0 in
-        let r = its_side e.right both.0 rights both.2 sides.1 in
-        (l.0, l.1, r.1 ∙ sym r.2 ∙ l.2)
+  abbrev BothAt : Variable → Type 0
+  BothAt x = PutsAt s ρ x × IsInstanceAt σ s τ x
 
-    pub instance_solves : (es : List Equation) → OpenSolves ρ es → IsInstanceOn es σ s τ → Each (HasSides σ) es → Solves σ es
-    instance_solves [] solves at sides = tt
-    instance_solves (e ∷ es) solves at sides =
-        let lefts = each_front (IsInstanceAt σ s τ) (variables_of e.left) (variables_of e.right ++ equation_variables es) at in
-        let more = each_back (IsInstanceAt σ s τ) (variables_of e.left) (variables_of e.right ++ equation_variables es) at in
-        let rights = each_front (IsInstanceAt σ s τ) (variables_of e.right) (equation_variables es) more in
-        let rest = each_back (IsInstanceAt σ s τ) (variables_of e.right) (equation_variables es) more in
-        (met e lefts rights solves.0 sides.0, instance_solves es solves.1 rest sides.1)
+  side : (t u : Ty) → Each BothAt (variables_of t) → opened ρ t ≡ Some u → IsSome (under σ t) → (g : Ground) × (under σ t ≡ Some g) × (under τ u ≡ Some g)
+  side t u both is some =
+      its_side t u (each_weaker BothAt (PutsAt s ρ) (λ x b. b.0) (variables_of t) both) (each_weaker BothAt (IsInstanceAt σ s τ) (λ x b. b.1) (variables_of t) both) is some
+
+  met : (e : Equation) → Each BothAt (variables_of e.left) → Each BothAt (variables_of e.right) → IsOpenMet ρ e → HasSides σ e → IsMet σ e
+  met e lefts rights both sides =
+      let l = side e.left both.0 lefts both.1 sides.0 in
+      let r = side e.right both.0 rights both.2 sides.1 in
+      (l.0, l.1, r.1 ∙ sym r.2 ∙ l.2)
+
+  both_solve : (es : List Equation) → OpenSolves ρ es → Each BothAt (equation_variables es) → Each (HasSides σ) es → Solves σ es
+  both_solve [] solves at sides = tt
+  both_solve (e ∷ es) solves at sides =
+      let lefts = each_front BothAt (variables_of e.left) (variables_of e.right ++ equation_variables es) at in
+      let more = each_back BothAt (variables_of e.left) (variables_of e.right ++ equation_variables es) at in
+      let rights = each_front BothAt (variables_of e.right) (equation_variables es) more in
+      let rest = each_back BothAt (variables_of e.right) (equation_variables es) more in
+      (met e lefts rights solves.0 sides.0, both_solve es solves.1 rest sides.1)
+
+  pub instance_solves : (es : List Equation) → Each (PutsAt s ρ) (equation_variables es) → OpenSolves ρ es → IsInstanceOn es σ s τ → Each (HasSides σ) es → Solves σ es
+  instance_solves es puts solves at sides =
+      both_solve es solves (Each-zip (PutsAt s ρ) (IsInstanceAt σ s τ) BothAt (λ x p i. (p, i)) (equation_variables es) puts at) sides

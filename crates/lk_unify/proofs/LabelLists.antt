@@ -125,7 +125,7 @@ inside_sorted (e ∷ es) h =
     each_both AreSorted (labels_in_field (field_type e)).inside (flat_map (λ (f : LabelledField). f.inside) (map labels_in_field (map field_type es)))
     (subst (λ (f : LabelledField). Each AreSorted f.inside) (sym (field_labels-is (field_type e))) h.0) (inside_sorted es h.1)
 
-in_order_row : (m : OpenRow) → Each IsEntryInOrder (fin.entries m.fields) → Each AreSorted (labels_in_row (row_type m))
+pub in_order_row : (m : OpenRow) → Each IsEntryInOrder (fin.entries m.fields) → Each AreSorted (labels_in_row (row_type m))
 in_order_row m h =
     let es = fin.entries m.fields in
     subst (Each AreSorted) (sym (rolled_labels (map field_type es) m.tail))
@@ -159,7 +159,7 @@ unfolding IsStrictlySortedBy
 words_sorted [] h = tt
 words_sorted (e ∷ es) h = (words_above e es h.0, words_sorted es h.1)
 
-effects_sorted : (s : EffectSet) → AreSorted (map effect_word (effects_of s))
+pub effects_sorted : (s : EffectSet) → AreSorted (map effect_word (effects_of s))
 effects_sorted s = words_sorted (effects_of s) (IsStrictlySortedBy-filter effect_order s every_effect every_sorted)
 
 params_sorted : (ts : List Ty) → Each IsInOrder ts → Each AreSorted (joined (map labels_in ts))

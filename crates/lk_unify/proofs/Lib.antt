@@ -1,5 +1,7 @@
 pub mod Bindings
+pub mod ChainRows
 pub mod Decided
+pub mod DistinctVariables
 pub mod EffectRows
 pub mod EffectSets
 pub mod Fine
@@ -14,7 +16,10 @@ pub mod GroundValues
 pub mod Grounded
 pub mod Instances
 pub mod Joined
+pub mod LabelEntries
 pub mod LabelLists
+pub mod LevelsDone
+pub mod LevelsMade
 pub mod LoadEffects
 pub mod LoadEquations
 pub mod LoadKinds
@@ -43,6 +48,8 @@ pub mod OpenUnfold
 pub mod OpenVariables
 pub mod OwnInOrder
 pub mod OwnModel
+pub mod PlacedFields
+pub mod PlacedRows
 pub mod ReadMade
 pub mod ReadParts
 pub mod ReadRows
@@ -57,7 +64,6 @@ pub mod SmallSides
 pub mod Solved
 pub mod SolvedForm
 pub mod Solving
-pub mod TypeEntries
 pub mod ValueCounts
 pub mod ValueKinds
 pub mod Within

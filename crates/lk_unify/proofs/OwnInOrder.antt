@@ -12,10 +12,12 @@ use Rattle.lk_types.specs.declared.ty.RowTail.{RowTail}
 use Rattle.lk_types.specs.declared.ty.RowTail.TheVariants.{Closed, Var}
 use Rattle.lk_types.specs.declared.ty.Ty.{Ty}
 use Rattle.lk_types.specs.declared.ty.Ty.TheVariants as ty
+use Rattle.lk_types.specs.declared.ty.Variable.{Variable}
+use Rattle.lk_types.specs.declared.ty.Variable.TheVariants as variable
 use Rattle.lk_arena.proofs.EachLemmas.{Each-zip}
 use Rattle.lk_arena.proofs.RowAlgebra.{RowFields}
 use Rattle.lk_arena.proofs.Sizes.{map_with, plain_or, no_entries}
-use Rattle.lk_arena.specs.Openings.{OpenRow, only_tail}
+use Rattle.lk_arena.specs.Openings.{OpenRow, only_tail, row_type}
 use Rattle.lk_arena.specs.Order.{IsRanked}
 use Rattle.lk_arena.specs.Shapes.{shape_at, parts_of, IsArena, IsBuilt, IsRowOf}
 use Rattle.lk_arena.specs.Values.{Value, Plain, OfRow, IsMadeOf}
@@ -25,11 +27,12 @@ use Rattle.lk_arena.specs.declared.node.Head.TheVariants as head
 use Rattle.lk_arena.specs.declared.node.Shape.{Shape}
 use Rattle.lk_arena.specs.declared.node.Shape.TheVariants.{Free, Open, Empty, Made}
 use Rattle.lk_arena.specs.declared.node.Shape.TheVariants as shape
-use Rattle.lk_unify.proofs.LabelLists.{in_order_int, in_order_bool, in_order_text, in_order_variable, in_order_list, in_order_fields, in_order_tags, in_order_function, IsEntryInOrder}
+use Rattle.lk_unify.proofs.LabelLists.{effects_sorted, in_order_row, in_order_int, in_order_bool, in_order_text, in_order_variable, in_order_list, in_order_fields, in_order_tags, in_order_function, IsEntryInOrder}
 use Rattle.lk_unify.proofs.RowCounts.{its_rows, pick, is_row_with}
-use Rattle.lk_unify.specs.InOrder.{IsInOrder}
+use Rattle.lk_unify.specs.Images.{IsImageInOrder}
+use Rattle.lk_unify.specs.InOrder.{labels_in_row, AreSorted, IsInOrder}
 use Rattle.lk_unify.specs.Models.{IsOwn}
-use Rattle.lk_unify.specs.Reading.{type_in}
+use Rattle.lk_unify.specs.Reading.{effects_in, image_of, row_in, type_in}
 
 -- the types in a value are
 abbrev IsValueInOrder : Value → Type 0
@@ -119,3 +122,14 @@ module _ (shapes : List Shape) (classes : List ℕ) (rank : ℕ → ℕ) (name :
   pub types_in_order : (nodes : List ℕ) → Each (λ n. n < length shapes) nodes → Each IsInOrder (map (λ n. type_in (u n)) nodes)
   types_in_order [] below = tt
   types_in_order (n ∷ nodes) below = (its_type (u n) (value_in_order n below.0), types_in_order nodes below.1)
+
+  -- ---- as images
+
+  its_row : (x : Value) → IsValueInOrder x → Each AreSorted (labels_in_row (row_type (row_in x)))
+  its_row (Plain t) h = in_order_row (only_tail Closed) (subst (Each IsEntryInOrder) (sym no_entries) tt)
+  its_row (OfRow m) h = in_order_row m h
+
+  pub image_in_order : (x : Variable) (n : ℕ) → n < length shapes → IsImageInOrder (image_of x (u n))
+  image_in_order (variable.Plain m) n below = its_type (u n) (value_in_order n below)
+  image_in_order (variable.Row m) n below = its_row (u n) (value_in_order n below)
+  image_in_order (variable.Effects m) n below = effects_sorted (effects_in (row_in (u n))).labels

@@ -3,7 +3,6 @@ use Rattle.std.proofs.Common.{◌≡◌, ℕ, zero, suc, ◌<◌, ◌≤◌, tru
 use Rattle.std.proofs.lemmas.List.{length-take-le, take-map, take_all}
 use Rattle.std.specs.Option.{option_map}
 use Rattle.std.specs.Prelude.{IfOk, Result, Ok, Err}
-use Rattle.lk_classes.specs.Classes.{class_at}
 use Rattle.lk_types.specs.Each.{Each}
 use Rattle.lk_types.specs.Solutions.{HasSolution}
 use Rattle.lk_types.specs.Variables.{equation_variables}
@@ -15,18 +14,18 @@ use Rattle.lk_unify.proofs.Loadeds.{sides_below}
 use Rattle.lk_unify.proofs.OwnInOrder.{types_in_order}
 use Rattle.lk_unify.proofs.SolvedForm.{own_solves}
 use Rattle.lk_unify.proofs.Within.{own_agrees, own_nodes, own_by_names, its_count, whole_sides, IsSideWith}
-use Rattle.lk_arena.specs.Counting.{saturated, count_at, AreCountsOf}
+use Rattle.lk_arena.specs.Counting.{saturated, count_at, AreCountsOf, IsPartsFirst}
 use Rattle.lk_arena.specs.Kinds.{Kind, OfTypes}
 use Rattle.lk_arena.specs.Openings.{Opening, IsOpenMet, opened}
-use Rattle.lk_arena.specs.Order.{IsRanked}
 use Rattle.lk_arena.specs.Values.{Value, Plain}
 use Rattle.lk_arena.specs.declared.counting.Count.{Count}
 use Rattle.lk_unify.specs.Constraints.{matters, AreFirstSides, AreSides, Makes}
 use Rattle.lk_unify.specs.InOrder.{IsInOrder}
+use Rattle.lk_unify.specs.Levels.{CanReadAll}
 use Rattle.lk_unify.specs.Loading.{IsKinded}
 use Rattle.lk_unify.specs.Models.{IsOwn}
 use Rattle.lk_unify.specs.Nodes.{count}
-use Rattle.lk_unify.specs.Reading.{opening_by, type_in, CanRead, IsNaming}
+use Rattle.lk_unify.specs.Reading.{opening_by, type_in, IsNaming}
 use Rattle.lk_unify.specs.SideSizes.{AreAllWithin, HasFew, HasMany, IsOneBeyond, OwnSides}
 use Rattle.lk_unify.specs.Small.{OwnNodes}
 use Rattle.lk_unify.specs.Solving.{AreLoaded, IsSide}
@@ -166,32 +165,17 @@ module _ (l : Loader) (sides : List ℕ) (es : List Equation) (loaded : AreLoade
 
   -- ---- as they are read
 
-  sides_can : (numbers : List ℕ) (fuel : ℕ) → length numbers ≡ length l.arena.shapes →
-      (rank : ℕ → ℕ) × IsRanked l.arena.shapes l.arena.classes rank × ((i : ℕ) → i < length l.arena.shapes → rank i < fuel) →
-      Each (λ n. CanRead l.arena numbers fuel n OfTypes) sides
-  sides_can numbers fuel many ranks = all_can sides (sides_below l es sides (whole_sides l sides es loaded)) loaded.types
-    where
-      all_can : (ns : List ℕ) → Each (λ n. n < length l.arena.shapes) ns → Each (λ n. loaded.kind n ≡ OfTypes) ns → Each (λ n. CanRead l.arena numbers fuel n OfTypes) ns
-      all_can [] below types = tt
-      all_can (n ∷ ns) below types = (
-        record {
-          arena = loaded.says.whole.arena;
-          count = many;
-          below = below.0;
-          kind = loaded.kind;
-          kinded = loaded.kinded.nodes;
-          kind_is = types.0;
-          rank = ranks.0;
-          ranked = ranks.1;
-          room = ranks.2 (class_at l.arena.classes n) (loaded.says.whole.arena.named.below n below.0);
-        },
-        all_can ns below.1 types.1,
-      )
-
-  pub first_can : (count : ℕ) (numbers : List ℕ) (fuel : ℕ) → length numbers ≡ length l.arena.shapes →
-      (rank : ℕ → ℕ) × IsRanked l.arena.shapes l.arena.classes rank × ((i : ℕ) → i < length l.arena.shapes → rank i < fuel) →
-      Each (λ n. CanRead l.arena numbers fuel n OfTypes) (take count sides)
-  first_can count numbers fuel many ranks = first_each (λ n. CanRead l.arena numbers fuel n OfTypes) count sides (sides_can numbers fuel many ranks)
+  pub first_can : (count : ℕ) (numbers order : List ℕ) → length numbers ≡ length l.arena.shapes → IsPartsFirst l.arena.shapes l.arena.classes order →
+      CanReadAll l.arena numbers order (take count sides)
+  first_can count numbers order many first = record {
+    arena = loaded.says.whole.arena;
+    count = many;
+    kind = loaded.kind;
+    kinded = loaded.kinded.nodes;
+    order_is = first;
+    below = first_each (λ n. n < length l.arena.shapes) count sides (sides_below l es sides (whole_sides l sides es loaded));
+    types = first_each (λ n. loaded.kind n ≡ OfTypes) count sides loaded.types;
+  }
 
   pub read_first : (count : ℕ) (name : ℕ → ℕ) (types : List Ty) → HasSolution es → ((kind : ℕ → Kind) → IsKinded l kind → (owner : ℕ → ℕ) × IsNaming l kind name owner) →
       ((u : ℕ → Value) → IsOwn l.arena.shapes l.arena.classes name u → types ≡ map (λ n. type_in (u n)) (take count sides)) → AreFirstSides count es types

@@ -68,9 +68,9 @@ abbrev pub binding_by : Variable → (ℕ → Value) → Option ℕ → List Bin
 binding_by x u None = []
 binding_by x u (Some n) = record { var = number_of x; is = image_of x (u n) } ∷ []
 
--- what the values put for each variable that has a node
-abbrev pub subst_by : Loader → (ℕ → Value) → Subst
-subst_by l u = record { binds = flat_map (λ e. binding_by e.0 u (node_for l e.0)) l.names.entries }
+-- what the values put for each of these variables that has a node
+abbrev pub subst_of : List Variable → Loader → (ℕ → Value) → Subst
+subst_of xs l u = record { binds = flat_map (λ x. binding_by x u (node_for l x)) xs }
 
 -- ---- variables for the classes of which nothing is known
 

@@ -10,14 +10,14 @@ ghost use Rattle.lk_unify.specs.SideSizes.{joined, sizings_of};
 ghost use Rattle.lk_unify.specs.declared.unifying.UnifyError.TheVariants as errors;
 
 use crate::constraint::{Constraint, Sizing};
+use crate::levels::read_levels;
 use crate::numbers::numbers_for;
-use crate::reading::read_types;
 use crate::side_sizes::first_large;
 use crate::small::load_ordered;
 use crate::solvable::first_unsolvable;
 use crate::unifying::UnifyError;
 use lk_ast::{List, NoMemory};
-use lk_types::{Equation, Ty};
+use lk_types::{Equation, Types};
 use std::alloc::Global;
 
 /// The equations and the sizings of constraints.
@@ -42,7 +42,7 @@ fn take_apart(alloc: Global, constraints: List<Constraint>) -> Result<Parts, NoM
 }
 
 /// The types that a most general solution makes of the sides of the first of these equations, which have one.
-fn side_types(alloc: Global, equations: &[Equation], count: usize) -> Result<List<Ty>, NoMemory>
+fn side_types(alloc: Global, equations: &[Equation], count: usize) -> Result<Types, NoMemory>
     requires solution { HasSolution equations.now }
     requires count { count ≤ length equations.now }
     ensures sides { IfOk result (λ types. AreFirstSides count equations.now types) }
@@ -52,11 +52,11 @@ fn side_types(alloc: Global, equations: &[Equation], count: usize) -> Result<Lis
     let loader = &nodes.all.loader;
     let numbers = numbers_for(alloc, loader)?;
     let sides = nodes.all.sides.as_slice();
-    let types = read_types(
+    let types = read_levels(
         alloc,
         &loader.arena,
         numbers.as_slice(),
-        nodes.order.len(),
+        nodes.order.as_slice(),
         &sides[..count],
     )?;
     Ok(types)
@@ -69,7 +69,7 @@ fn solve_parts(
     equations: &[Equation],
     sizings: &[Sizing],
     count: usize,
-) -> Result<List<Ty>, UnifyError>
+) -> Result<Types, UnifyError>
     requires sizings { length sizings.now ≡ length equations.now }
     requires count { count ≤ length equations.now }
     ensures sides { IfOk result (λ types. AreFirstSides count equations.now types) }
@@ -95,7 +95,7 @@ pub fn solve_first(
     alloc: Global,
     constraints: List<Constraint>,
     count: usize,
-) -> Result<List<Ty>, UnifyError>
+) -> Result<Types, UnifyError>
     requires { count ≤ length constraints }
     ensures sides { IfOk result (λ types. AreFirstSides count (equations_of constraints) types) }
     ensures in_order { IfOk result (λ types. Each IsInOrder types) }
@@ -114,7 +114,7 @@ pub fn solve_first(
 
 /// The types that a most general solution makes of the sides of constraints, one for both sides of each, where each first part of
 /// the constraints has such a solution and is small as far as sizes matter. Fields, tags and effects stand in byte order.
-pub fn solve(alloc: Global, constraints: List<Constraint>) -> Result<List<Ty>, UnifyError>
+pub fn solve(alloc: Global, constraints: List<Constraint>) -> Result<Types, UnifyError>
     ensures sides { IfOk result (λ types. AreSides (equations_of constraints) types) }
     ensures in_order { IfOk result (λ types. Each IsInOrder types) }
     ensures fine { IfOk result (λ types. AllFine constraints) }

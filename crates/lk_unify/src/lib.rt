@@ -9,15 +9,18 @@
 mod chain;
 mod constrained;
 mod constraint;
+mod levels;
 mod load;
 mod loader;
 mod numbers;
 mod reading;
 mod row_fields;
+mod row_places;
 mod side_sizes;
 mod small;
 mod solvable;
 mod unifying;
+mod variables;
 
 pub use constrained::{solve, solve_first};
 pub use constraint::{Constraint, Sizing};

@@ -7,7 +7,7 @@ ghost use Rattle.lk_unify.specs.Loading.{kind_of, IsKinded, IsLoader};
 ghost use Rattle.lk_unify.specs.Models.{IsOwn};
 ghost use Rattle.lk_arena.specs.Openings.{row_type};
 ghost use Rattle.lk_arena.specs.Order.{IsRanked};
-ghost use Rattle.lk_unify.specs.Reading.{as_open, image_of, name_in, number_of, row_in, subst_by, type_in, with_fields, CanRead, CanReadParts};
+ghost use Rattle.lk_unify.specs.Reading.{as_open, image_of, name_in, number_of, row_in, subst_of, type_in, with_fields, CanRead, CanReadParts};
 ghost use Rattle.lk_arena.specs.Values.{IsMadeOf, Value};
 
 use crate::chain::read_effects;
@@ -80,7 +80,7 @@ fn read_made(
 
 /// The types of nodes.
 #[cycle(reading)]
-pub fn read_types(
+fn read_types(
     alloc: Global,
     arena: &Arena,
     numbers: &[u32],
@@ -192,10 +192,11 @@ pub fn read_image(
     }
 }
 
-/// What is put for each variable that has a node.
+/// What is put for each of these variables that has a node.
 pub fn read_all(
     alloc: Global,
     loader: &Loader,
+    variables: &[Variable],
     numbers: &[u32],
     fuel: usize,
 ) -> Result<Subst, NoMemory>
@@ -203,11 +204,14 @@ pub fn read_all(
     requires kinds { (kind : ℕ → Kind) × IsKinded loader.now kind }
     requires count { length numbers.now ≡ length loader.now.arena.shapes }
     requires ranks { (rank : ℕ → ℕ) × IsRanked loader.now.arena.shapes loader.now.arena.classes rank × ((i : ℕ) → i < length loader.now.arena.shapes → rank i < fuel) }
-    ensures { IfOk result (λ s. (u : ℕ → Value) → IsOwn loader.now.arena.shapes loader.now.arena.classes (name_in numbers.now) u → s ≡ subst_by loader.now u) }
+    ensures { IfOk result (λ s. (u : ℕ → Value) → IsOwn loader.now.arena.shapes loader.now.arena.classes (name_in numbers.now) u → s ≡ subst_of variables.now loader.now u) }
 {
     let mut binds = List::new(alloc);
-    for (variable, node) in loader.names.iter() {
-        let image = read_image(alloc, &loader.arena, numbers, fuel, *variable, *node)?;
+    for variable in variables {
+        let Some(node) = loader.node_for(*variable) else {
+            continue;
+        };
+        let image = read_image(alloc, &loader.arena, numbers, fuel, *variable, node)?;
         binds.push(Binding {
             var: number_of(*variable),
             is: image,

@@ -9,9 +9,10 @@ ghost use Rattle.std.specs.Prelude.{◌≡◌, ◌≤◌, false, length, take, I
 
 use crate::load::{load_equation, load_variable};
 use crate::loader::Loader;
+use crate::variables::variables_in;
 use lk_arena::{is_clean, is_ordered, merge_nodes, parts_first};
 use lk_ast::{List, NoMemory};
-use lk_types::{Equation, Variable, push_variables};
+use lk_types::{Equation, Variable};
 use std::alloc::Global;
 
 /// Equations as nodes, and for each of them the node that stands for its sides.
@@ -19,18 +20,6 @@ use std::alloc::Global;
 pub struct Loaded {
     pub loader: Loader,
     pub sides: List<usize>,
-}
-
-/// The variables of all equations, each where it stands in the text.
-fn variables_in(alloc: Global, equations: &[Equation]) -> Result<List<Variable>, NoMemory>
-    ensures { IfOk result (λ variables. variables ≡ equation_variables equations.now) }
-{
-    let mut variables = List::new(alloc);
-    for equation in equations {
-        push_variables(&mut variables, &equation.left)?;
-        push_variables(&mut variables, &equation.right)?;
-    }
-    Ok(variables)
 }
 
 /// Gives each variable a node.

@@ -1,8 +1,11 @@
 //! Unification: the most general solution of equations, or which of them is the first with which there is none or a type is too
 //! large.
 
+ghost use Rattle.lk_types.specs.Each.{Each, OneOf};
 ghost use Rattle.lk_types.specs.Sizes.{AreSmall, IsFirstTooLarge, IsFirstUnsolvable, IsSolution};
 ghost use Rattle.lk_types.specs.Solutions.{HasSolution};
+ghost use Rattle.lk_types.specs.Variables.{equation_variables};
+ghost use Rattle.lk_unify.specs.Images.{variable_of, IsImageInOrder};
 ghost use Rattle.lk_unify.specs.declared.unifying.UnifyError.TheVariants as errors;
 ghost use Rattle.std.specs.Prelude.{◌≡◌, ℕ, Err, IfOk};
 
@@ -10,6 +13,7 @@ use crate::numbers::numbers_for;
 use crate::reading::read_all;
 use crate::small::{first_too_large, load_ordered};
 use crate::solvable::first_unsolvable;
+use crate::variables::distinct_variables;
 use lk_ast::NoMemory;
 use lk_types::{Equation, Subst};
 use std::alloc::Global;
@@ -40,18 +44,30 @@ impl From<NoMemory> for UnifyError {
 /// The most general solution of equations that have one.
 fn solution(alloc: Global, equations: &[Equation]) -> Result<Subst, NoMemory>
     requires { HasSolution equations.now }
-    ensures { IfOk result (λ s. IsSolution s equations.now) }
+    ensures solution { IfOk result (λ s. IsSolution s equations.now) }
+    ensures only { IfOk result (λ s. Each (λ b. OneOf (λ x. x ≡ variable_of b) (equation_variables equations.now)) s.binds) }
+    ensures in_order { IfOk result (λ s. Each (λ b. IsImageInOrder b.is) s.binds) }
 {
+    let variables = distinct_variables(alloc, equations)?;
     let nodes = load_ordered(alloc, equations)?;
     let loader = &nodes.all.loader;
     let numbers = numbers_for(alloc, loader)?;
-    let subst = read_all(alloc, loader, numbers.as_slice(), nodes.order.len())?;
+    let subst = read_all(
+        alloc,
+        loader,
+        variables.as_slice(),
+        numbers.as_slice(),
+        nodes.order.len(),
+    )?;
     Ok(subst)
 }
 
-/// Solves equations in a most general way, where each first part of them is small.
+/// Solves equations in a most general way, where each first part of them is small. Something is put for variables of the equations
+/// alone, with fields, tags and effects in byte order.
 pub fn unify(alloc: Global, equations: &[Equation]) -> Result<Subst, UnifyError>
     ensures solution { IfOk result (λ s. IsSolution s equations.now) }
+    ensures only { IfOk result (λ s. Each (λ b. OneOf (λ x. x ≡ variable_of b) (equation_variables equations.now)) s.binds) }
+    ensures in_order { IfOk result (λ s. Each (λ b. IsImageInOrder b.is) s.binds) }
     ensures small { IfOk result (λ s. AreSmall equations.now) }
     ensures unsolvable { (k : ℕ) → result ≡ Err (errors.NoSolution k) → IsFirstUnsolvable equations.now k }
     ensures large { (k : ℕ) → result ≡ Err (errors.TypeTooLarge k) → IsFirstTooLarge equations.now k }

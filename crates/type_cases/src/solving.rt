@@ -3,7 +3,7 @@
 use crate::reader::{is_type, read_equation};
 use case_files::parted;
 use lk_ast::{Boxed, List, NoMemory};
-use lk_types::{Binding, Effects, Equation, Image, RowTail, Subst, Ty, TyRow, print_type};
+use lk_types::{Binding, Effects, Equation, Image, RowTail, Subst, Ty, TyRow, Types, print_type};
 use lk_unify::{Constraint, Sizing, UnifyError, first_unsolvable, solve, unify};
 use std::alloc::Global;
 use std::mem;
@@ -115,19 +115,20 @@ fn both_verdicts(
 /// What the sides of each equation become under the most general solution of all, or why there is none.
 pub fn sides(alloc: Global, case: &str) -> Result<String, NoMemory> {
     match solve(alloc, constraints_of(alloc, case)?) {
-        Ok(types) => types_text(alloc, types.as_slice()),
+        Ok(types) => types_text(alloc, &types),
         Err(fault) => fault_text(alloc, Some(fault)),
     }
 }
 
 /// `T; T`.
-fn types_text(alloc: Global, types: &[Ty]) -> Result<String, NoMemory> {
+fn types_text(alloc: Global, types: &Types) -> Result<String, NoMemory> {
     let mut text = String::new(alloc);
-    for ty in types {
+    for number in 0..types.len() {
         if !text.is_empty() {
             text.push_str("; ")?;
         }
-        text.push_str(type_text(alloc, ty)?.as_str())?;
+        let ty = types.tree(alloc, number)?;
+        text.push_str(type_text(alloc, &ty)?.as_str())?;
     }
     Ok(text)
 }
@@ -142,7 +143,7 @@ fn under_constraints(
     let itself = format!(in alloc; "{shown} = {shown}")?;
     push_constraint(alloc, &mut constraints, itself.as_str(), Sizing::Never)?;
     match solve(alloc, constraints) {
-        Ok(types) => last_text(alloc, types.as_slice()),
+        Ok(types) => last_text(alloc, &types),
         Err(fault) => fault_text(alloc, Some(fault)),
     }
 }
@@ -154,9 +155,9 @@ pub fn type_text(alloc: Global, ty: &Ty) -> Result<String, NoMemory> {
 }
 
 /// The last of these types.
-fn last_text(alloc: Global, types: &[Ty]) -> Result<String, NoMemory> {
-    match types.last() {
-        Some(ty) => type_text(alloc, ty),
+fn last_text(alloc: Global, types: &Types) -> Result<String, NoMemory> {
+    match types.len().checked_sub(1) {
+        Some(last) => type_text(alloc, &types.tree(alloc, last)?),
         None => Ok(String::new(alloc)),
     }
 }

@@ -8,8 +8,8 @@ solve_first-requires c = subst (λ cs. 2 ≤ length cs) (sym c.in_ok-constraints
 pub first_two-requires : goal.first_two-requires
 first_two-requires c = two c.args.odd.equation c.args.odd.before _ c.in_ok-constraints.ensures _ c.in-Ok.ensures.sides
 
-pub returns-in-Ok : goal.returns-in-Ok
-returns-in-Ok c = reading c.args.odd.equation c.args.odd.before _ c.in_ok-constraints.ensures _ c.in-Ok.ensures.sides c.in-Ok.ensures.in_order c.first_two.result c.first_two.ensures
+pub returns-in_ok-found-in-Ok : goal.returns-in_ok-found-in-Ok
+returns-in_ok-found-in-Ok c = reading c.args.odd.equation c.args.odd.before _ c.in_ok-constraints.ensures _ c.in-Ok.ensures.sides c.in-Ok.ensures.in_order c.in_ok-found-in-Ok.found c.in_ok-found-in-Ok.ensures
 
 pub returns-in-Err-NoSolution : goal.returns-in-Err-NoSolution
 returns-in-Err-NoSolution c =

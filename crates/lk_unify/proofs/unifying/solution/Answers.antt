@@ -1,5 +1,5 @@
 use Rattle.lk_arena.proofs.Placed.{places}
-use Rattle.lk_unify.proofs.ReadSolution.{read_solution}
+use Rattle.lk_unify.proofs.ReadSolution.{read_in_order, read_only, read_solution}
 use Rattle.lk_unify.proofs.unifying.solution.Goals as goal
 use Rattle.lk_unify.specs.Reading.{name_in}
 
@@ -9,7 +9,17 @@ read_all-requires-clause-ranks c =
     (places c.in_ok-nodes.nodes.all.loader.arena.shapes c.in_ok-nodes.nodes.all.loader.arena.classes c.in_ok-nodes.nodes.order.items c.in_ok-nodes.ensures.loaded.says.whole.arena
     c.in_ok-nodes.ensures.order)
 
-pub returns : goal.returns
-returns c =
-    read_solution c.in_ok-nodes.nodes.all.loader c.in_ok-nodes.nodes.all.sides c.args.equations.now (name_in c.in_ok-numbers.numbers.items) c.in_ok-subst.subst c.in_ok-nodes.ensures.loaded
-    c.requires c.in_ok-numbers.ensures.naming (rw c.as_slice.ensures.value at c.in_ok-subst.ensures)
+pub returns-clause-solution : goal.returns-clause-solution
+returns-clause-solution c =
+    read_solution c.in_ok-nodes.nodes.all.loader c.in_ok-nodes.nodes.all.sides c.args.equations.now (name_in c.in_ok-numbers.numbers.items) c.in_ok-variables.variables c.in_ok-subst.subst
+    c.in_ok-nodes.ensures.loaded c.requires c.in_ok-numbers.ensures.naming (rw (c.as_slice.ensures, c.as_slice-2.ensures.value) at c.in_ok-subst.ensures) c.in_ok-variables.ensures.all
+
+pub returns-clause-only : goal.returns-clause-only
+returns-clause-only c =
+    read_only c.in_ok-nodes.nodes.all.loader c.in_ok-nodes.nodes.all.sides c.args.equations.now (name_in c.in_ok-numbers.numbers.items) c.in_ok-variables.variables c.in_ok-subst.subst
+    c.in_ok-nodes.ensures.loaded c.requires c.in_ok-numbers.ensures.naming (rw (c.as_slice.ensures, c.as_slice-2.ensures.value) at c.in_ok-subst.ensures) c.in_ok-variables.ensures.only
+
+pub returns-clause-in_order : goal.returns-clause-in_order
+returns-clause-in_order c =
+    read_in_order c.in_ok-nodes.nodes.all.loader c.in_ok-nodes.nodes.all.sides c.args.equations.now (name_in c.in_ok-numbers.numbers.items) c.in_ok-variables.variables c.in_ok-subst.subst
+    c.in_ok-nodes.ensures.loaded c.requires c.in_ok-numbers.ensures.naming (rw (c.as_slice.ensures, c.as_slice-2.ensures.value) at c.in_ok-subst.ensures)

@@ -1,7 +1,7 @@
 use Rattle.std.proofs.Common.{◌++◌, map, sym, ap, ◌∙◌, append-nil}
 use Rattle.std.specs.FinMap as finite
 use Rattle.lk_arena.specs.Openings.{field_type}
-use Rattle.lk_unify.proofs.TypeEntries.{entry_field, fields_made}
+use Rattle.lk_unify.proofs.LabelEntries.{entry_field, fields_made}
 use Rattle.lk_unify.proofs.row_fields.TypesByLabel.into_fields.Goals as goal
 
 pub returns : goal.returns

@@ -1,4 +1,4 @@
-use Rattle.lk_unify.proofs.TypeEntries.{none_made}
+use Rattle.lk_unify.proofs.LabelEntries.{none_made}
 use Rattle.lk_unify.proofs.row_fields.TypesByLabel.new.Goals as goal
 
 pub returns : goal.returns

@@ -1,6 +1,6 @@
 use Rattle.std.proofs.Common.{◌∙◌, ap₂}
 use Rattle.std.specs.FinMap as finite
-use Rattle.lk_unify.proofs.TypeEntries.{put_made}
+use Rattle.lk_unify.proofs.LabelEntries.{put_made}
 use Rattle.lk_unify.proofs.row_fields.TypesByLabel.put.Goals as goal
 
 pub returns : goal.returns

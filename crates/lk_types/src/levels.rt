@@ -1,0 +1,243 @@
+//! Types as levels whose parts are named by their places.
+
+ghost use Rattle.lk_types.specs.Levels.{at, built, row_made, row_parts, types_at, AreBelow, IsTable};
+ghost use Rattle.lk_types.specs.Each.{Each};
+ghost use Rattle.lk_types.specs.Sizes.{most_nodes, nodes};
+ghost use Rattle.std.specs.List.{list_any};
+ghost use Rattle.std.specs.Prelude.{◌≡◌, ◌<◌, ◌++◌, ◌∷◌, [], drop, IfOk, OnOk, length, nat_lt, Some, slice_get, take};
+
+use crate::counts::{any_over, level_counts};
+use crate::moves::{Numbering, count_of, kept_levels, moved_levels, moved_numbers, some_numbers};
+use crate::places::Places;
+use crate::planting::push_tree;
+use crate::ty::{Effects, RowTail, Ty, TyField, TyRow};
+use lk_ast::{Boxed, List, NoMemory, Text};
+use std::alloc::Global;
+use std::marker::Model;
+
+/// A field whose type stands at that place.
+#[derive(Drop)]
+pub struct LevelField {
+    pub label: Text,
+    pub part: u32,
+}
+
+/// A row whose types stand at places.
+#[derive(Drop)]
+pub struct LevelRow {
+    pub fields: List<LevelField>,
+    pub tail: RowTail,
+}
+
+/// One level of a type, its parts by their places.
+pub enum Level {
+    Int,
+    Bool,
+    Text,
+    List(u32),
+    Fields(LevelRow),
+    Tags(LevelRow),
+    /// Parameters, effects and result.
+    Fun(List<u32>, Effects, u32),
+    Var(u32),
+}
+
+impl Drop for Level {
+    fn drop(self) {
+        match self {
+            Self::Int => {}
+            Self::Bool => {}
+            Self::Text => {}
+            Self::List(_) => {}
+            Self::Fields(_) => {}
+            Self::Tags(_) => {}
+            Self::Fun(_, _, _) => {}
+            Self::Var(_) => {}
+        }
+    }
+}
+
+/// Types, of which what stands in several is there once. Contracts see the list of the types.
+#[derive(Drop)]
+pub struct Types {
+    levels: Vec<Level>,
+    roots: Vec<u32>,
+}
+
+impl Model for Types {
+    ghost use Rattle.lk_types.specs.Levels.{IsTable, types_at};
+    ghost use Rattle.lk_types.specs.contracts.ty.Ty as t;
+    ghost use Rattle.lk_types.specs.declared.ty.Ty.{Ty as TheTy};
+    ghost use Rattle.std.specs.Coded.{coded_list};
+    ghost use Rattle.std.specs.Prelude.{List};
+
+    ghost Value = { List TheTy };
+
+    ghost coded = { coded_list t.the_row.coded };
+
+    ghost view = { λ types. types_at types.levels.items types.roots.items };
+
+    ghost invariant = { λ types. IsTable types.levels.items types.roots.items };
+}
+
+impl Types {
+    /// No types, which takes no memory.
+    pub fn new(alloc: Global) -> Types
+        ensures { result ≡ [] }
+    {
+        Types {
+            levels: Vec::new(alloc),
+            roots: Vec::new(alloc),
+        }
+    }
+
+    /// The types at these places among the levels.
+    pub fn of(levels: Vec<Level>, roots: Vec<u32>) -> Types
+        requires { IsTable levels.items roots.items }
+        ensures { result ≡ types_at levels.items roots.items }
+    {
+        Types { levels, roots }
+    }
+
+    /// The table of this type alone. `NoMemory` where memory runs out.
+    pub fn of_tree(alloc: Global, ty: &Ty) -> Result<Types, NoMemory>
+        ensures { IfOk result (λ types. types ≡ ty.now ∷ []) }
+    {
+        let mut levels = Vec::new(alloc);
+        let root = push_tree(alloc, &mut levels, ty)?;
+        let mut roots = Vec::new(alloc);
+        roots.push(root)?;
+        Ok(Types { levels, roots })
+    }
+
+    /// How many types there are.
+    pub fn len(&self) -> usize
+        ensures { result ≡ length self.now }
+    {
+        self.roots.len()
+    }
+
+    /// The levels, and the places of the types among them.
+    pub fn parts(&self) -> (&[Level], &[u32])
+        ensures table { IsTable result.0.now result.1.now }
+        ensures types { types_at result.0.now result.1.now ≡ self.now }
+    {
+        (self.levels.as_slice(), self.roots.as_slice())
+    }
+
+    /// The first types, as many as this.
+    pub fn truncate(&mut self, count: usize)
+        ensures { self.new ≡ take count self.old }
+    {
+        self.roots.truncate(count);
+    }
+
+    /// Whether one of the types has more nodes than a type may have.
+    pub fn any_large(&self, alloc: Global) -> Result<bool, NoMemory>
+        ensures { IfOk result (λ large. large ≡ list_any (λ t. nat_lt most_nodes (nodes t)) self.now) }
+    {
+        let counts = level_counts(alloc, self.levels.as_slice())?;
+        Ok(any_over(counts.as_slice(), self.roots.as_slice()))
+    }
+
+    /// Those of the types behind the first ones, as many as this, with the levels that stand in them alone.
+    pub fn part(&self, alloc: Global, from: usize, count: usize) -> Result<Types, NoMemory>
+        ensures { IfOk result (λ part. part ≡ take count (drop from self.now)) }
+    {
+        let roots = some_numbers(self.roots.as_slice(), from, count);
+        Types::thinned(alloc, self.levels.as_slice(), roots)
+    }
+
+    /// The types at these places, with the levels that stand in them alone.
+    fn thinned(alloc: Global, levels: &[Level], roots: &[u32]) -> Result<Types, NoMemory>
+        requires { IsTable levels.now roots.now }
+        ensures { IfOk result (λ types. types ≡ types_at levels.now roots.now) }
+    {
+        let places = Places::below(alloc, levels, roots)?;
+        let kept = kept_levels(alloc, levels, &places)?;
+        let moved = moved_numbers(alloc, Numbering::Among(&places), roots)?;
+        Ok(Types::of(kept, moved))
+    }
+
+    /// Adds other types behind these.
+    pub fn append(&mut self, other: Types) -> Result<(), NoMemory>
+        ensures { OnOk result (self.new ≡ self.old ++ other) }
+    {
+        let alloc = *self.levels.allocator();
+        let by = count_of(self.levels.as_slice())?;
+        let behind = Numbering::Behind(by);
+        let mut levels = moved_levels(alloc, behind, other.levels.as_slice())?;
+        let mut roots = moved_numbers(alloc, behind, other.roots.as_slice())?;
+        self.levels.append(&mut levels)?;
+        self.roots.append(&mut roots)?;
+        Ok(())
+    }
+
+    /// The type of that number, written out. Its size may be far more than that of the table: whoever asks for it knows that it isn't.
+    pub fn tree(&self, alloc: Global, number: usize) -> Result<Ty, NoMemory>
+        requires { number < length self.now }
+        ensures { IfOk result (λ ty. slice_get self.now number ≡ Some ty) }
+    {
+        tree_at(alloc, self.levels.as_slice(), self.roots[number] as usize)
+    }
+}
+
+/// The type at a place. Parts stand before it.
+#[cycle(trees)]
+fn tree_at(alloc: Global, levels: &[Level], place: usize) -> Result<Ty, NoMemory>
+    requires { AreBelow levels.now × (place < length levels.now) }
+    ensures { IfOk result (λ ty. ty ≡ at (built levels.now) place) }
+{
+    match &levels[place] {
+        Level::Int => Ok(Ty::Int),
+        Level::Bool => Ok(Ty::Bool),
+        Level::Text => Ok(Ty::Text),
+        Level::List(part) => {
+            let item = tree_at(alloc, levels, *part as usize)?;
+            Ok(Ty::List(Boxed::new(alloc, item)?))
+        }
+        Level::Fields(row) => Ok(Ty::Fields(row_at(alloc, levels, place, row)?)),
+        Level::Tags(row) => Ok(Ty::Tags(row_at(alloc, levels, place, row)?)),
+        Level::Fun(params, effects, part) => {
+            let params = trees_at(alloc, levels, place, params.as_slice())?;
+            let effects = effects.copy(alloc)?;
+            let answer = tree_at(alloc, levels, *part as usize)?;
+            Ok(Ty::Fun(params, effects, Boxed::new(alloc, answer)?))
+        }
+        Level::Var(number) => Ok(Ty::Var(*number)),
+    }
+}
+
+#[cycle(trees)]
+fn trees_at(
+    alloc: Global,
+    levels: &[Level],
+    below: usize,
+    places: &[u32],
+) -> Result<List<Ty>, NoMemory>
+    requires { AreBelow levels.now × (below < length levels.now) × Each (λ n. n < below) places.now }
+    ensures { IfOk result (λ types. types ≡ types_at levels.now places.now) }
+{
+    let mut types = List::new(alloc);
+    for place in places {
+        types.push(tree_at(alloc, levels, *place as usize)?)?;
+    }
+    Ok(types)
+}
+
+#[cycle(trees)]
+fn row_at(alloc: Global, levels: &[Level], below: usize, row: &LevelRow) -> Result<TyRow, NoMemory>
+    requires { AreBelow levels.now × (below < length levels.now) × Each (λ n. n < below) (row_parts row.now) }
+    ensures { IfOk result (λ made. made ≡ row_made (built levels.now) row.now) }
+{
+    let mut fields = List::new(alloc);
+    for field in row.fields.as_slice() {
+        let label = field.label.copy(alloc)?;
+        let ty = tree_at(alloc, levels, field.part as usize)?;
+        fields.push(TyField { label, ty })?;
+    }
+    Ok(TyRow {
+        fields,
+        tail: row.tail,
+    })
+}
