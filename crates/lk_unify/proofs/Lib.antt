@@ -26,6 +26,7 @@ pub mod LoadKinds
 pub mod LoadLists
 pub mod LoadReadings
 pub mod LoadRows
+pub mod LoadShared
 pub mod LoadSteps
 pub mod LoadTypes
 pub mod LoadVariables

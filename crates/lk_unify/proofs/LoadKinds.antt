@@ -7,11 +7,11 @@ use Rattle.lk_types.specs.Each.{Each}
 use Rattle.lk_arena.specs.Openings.{Opening}
 use Rattle.lk_arena.proofs.EachLemmas.{Each-zip}
 use Rattle.lk_arena.proofs.Growth.{old_shape, new_shape, old_class, new_class, map-each}
-use Rattle.lk_unify.proofs.LoadSteps.{same_names, one_longer, added_below, more_to}
+use Rattle.lk_unify.proofs.LoadSteps.{one_longer, more_to}
 use Rattle.lk_arena.specs.Kinds.{Kind, OfTypes, OfFields, OfEffects, OfUnit, OfNothing, TakesKinds, HasKind, IsEffectName, AreKinded}
-use Rattle.lk_unify.specs.Loading.{IsLoader, KindsTo, LoadsTo, Loads, Adds}
+use Rattle.lk_unify.specs.Loading.{IsLoader, KindsTo, LoadsTo, Loads, Adds, Makes}
 use Rattle.lk_classes.specs.Classes.{class_at}
-use Rattle.lk_arena.specs.Shapes.{shape_at, parts_of, fields_in, IsBuilt, IsDistinct, HasFields}
+use Rattle.lk_arena.specs.Shapes.{shape_at, parts_of, IsBuilt}
 use Rattle.lk_arena.specs.Values.{Value}
 use Rattle.lk_unify.specs.declared.loader.Loader.{Loader}
 use Rattle.lk_arena.specs.declared.node.Head.{Head}
@@ -153,34 +153,24 @@ module _ (b c : Loader) (s : Shape) (n : ℕ) (x : Kind) (whole : IsLoader b) (a
       ))
       (cases_eq i n)
 
-pub kinds_more : (a b c : Loader) (P : (ℕ → Kind) → Type 0) (s : Shape) (n : ℕ) (x : Kind) → length a.arena.shapes ≤ length b.arena.shapes → IsLoader b → KindsTo a b P → Adds b c s n
-    → Each (λ p. p < length b.arena.shapes) (parts_of s) → ((j : ℕ → Kind) → P j → HasKind j x s) → KindsTo a c (λ j. j n ≡ x)
-kinds_more a b c P s n x longer whole f add parts fits = record {
-  local = λ k j same p. same n (let l = one_longer b c s n whole add parts in let e = add.number in omega arith) ∙ p;
+pub kinds_more : (a b c : Loader) (P : (ℕ → Kind) → Type 0) (s : Shape) (n : ℕ) (x : Kind) → length a.arena.shapes ≤ length b.arena.shapes → KindsTo a b P → Makes b c x s n
+    → ((j : ℕ → Kind) → P j → HasKind j x s) → KindsTo a c (λ j. j n ≡ x)
+kinds_more a b c P s n x longer f makes fits = record {
+  local = λ k j same p. same n makes.below ∙ p;
   kinds = λ k kinded.
       let p = f.kinds k kinded in
-      let q = fits p.0 p.3 in (
-        put p.0 n x,
-        (λ i h. old_kind b c s n x whole add parts p.0 p.2.nodes q i (omega arith) ∙ p.1 i h),
-        record {
-          nodes = kinded_nodes b c s n x whole add parts p.0 p.2.nodes q;
-          named = λ y m e.
-              let o = sym (same_names b c s n whole add parts y) ∙ e in
-              old_kind b c s n x whole add parts p.0 p.2.nodes q m (whole.named y m o) ∙ p.2.named y m o;
-        },
-        new_kind b c s n x whole add parts p.0 p.2.nodes q,
-      );
+      let q = makes.kinds p.0 p.2 (fits p.0 p.3) in
+      (q.0, (λ i h. q.1 i (omega arith) ∙ p.1 i h), q.2, q.3);
 }
 
 -- a node on what was loaded
-module _ {A : Type 0} (a b c : Loader) (m : Opening → Option A) (r : (ℕ → Value) → A) (s : Shape) (k : ℕ) (n : Opening → Option Value) (l : LoadsTo a b m r) (add : Adds b c s k)
-    (parts : Each (λ p. p < length b.arena.shapes) (parts_of s)) (distinct : IsDistinct (fields_in s)) (filled : HasFields s) (P : (ℕ → Kind) → Type 0) (x : Kind) (f : KindsTo a b P)
-    (fits : (j : ℕ → Kind) → P j → HasKind j x s) where
+module _ {A : Type 0} (a b c : Loader) (m : Opening → Option A) (r : (ℕ → Value) → A) (s : Shape) (k : ℕ) (n : Opening → Option Value) (l : LoadsTo a b m r) (P : (ℕ → Kind) → Type 0) (x : Kind)
+    (makes : Makes b c x s k) (f : KindsTo a b P) (fits : (j : ℕ → Kind) → P j → HasKind j x s) where
   pub loads_more : ((v : ℕ → Value) (y : Value) (ρ : Opening) → m ρ ≡ Some (r v) → IsBuilt s v y → n ρ ≡ Some y)
       → ((y : Value) (ρ : Opening) → n ρ ≡ Some y → (z : A) × (m ρ ≡ Some z) × ((w : ℕ → Value) → r w ≡ z → IsBuilt s w y))
       → Loads a c x n k
   loads_more says builds = record {
-    below = added_below b c s k l.whole add parts;
-    kinds = kinds_more a b c P s k x l.longer l.whole f add parts fits;
-    to = more_to a b c m r s k n l add parts distinct filled says builds;
+    below = makes.below;
+    kinds = kinds_more a b c P s k x l.longer f makes fits;
+    to = more_to a b c m r x s k n l makes says builds;
   }

@@ -4,7 +4,6 @@ use Rattle.std.specs.FinMap as fin
 use Rattle.std.specs.Option.{option_map}
 use Rattle.std.specs.Prelude.{is_some}
 use Rattle.std.specs.Str.{bytes_eq}
-use Rattle.lk_types.proofs.Members.{each_weaker, each_to_map}
 use Rattle.lk_types.proofs.Parts.{mapped}
 use Rattle.lk_types.specs.Each.{Each}
 use Rattle.lk_types.specs.Grounding.{all_of}
@@ -22,7 +21,6 @@ use Rattle.lk_types.specs.declared.ty.Variable.{Variable}
 use Rattle.lk_types.specs.declared.ty.Variable.TheVariants as variable
 use Rattle.lk_unify.proofs.LoadEffects.{known_effect, before_effect_row}
 use Rattle.lk_arena.proofs.Distinct.{lacks}
-use Rattle.lk_arena.proofs.Growth.{HasFields-some}
 use Rattle.lk_unify.proofs.LoadKinds.{kinds_nothing, kinds_both, kinds_behind, loads_more}
 use Rattle.lk_unify.proofs.LoadSteps.{some_once, none_of, both, both_some, loads_nothing, loads_both, loads_as}
 use Rattle.lk_unify.proofs.OpenUnfold.{opened_row}
@@ -30,7 +28,7 @@ use Rattle.lk_arena.proofs.RowAlgebra.{label_cases, found_below, row_same}
 use Rattle.lk_unify.proofs.RowsBefore.{AreKnown, before_is, before_some, before_once, with_one, hit, miss}
 use Rattle.lk_arena.proofs.Sizes.{no_entries}
 use Rattle.lk_arena.specs.Kinds.{Kind, OfTypes, OfFields, OfEffects, OfUnit, OfNothing, HasKind, IsEffectName}
-use Rattle.lk_unify.specs.Loading.{LoadsEnd, KindsTo, IsEndOf, kind_of, value_of, IsLoader, LoadsTo, Loads, LoadsFields, Loaded, Adds, AddsRow, NeverMeans, type_meaning, fields_meaning, row_meaning, effects_meaning, end_value, effect_fields}
+use Rattle.lk_unify.specs.Loading.{LoadsEnd, KindsTo, IsEndOf, kind_of, value_of, IsLoader, LoadsTo, Loads, LoadsFields, Loaded, Makes, AddsRow, NeverMeans, type_meaning, fields_meaning, row_meaning, effects_meaning, end_value, effect_fields}
 use Rattle.lk_arena.specs.Openings.{OpenRow, OpenEffects, Opened, Opening, opened, before_open, tail_opened, effects_tail_opened, effects_opened, only_tail, field_type, row_type, unit_type}
 use Rattle.lk_arena.specs.Shapes.{IsDistinct, IsRowOf, found_at}
 use Rattle.lk_arena.specs.Values.{Value, Plain, OfRow, IsMadeOf, effect_row}
@@ -75,8 +73,7 @@ module _ {A : Type 0} (a b c : Loader) (m : Opening → Option A) (r : (ℕ → 
     (is : (ρ : Opening) → n ρ ≡ option_map OfRow (before_open (ks ρ) (end ρ)))
     (known : (v : ℕ → Value) (ρ : Opening) → m ρ ≡ Some (r v) → AreKnown v fields (ks ρ) × (v tail ≡ OfRow (end ρ)))
     (there : (ρ : Opening) (x : OpenRow) → before_open (ks ρ) (end ρ) ≡ Some x → (y : A) × (m ρ ≡ Some y))
-    (l : LoadsTo a b m r) (add : Adds b c (shape.Row fields tail) k) (tail_below : tail < length b.arena.shapes) (below : Each (λ f. f.node < length b.arena.shapes) fields) (some : length fields ≢ 0) (distinct : IsDistinct fields)
-    (P : (ℕ → Kind) → Type 0) (kind : Kind) (kinds : KindsTo a b P) (fits : (j : ℕ → Kind) → P j → HasKind j kind (shape.Row fields tail)) where
+    (l : LoadsTo a b m r) (kind : Kind) (add : Makes b c kind (shape.Row fields tail) k) (distinct : IsDistinct fields) (P : (ℕ → Kind) → Type 0) (kinds : KindsTo a b P) (fits : (j : ℕ → Kind) → P j → HasKind j kind (shape.Row fields tail)) where
   row_says : (v : ℕ → Value) (x : Value) (ρ : Opening) → m ρ ≡ Some (r v) → IsRowOf fields v (v tail) x → n ρ ≡ Some x
   row_says v x ρ e row =
       let q = known v ρ e in
@@ -99,14 +96,13 @@ module _ {A : Type 0} (a b c : Loader) (m : Opening → Option A) (r : (ℕ → 
 
   pub loads_row : Loads a c kind n k
   loads_row =
-      loads_more a b c m r (shape.Row fields tail) k n l add (tail_below, each_to_map (λ k. k < length b.arena.shapes) (λ (f : Field). f.node) fields below) distinct (HasFields-some fields tail some) P kind kinds fits
-      row_says row_builds
+      loads_more a b c m r (shape.Row fields tail) k n l P kind add kinds fits row_says row_builds
 
 -- ---- ends
 
-pub loads_closed : (b c : Loader) (k : ℕ) (kind : Kind) → ((j : ℕ → Kind) → HasKind j kind Empty) → IsLoader b → Adds b c Empty k → Loads b c kind (λ ρ. Some (OfRow (only_tail Closed))) k
+pub loads_closed : (b c : Loader) (k : ℕ) (kind : Kind) → ((j : ℕ → Kind) → HasKind j kind Empty) → IsLoader b → Makes b c kind Empty k → Loads b c kind (λ ρ. Some (OfRow (only_tail Closed))) k
 loads_closed b c k kind fits whole add =
-    loads_more {A = Unit {0}} b b c (λ ρ. Some (tt {0})) (λ v. tt {0}) Empty k (λ ρ. Some (OfRow (only_tail Closed))) (loads_nothing {A = Unit {0}} b (tt {0}) whole) add tt tt tt (λ j. Unit {0}) kind (kinds_nothing b) (λ j p. fits j)
+    loads_more {A = Unit {0}} b b c (λ ρ. Some (tt {0})) (λ v. tt {0}) Empty k (λ ρ. Some (OfRow (only_tail Closed))) (loads_nothing {A = Unit {0}} b (tt {0}) whole) (λ j. Unit {0}) kind add (kinds_nothing b) (λ j p. fits j)
     (λ v x ρ e built. ap Some (sym built))
     (λ x ρ e. (tt {0}, refl {0}, λ w r. sym (some_once (OfRow (only_tail Closed)) x e)))
 
@@ -176,9 +172,9 @@ module _ (r : TyRow) where
   abbrev all_meaning : Opening → Option (List Value × Value)
   all_meaning ρ = both (fields_meaning fs ρ) (end_meaning ρ)
 
-  pub loads_row_fields : (a b c d : Loader) (fields : List Field) (tail k : ℕ) → LoadsFields a b fs fields → Loads b c OfFields end_meaning tail → IsDistinct fields → Adds c d (shape.Row fields tail) k → length fields ≢ 0
+  pub loads_row_fields : (a b c d : Loader) (fields : List Field) (tail k : ℕ) → LoadsFields a b fs fields → Loads b c OfFields end_meaning tail → IsDistinct fields → Makes c d OfFields (shape.Row fields tail) k
       → Loads a d OfFields (row_meaning r) k
-  loads_row_fields a b c d fields tail k l e distinct add some =
+  loads_row_fields a b c d fields tail k l e distinct add =
       loads_row a c d all_meaning (λ v. (map (λ f. v f.node) fields, v tail)) fields tail k (row_meaning r) (λ ρ. map (entry ρ) fs) end (row_is r)
       (λ v ρ is.
       let s = both_some (fields_meaning fs ρ) (end_meaning ρ) (map (λ f. v f.node) fields, v tail) is in
@@ -187,9 +183,7 @@ module _ (r : TyRow) where
       let s = fields_there ρ fs (end ρ) x is in
       ((s.0, end_value (tail_variable variable.Row (out-TyRow r).tail) ρ), ap (λ o. both o (end_meaning ρ)) s.1))
       (loads_both a b c (fields_meaning fs) (λ v. map (λ f. v f.node) fields) end_meaning (λ v. v tail) l.to e.to)
-      add e.below
-      (each_weaker (λ f. f.node < length b.arena.shapes) (λ f. f.node < length c.arena.shapes) (λ f h. (let z = e.to.longer in omega arith)) fields l.below)
-      some distinct (λ j. Each (λ f. j f.node ≡ OfTypes) fields × (j tail ≡ OfFields)) OfFields
+      OfFields add distinct (λ j. Each (λ f. j f.node ≡ OfTypes) fields × (j tail ≡ OfFields))
       (kinds_both a b c (λ j. Each (λ f. j f.node ≡ OfTypes) fields) (λ j. j tail ≡ OfFields) l.to.longer e.to.longer l.kinds e.kinds) (λ j p. p)
 
   none_left : (gs : List TyField) → [] ≡ map (λ (f : TyField). f.label) gs → gs ≡ []
@@ -220,10 +214,10 @@ module _ (r : TyRow) where
   never_row_twice a b fields l twice = never_row (λ ρ x e. twice (before_distinct fields (map (entry ρ) fs) (end ρ) x (l.labels ∙ sym (same_labels ρ fs)) e))
 
   -- what follows from the answer
-  pub loaded_row : (a b c d : Loader) (fields : List Field) (tail : ℕ) (answer : Option ℕ) → LoadsFields a b fs fields → Loads b c OfFields end_meaning tail → length fields ≢ 0 → AddsRow c d fields tail answer
+  pub loaded_row : (a b c d : Loader) (fields : List Field) (tail : ℕ) (answer : Option ℕ) → LoadsFields a b fs fields → Loads b c OfFields end_meaning tail → AddsRow c d OfFields fields tail answer
       → Loaded a d OfFields (row_meaning r) answer
-  loaded_row a b c d fields tail None l e some twice = never_row_twice a b fields l twice
-  loaded_row a b c d fields tail (Some k) l e some added = loads_row_fields a b c d fields tail k l e added.0 added.1 some
+  loaded_row a b c d fields tail None l e twice = never_row_twice a b fields l twice
+  loaded_row a b c d fields tail (Some k) l e added = loads_row_fields a b c d fields tail k l e added.0 added.1
 
 -- ---- rows of effects
 
@@ -242,7 +236,7 @@ effect_labels : (unit : ℕ) (es : List Effect) → map (λ f. f.label) (effect_
 effect_labels unit [] = refl
 effect_labels unit (e ∷ es) = ap (λ ls. effect_word e ∷ ls) (effect_labels unit es)
 
-effects_below : (n unit : ℕ) (es : List Effect) → unit < n → Each (λ f. f.node < n) (effect_fields unit es)
+pub effects_below : (n unit : ℕ) (es : List Effect) → unit < n → Each (λ f. f.node < n) (effect_fields unit es)
 effects_below n unit [] h = tt
 effects_below n unit (e ∷ es) h = (h, effects_below n unit es h)
 
@@ -254,9 +248,9 @@ effects_kinds j unit [] h = tt
 effects_kinds j unit (e ∷ es) h = (((e, refl), h), effects_kinds j unit es h)
 
 -- the unit type on the row without fields
-pub loads_unit : (a b c : Loader) (p k : ℕ) → Loads a b OfNothing (λ ρ. Some (OfRow (only_tail Closed))) p → Adds b c (Made head.Fields (p ∷ [])) k → Loads a c OfUnit (λ ρ. Some (Plain unit_type)) k
+pub loads_unit : (a b c : Loader) (p k : ℕ) → Loads a b OfNothing (λ ρ. Some (OfRow (only_tail Closed))) p → Makes b c OfUnit (Made head.Fields (p ∷ [])) k → Loads a c OfUnit (λ ρ. Some (Plain unit_type)) k
 loads_unit a b c p k l add =
-    loads_more a b c (λ ρ. Some (OfRow (only_tail Closed))) (λ v. v p) (Made head.Fields (p ∷ [])) k (λ ρ. Some (Plain unit_type)) l.to add (l.below, tt) tt tt (λ j. j p ≡ OfNothing) OfUnit l.kinds (λ j e. e)
+    loads_more a b c (λ ρ. Some (OfRow (only_tail Closed))) (λ v. v p) (Made head.Fields (p ∷ [])) k (λ ρ. Some (Plain unit_type)) l.to (λ j. j p ≡ OfNothing) OfUnit add l.kinds (λ j e. e)
     (λ v x ρ e built.
     let q : IsMadeOf head.Fields (OfRow (only_tail Closed) ∷ []) x = subst (λ y. IsMadeOf head.Fields (y ∷ []) x) (sym (some_once (OfRow (only_tail Closed)) (v p) e)) built in
     ap Some (sym (q ∙ ap Plain unit_is)))
@@ -275,16 +269,15 @@ module _ (es : Effects) where
         (λ v. refl);
   }
 
-  pub loaded_effects : (a b c d e : Loader) (tail nothing unit : ℕ) (fields : List Field) (answer : Option ℕ) → Loads a b OfEffects effects_end tail → Adds b c Empty nothing → Adds c d (Made head.Fields (nothing ∷ [])) unit
-      → fields ≡ effect_fields unit es.labels → length fields ≢ 0 → AddsRow d e fields tail answer → Loaded a e OfEffects (effects_meaning es) answer
-  loaded_effects a b c d e tail nothing unit fields None l first second is some twice =
+  pub loaded_effects : (a b c d : Loader) (tail unit : ℕ) (fields : List Field) (answer : Option ℕ) → Loads a b OfEffects effects_end tail → Loads b c OfUnit (λ ρ. Some (Plain unit_type)) unit
+      → fields ≡ effect_fields unit es.labels → AddsRow c d OfEffects fields tail answer → Loaded a d OfEffects (effects_meaning es) answer
+  loaded_effects a b c d tail unit fields None l u is twice =
       λ ρ. effects_is es ρ
       ∙ ap (option_map OfRow)
       (none_of (before_open (map known_effect es.labels) (effect_row (effects_tail_opened ρ es.tail)))
       (λ x s. twice (before_distinct fields (map known_effect es.labels) (effect_row (effects_tail_opened ρ es.tail)) x (ap (map (λ f. f.label)) is ∙ effect_labels unit es.labels) s)))
-  loaded_effects a b c d e tail nothing unit fields (Some k) l first second is some added =
-      let u = loads_unit b c d nothing unit (loads_closed b c nothing OfNothing (λ j. tt) l.to.whole first) second in
-      loads_row a d e (λ ρ. both (effects_end ρ) (Some (Plain unit_type))) (λ v. (v tail, v unit)) fields tail k (effects_meaning es) (λ ρ. map known_effect es.labels)
+  loaded_effects a b c d tail unit fields (Some k) l u is added =
+      loads_row a c d (λ ρ. both (effects_end ρ) (Some (Plain unit_type))) (λ v. (v tail, v unit)) fields tail k (effects_meaning es) (λ ρ. map known_effect es.labels)
       (λ ρ. effect_row (effects_tail_opened ρ es.tail)) (effects_is es)
       (λ v ρ s.
       let p = both_some (effects_end ρ) (Some (Plain unit_type)) (v tail, v unit) s in (
@@ -292,18 +285,15 @@ module _ (es : Effects) where
         sym (some_once (end_value (tail_variable variable.Effects es.tail) ρ) (v tail) p.0) ∙ effect_end ρ es.tail,
       ))
       (λ ρ x s. ((end_value (tail_variable variable.Effects es.tail) ρ, Plain unit_type), refl))
-      (loads_both a b d effects_end (λ v. v tail) (λ ρ. Some (Plain unit_type)) (λ v. v unit) l.to u.to)
-      added.1
-      (let h = l.below in let z = u.to.longer in omega arith)
-      (subst (Each (λ f. f.node < length d.arena.shapes)) (sym is) (effects_below (length d.arena.shapes) unit es.labels u.below))
-      some added.0 (λ j. (j tail ≡ OfEffects) × (j unit ≡ OfUnit)) OfEffects
-      (kinds_both a b d (λ j. j tail ≡ OfEffects) (λ j. j unit ≡ OfUnit) l.to.longer u.to.longer l.kinds u.kinds)
+      (loads_both a b c effects_end (λ v. v tail) (λ ρ. Some (Plain unit_type)) (λ v. v unit) l.to u.to)
+      OfEffects added.1 added.0 (λ j. (j tail ≡ OfEffects) × (j unit ≡ OfUnit))
+      (kinds_both a b c (λ j. j tail ≡ OfEffects) (λ j. j unit ≡ OfUnit) l.to.longer u.to.longer l.kinds u.kinds)
       (λ j p. (subst (Each (λ f. IsEffectName f.label × (j f.node ≡ OfUnit))) (sym is) (effects_kinds j unit es.labels p.1), p.0))
 
 -- ---- ends of rows
 
-pub end_as : (b c : Loader) (k : ℕ) (x y : Option Variable) → x ≡ y → LoadsEnd b c x k → LoadsEnd b c y k
-end_as b c k x y e = subst (λ x. LoadsEnd b c x k) e
+pub end_as : (b c : Loader) (kind : Kind) (k : ℕ) (x y : Option Variable) → x ≡ y → LoadsEnd b c kind x k → LoadsEnd b c kind y k
+end_as b c kind k x y e = subst (λ x. LoadsEnd b c kind x k) e
 
 none_fits : (kind : Kind) (j : ℕ → Kind) → IsEndOf None kind → HasKind j kind Empty
 none_fits OfTypes j h = absurd h
@@ -312,11 +302,11 @@ none_fits OfEffects j h = tt
 none_fits OfUnit j h = absurd h
 none_fits OfNothing j h = absurd h
 
-pub end_closed : (b c : Loader) (k : ℕ) (x : Option Variable) → x ≡ None → IsLoader b → Adds b c Empty k → LoadsEnd b c x k
-end_closed b c k x e whole add = end_as b c k None x (sym e) (λ kind h. loads_closed b c k kind (λ j. none_fits kind j h) whole add)
+pub end_closed : (b c : Loader) (kind : Kind) (k : ℕ) (x : Option Variable) → x ≡ None → IsLoader b → Makes b c kind Empty k → LoadsEnd b c kind x k
+end_closed b c kind k x e whole add = end_as b c kind k None x (sym e) (λ h. loads_closed b c k kind (λ j. none_fits kind j h) whole add)
 
-pub end_variable : (b c : Loader) (k : ℕ) (x : Option Variable) (y : Variable) → x ≡ Some y → Loads b c (kind_of y) (λ ρ. Some (value_of ρ y)) k → LoadsEnd b c x k
-end_variable b c k x y e l = end_as b c k (Some y) x (sym e) (λ kind h. subst (λ q. Loads b c q (λ ρ. Some (value_of ρ y)) k) (sym h) l)
+pub end_variable : (b c : Loader) (kind : Kind) (k : ℕ) (x : Option Variable) (y : Variable) → x ≡ Some y → Loads b c (kind_of y) (λ ρ. Some (value_of ρ y)) k → LoadsEnd b c kind x k
+end_variable b c kind k x y e l = end_as b c kind k (Some y) x (sym e) (λ h. subst (λ q. Loads b c q (λ ρ. Some (value_of ρ y)) k) (sym h) l)
 
 row_fits : (tail : RowTail) → IsEndOf (tail_variable variable.Row tail) OfFields
 row_fits Closed = tt
@@ -326,12 +316,12 @@ effects_fit : (tail : RowTail) → IsEndOf (tail_variable variable.Effects tail)
 effects_fit Closed = tt
 effects_fit (Var n) = refl
 
-pub row_end_as : (b c : Loader) (k : ℕ) (x : Option Variable) (tail : RowTail) → x ≡ tail_variable variable.Row tail → LoadsEnd b c x k → Loads b c OfFields (λ ρ. Some (end_value (tail_variable variable.Row tail) ρ)) k
-row_end_as b c k x tail e l = end_as b c k x (tail_variable variable.Row tail) e l OfFields (row_fits tail)
+pub row_end_as : (b c : Loader) (k : ℕ) (x : Option Variable) (tail : RowTail) → x ≡ tail_variable variable.Row tail → LoadsEnd b c OfFields x k → Loads b c OfFields (λ ρ. Some (end_value (tail_variable variable.Row tail) ρ)) k
+row_end_as b c k x tail e l = end_as b c OfFields k x (tail_variable variable.Row tail) e l (row_fits tail)
 
-pub effects_end_as : (b c : Loader) (k : ℕ) (x : Option Variable) (tail : RowTail) → x ≡ tail_variable variable.Effects tail → LoadsEnd b c x k
+pub effects_end_as : (b c : Loader) (k : ℕ) (x : Option Variable) (tail : RowTail) → x ≡ tail_variable variable.Effects tail → LoadsEnd b c OfEffects x k
     → Loads b c OfEffects (λ ρ. Some (end_value (tail_variable variable.Effects tail) ρ)) k
-effects_end_as b c k x tail e l = end_as b c k x (tail_variable variable.Effects tail) e l OfEffects (effects_fit tail)
+effects_end_as b c k x tail e l = end_as b c OfEffects k x (tail_variable variable.Effects tail) e l (effects_fit tail)
 
 pub some_effects : (unit : ℕ) (es : List Effect) (fields : List Field) → fields ≡ effect_fields unit es → (es ≡ [] → ⊥) → length fields ≢ 0
 some_effects unit [] fields is some n = some refl

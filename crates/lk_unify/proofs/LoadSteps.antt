@@ -1,7 +1,9 @@
 -- Loads one after another, a load under another reading, and a node that is put on what was loaded.
-use Rattle.std.proofs.Common.{[], ◌∷◌, ◌++◌, ◌≡◌, ℕ, ◌+◌, ◌<◌, List, length, refl, sym, ◌∙◌, ap, subst, arith, Option, Some, None}
+use Rattle.std.proofs.Common.{[], ◌∷◌, ◌++◌, ◌≡◌, ℕ, ◌+◌, ◌<◌, ◌≤◌, List, length, refl, sym, ◌∙◌, ap, subst, arith, Option, Some, None}
+use Rattle.std.specs.BTreeMap.{get}
 use Rattle.std.specs.Map.{lookup}
 use Rattle.std.specs.Option.{option_map}
+use Rattle.std.specs.Ordering.{nat_cmp}
 use Rattle.lk_types.proofs.Parts.{mapped}
 use Rattle.lk_types.specs.Each.{Each}
 use Rattle.lk_arena.specs.Openings.{Opening}
@@ -10,10 +12,11 @@ use Rattle.lk_types.specs.declared.ty.TyField.{TyField}
 use Rattle.lk_types.specs.declared.ty.Variable.{Variable}
 use Rattle.lk_arena.proofs.Growth.{HasNode-push, WeakNodes-push, built_push, IsArena-push, more_count}
 use Rattle.lk_arena.specs.Kinds.{Kind}
-use Rattle.lk_unify.specs.Loading.{node_for, Agrees, IsLoader, LoadsTo, Loads, LoadsAll, LoadsFields, Loaded, LoadedAll, LoadedFields, NeverMeans, Adds, fields_meaning}
+use Rattle.lk_unify.specs.Loading.{node_for, made_at, Agrees, IsLoader, IsMade, LoadsTo, Loads, LoadsAll, LoadsFields, Loaded, LoadedAll, LoadedFields, Makes, NeverMeans, Adds, fields_meaning}
 use Rattle.lk_arena.specs.Shapes.{parts_of, fields_in, IsArena, IsBuilt, IsDistinct, HasFields, HasNode, FitsNodes, WeakNodes, SameBelow}
 use Rattle.lk_arena.specs.Values.{Value}
 use Rattle.lk_unify.specs.declared.loader.Loader.{Loader}
+use Rattle.lk_unify.specs.declared.loader.MadeNode.{MadeNode}
 use Rattle.lk_arena.specs.declared.node.Field.{Field}
 use Rattle.lk_arena.specs.declared.node.Shape.{Shape}
 
@@ -92,6 +95,14 @@ loads_as old new m r f n q l meaning read = record {
 
 -- ---- a node more
 
+pub made_still : (shapes : List Shape) (classes : List ℕ) (more : List Shape) (names : List ℕ) (m : MadeNode) → length shapes ≤ length more → ((v : ℕ → Value) → WeakNodes more names v → WeakNodes shapes classes v) →
+    IsMade shapes classes m → IsMade more names m
+made_still shapes classes more names m longer back made = record {
+  below = (let h = made.below in omega arith);
+  known = made.known;
+  built = λ v fits. made.built v (back v fits);
+}
+
 module _ (b c : Loader) (s : Shape) (k : ℕ) (whole : IsLoader b) (add : Adds b c s k) (parts : Each (λ p. p < length b.arena.shapes) (parts_of s)) where
   -- the new node's class
   pub added_classes : c.arena.classes ≡ b.arena.classes ++ length b.arena.shapes ∷ []
@@ -118,43 +129,36 @@ module _ (b c : Loader) (s : Shape) (k : ℕ) (whole : IsLoader b) (add : Adds b
   pub added_arena : IsDistinct (fields_in s) → HasFields s → IsArena c.arena.shapes c.arena.classes
   added_arena distinct filled = IsArena-push b.arena.shapes b.arena.classes s c.arena.shapes c.arena.classes whole.arena parts distinct filled add.shapes added_classes
 
-  added_whole : IsDistinct (fields_in s) → HasFields s → IsLoader c
-  added_whole distinct filled = record {
-    arena = added_arena distinct filled;
-    named = λ x n e. (let h : n < length b.arena.shapes = whole.named x n (sym (same_names x) ∙ e) in omega (arith, one_longer));
-  }
+  -- what was made is there still
+  pub added_made : (key : ℕ) (m : MadeNode) → made_at c key ≡ Some m → IsMade c.arena.shapes c.arena.classes m
+  added_made key m e =
+      made_still b.arena.shapes b.arena.classes c.arena.shapes c.arena.classes m (omega (arith, one_longer)) added_back (whole.made key m (sym (ap (λ made. get nat_cmp made key) add.made) ∙ e))
+
+-- a node on what was loaded
+module _ {A : Type 0} (a b c : Loader) (m : Opening → Option A) (r : (ℕ → Value) → A) (x : Kind) (s : Shape) (k : ℕ) (n : Opening → Option Value) (l : LoadsTo a b m r) (makes : Makes b c x s k) where
+  agrees_old : (ρ : Opening) (v : ℕ → Value) → Agrees c ρ v → Agrees b ρ v
+  agrees_old ρ v agrees = agrees_before b c ρ v (λ y j e. makes.names y ∙ e) agrees
 
   agrees_still : (ρ : Opening) (v w : ℕ → Value) → SameBelow (length b.arena.shapes) v w → Agrees b ρ v → Agrees c ρ w
   agrees_still ρ v w same agrees = record {
-    at = λ x n e. let f = sym (same_names x) ∙ e in same n (whole.named x n f) ∙ agrees.at x n f;
+    at = λ y j e. let f = sym (makes.names y) ∙ e in same j (l.whole.named y j f) ∙ agrees.at y j f;
   }
 
--- a node on what was loaded
-module _ {A : Type 0} (a b c : Loader) (m : Opening → Option A) (r : (ℕ → Value) → A) (s : Shape) (k : ℕ) (n : Opening → Option Value) (l : LoadsTo a b m r) (add : Adds b c s k)
-    (parts : Each (λ p. p < length b.arena.shapes) (parts_of s)) (distinct : IsDistinct (fields_in s)) (filled : HasFields s) where
-  pub more_to : ((v : ℕ → Value) (x : Value) (ρ : Opening) → m ρ ≡ Some (r v) → IsBuilt s v x → n ρ ≡ Some x)
-      → ((x : Value) (ρ : Opening) → n ρ ≡ Some x → (y : A) × (m ρ ≡ Some y) × ((w : ℕ → Value) → r w ≡ y → IsBuilt s w x))
+  pub more_to : ((v : ℕ → Value) (y : Value) (ρ : Opening) → m ρ ≡ Some (r v) → IsBuilt s v y → n ρ ≡ Some y)
+      → ((y : Value) (ρ : Opening) → n ρ ≡ Some y → (z : A) × (m ρ ≡ Some z) × ((w : ℕ → Value) → r w ≡ z → IsBuilt s w y))
       → LoadsTo a c n (λ v. v k)
   more_to says builds = record {
-    whole = added_whole b c s k l.whole add parts distinct filled;
-    longer = (let x = l.longer in let y = one_longer b c s k l.whole add parts in omega arith);
-    kept = λ x j e. same_names b c s k l.whole add parts x ∙ l.kept x j e;
-    local = λ v w same. same k (added_below b c s k l.whole add parts);
-    back = λ v h. l.back v (added_back b c s k l.whole add parts v h);
-    is = λ v ρ h agrees.
-        says v (v k) ρ
-        (l.is v ρ (added_back b c s k l.whole add parts v h) (agrees_before b c ρ v (λ x j e. same_names b c s k l.whole add parts x ∙ e) agrees))
-        (added_built b c s k l.whole add parts v h);
-    forth = λ v ρ x fits agrees e.
-        let y = builds x ρ e in
-        let p = l.forth v ρ y.0 fits agrees y.1 in
-        let h = added_node b c s k l.whole add parts p.0 x p.2 (y.2 p.0 p.4) in (
-          h.0,
-          (λ i q. h.1 i (let z = l.longer in omega arith) ∙ p.1 i q),
-          h.2,
-          agrees_still b c s k l.whole add parts ρ p.0 h.0 h.1 p.3,
-          h.3,
-        );
+    whole = makes.whole;
+    longer = (let y = l.longer in let z = makes.longer in omega arith);
+    kept = λ y j e. makes.names y ∙ l.kept y j e;
+    local = λ v w same. same k makes.below;
+    back = λ v h. l.back v (makes.back v h);
+    is = λ v ρ h agrees. says v (v k) ρ (l.is v ρ (makes.back v h) (agrees_old ρ v agrees)) (makes.built v h);
+    forth = λ v ρ y fits agrees e.
+        let z = builds y ρ e in
+        let p = l.forth v ρ z.0 fits agrees z.1 in
+        let h = makes.forth p.0 y p.2 (z.2 p.0 p.4) in
+        (h.0, (λ i q. h.1 i (let t = l.longer in omega arith) ∙ p.1 i q), h.2, agrees_still ρ p.0 h.0 h.1 p.3, h.3);
   }
 
 -- ---- answers

@@ -1,7 +1,7 @@
 -- A node for a constructor on what stands for its parts.
-use Rattle.std.proofs.Common.{◌≡◌, ℕ, ◌<◌, List, [], ◌∷◌, length, map, refl, sym, ◌∙◌, ap, subst, arith, Option, Some, None}
+use Rattle.std.proofs.Common.{◌≡◌, ℕ, List, [], ◌∷◌, map, refl, sym, ◌∙◌, ap, subst, arith, Option, Some, None}
 use Rattle.std.specs.Option.{option_map}
-use Rattle.lk_types.proofs.Members.{each_weaker, each_to_map}
+use Rattle.lk_types.proofs.Members.{each_to_map}
 use Rattle.lk_types.proofs.Parts.{mapped}
 use Rattle.lk_types.specs.Each.{Each}
 use Rattle.lk_types.specs.Grounding.{all_of}
@@ -15,7 +15,7 @@ use Rattle.lk_unify.proofs.LoadSteps.{some_once, none_of, both, both_some, loads
 use Rattle.lk_unify.proofs.OpenUnfold.{opened_int, opened_bool, opened_text, opened_list, opened_fields, opened_tags, opened_function, opened_variable}
 use Rattle.lk_arena.proofs.Heads.{plain_injective}
 use Rattle.lk_arena.specs.Kinds.{Kind, OfTypes, OfFields, OfEffects, TakesKinds}
-use Rattle.lk_unify.specs.Loading.{IsLoader, Loads, LoadsAll, Loaded, Adds, AddsFunction, NeverMeans, type_meaning, types_meaning, row_meaning, effects_meaning}
+use Rattle.lk_unify.specs.Loading.{IsLoader, Loads, LoadsAll, Loaded, Makes, AddsFunction, NeverMeans, type_meaning, types_meaning, row_meaning, effects_meaning}
 use Rattle.lk_arena.specs.Openings.{OpenEffects, Opening, opened, row_opened, effects_opened, open_function, row_type, effects_type}
 use Rattle.lk_arena.specs.Values.{Value, Plain, OfRow, IsMadeOf, effect_row}
 use Rattle.lk_unify.specs.declared.loader.Loader.{Loader}
@@ -25,20 +25,20 @@ use Rattle.lk_arena.specs.declared.node.Shape.TheVariants.{Made}
 
 -- ---- no parts
 
-pub loads_base : (b c : Loader) (n : Opening → Option Value) (g : Ty) (h : Head) (k : ℕ) → IsLoader b → Adds b c (Made h []) k → ((ρ : Opening) → n ρ ≡ Some (Plain g))
+pub loads_base : (b c : Loader) (n : Opening → Option Value) (g : Ty) (h : Head) (k : ℕ) → IsLoader b → Makes b c OfTypes (Made h []) k → ((ρ : Opening) → n ρ ≡ Some (Plain g))
     → ((x : Value) → IsMadeOf h [] x → x ≡ Plain g) → IsMadeOf h [] (Plain g) → TakesKinds h [] → Loads b c OfTypes n k
 loads_base b c n g h k whole add is says made takes =
-    loads_more {A = Unit {0}} b b c (λ ρ. Some (tt {0})) (λ v. tt {0}) (Made h []) k n (loads_nothing {A = Unit {0}} b (tt {0}) whole) add tt tt tt (λ j. Unit {0}) OfTypes (kinds_nothing b) (λ j p. takes)
+    loads_more {A = Unit {0}} b b c (λ ρ. Some (tt {0})) (λ v. tt {0}) (Made h []) k n (loads_nothing {A = Unit {0}} b (tt {0}) whole) (λ j. Unit {0}) OfTypes add (kinds_nothing b) (λ j p. takes)
     (λ v x ρ e built. is ρ ∙ ap Some (sym (says x built)))
     (λ x ρ e. (tt {0}, refl {0}, λ w r. subst (IsMadeOf h []) (some_once (Plain g) x (sym (is ρ) ∙ e)) made))
 
-pub loads_int : (b c : Loader) (k : ℕ) (t : Ty) → t ≡ ty.Int → IsLoader b → Adds b c (Made head.Int []) k → Loads b c OfTypes (type_meaning t) k
+pub loads_int : (b c : Loader) (k : ℕ) (t : Ty) → t ≡ ty.Int → IsLoader b → Makes b c OfTypes (Made head.Int []) k → Loads b c OfTypes (type_meaning t) k
 loads_int b c k t is whole add = loads_base b c (type_meaning t) ty.Int head.Int k whole add (λ ρ. ap (λ t. type_meaning t ρ) is ∙ ap (option_map Plain) (opened_int ρ)) (λ x e. e) refl tt
 
-pub loads_bool : (b c : Loader) (k : ℕ) (t : Ty) → t ≡ ty.Bool → IsLoader b → Adds b c (Made head.Bool []) k → Loads b c OfTypes (type_meaning t) k
+pub loads_bool : (b c : Loader) (k : ℕ) (t : Ty) → t ≡ ty.Bool → IsLoader b → Makes b c OfTypes (Made head.Bool []) k → Loads b c OfTypes (type_meaning t) k
 loads_bool b c k t is whole add = loads_base b c (type_meaning t) ty.Bool head.Bool k whole add (λ ρ. ap (λ t. type_meaning t ρ) is ∙ ap (option_map Plain) (opened_bool ρ)) (λ x e. e) refl tt
 
-pub loads_text : (b c : Loader) (k : ℕ) (t : Ty) → t ≡ ty.Text → IsLoader b → Adds b c (Made head.Text []) k → Loads b c OfTypes (type_meaning t) k
+pub loads_text : (b c : Loader) (k : ℕ) (t : Ty) → t ≡ ty.Text → IsLoader b → Makes b c OfTypes (Made head.Text []) k → Loads b c OfTypes (type_meaning t) k
 loads_text b c k t is whole add = loads_base b c (type_meaning t) ty.Text head.Text k whole add (λ ρ. ap (λ t. type_meaning t ρ) is ∙ ap (option_map Plain) (opened_text ρ)) (λ x e. e) refl tt
 
 -- a variable
@@ -54,9 +54,9 @@ loads_var b c k n t is l = record {
 
 module _ {A : Type 0} (part : Opening → Option A) (wrap : A → Value) (make : A → Ty) (h : Head) (n : Opening → Option Value) (is : (ρ : Opening) → n ρ ≡ option_map Plain (option_map make (part ρ)))
     (says : (a : A) (x : Value) → IsMadeOf h (wrap a ∷ []) x → x ≡ Plain (make a)) (made : (a : A) → IsMadeOf h (wrap a ∷ []) (Plain (make a))) (kind : Kind) (takes : TakesKinds h (kind ∷ [])) where
-  pub loads_one : (a b c : Loader) (p k : ℕ) → Loads a b kind (λ ρ. option_map wrap (part ρ)) p → Adds b c (Made h (p ∷ [])) k → Loads a c OfTypes n k
+  pub loads_one : (a b c : Loader) (p k : ℕ) → Loads a b kind (λ ρ. option_map wrap (part ρ)) p → Makes b c OfTypes (Made h (p ∷ [])) k → Loads a c OfTypes n k
   loads_one a b c p k l add =
-      loads_more a b c (λ ρ. option_map wrap (part ρ)) (λ v. v p) (Made h (p ∷ [])) k n l.to add (l.below, tt) tt tt (λ j. j p ≡ kind) OfTypes l.kinds (λ j e. subst (λ y. TakesKinds h (y ∷ [])) (sym e) takes)
+      loads_more a b c (λ ρ. option_map wrap (part ρ)) (λ v. v p) (Made h (p ∷ [])) k n l.to (λ j. j p ≡ kind) OfTypes add l.kinds (λ j e. subst (λ y. TakesKinds h (y ∷ [])) (sym e) takes)
       (λ v x ρ e built.
       let s = mapped wrap (part ρ) (v p) e in
       is ρ ∙ ap (λ o. option_map Plain (option_map make o)) s.1 ∙ ap Some (sym (says s.0 x (subst (λ y. IsMadeOf h (y ∷ []) x) s.2 built))))
@@ -72,13 +72,13 @@ module _ {A : Type 0} (part : Opening → Option A) (wrap : A → Value) (make :
       empty None e = refl
       empty (Some a) e = cc
 
-pub loads_list : (a b c : Loader) (p k : ℕ) (t : Ty) → Loads a b OfTypes (type_meaning t) p → Adds b c (Made head.List (p ∷ [])) k → Loads a c OfTypes (type_meaning (ty.List t)) k
+pub loads_list : (a b c : Loader) (p k : ℕ) (t : Ty) → Loads a b OfTypes (type_meaning t) p → Makes b c OfTypes (Made head.List (p ∷ [])) k → Loads a c OfTypes (type_meaning (ty.List t)) k
 loads_list a b c p k t = loads_one (λ ρ. opened ρ t) Plain ty.List head.List (type_meaning (ty.List t)) (λ ρ. ap (option_map Plain) (opened_list ρ t)) (λ g x e. e) (λ g. refl) OfTypes refl a b c p k
 
 pub never_list : (t : Ty) → NeverMeans (type_meaning t) → NeverMeans (type_meaning (ty.List t))
 never_list t = never_one (λ ρ. opened ρ t) Plain ty.List head.List (type_meaning (ty.List t)) (λ ρ. ap (option_map Plain) (opened_list ρ t)) (λ g x e. e) (λ g. refl) OfTypes refl
 
-pub loads_record : (a b c : Loader) (p k : ℕ) (r : TyRow) → Loads a b OfFields (row_meaning r) p → Adds b c (Made head.Fields (p ∷ [])) k → Loads a c OfTypes (type_meaning (ty.Fields r)) k
+pub loads_record : (a b c : Loader) (p k : ℕ) (r : TyRow) → Loads a b OfFields (row_meaning r) p → Makes b c OfTypes (Made head.Fields (p ∷ [])) k → Loads a c OfTypes (type_meaning (ty.Fields r)) k
 loads_record a b c p k r =
     loads_one (λ ρ. row_opened ρ r) OfRow (λ m. ty.Fields (row_type m)) head.Fields (type_meaning (ty.Fields r)) (λ ρ. ap (option_map Plain) (opened_fields ρ r)) (λ g x e. e) (λ g. refl) OfFields refl a b c p k
 
@@ -86,7 +86,7 @@ pub never_record : (r : TyRow) → NeverMeans (row_meaning r) → NeverMeans (ty
 never_record r =
     never_one (λ ρ. row_opened ρ r) OfRow (λ m. ty.Fields (row_type m)) head.Fields (type_meaning (ty.Fields r)) (λ ρ. ap (option_map Plain) (opened_fields ρ r)) (λ g x e. e) (λ g. refl) OfFields refl
 
-pub loads_variant : (a b c : Loader) (p k : ℕ) (r : TyRow) → Loads a b OfFields (row_meaning r) p → Adds b c (Made head.Tags (p ∷ [])) k → Loads a c OfTypes (type_meaning (ty.Tags r)) k
+pub loads_variant : (a b c : Loader) (p k : ℕ) (r : TyRow) → Loads a b OfFields (row_meaning r) p → Makes b c OfTypes (Made head.Tags (p ∷ [])) k → Loads a c OfTypes (type_meaning (ty.Tags r)) k
 loads_variant a b c p k r =
     loads_one (λ ρ. row_opened ρ r) OfRow (λ m. ty.Tags (row_type m)) head.Tags (type_meaning (ty.Tags r)) (λ ρ. ap (option_map Plain) (opened_tags ρ r)) (λ g x e. e) (λ g. refl) OfFields refl a b c p k
 
@@ -112,7 +112,7 @@ all_plain f (x ∷ xs) = by_first (f x) (all_plain f xs)
 cons_once : {A : Type 0} (a b : A) (xs ys : List A) → a ∷ xs ≡ b ∷ ys → (a ≡ b) × (xs ≡ ys)
 cons_once a b xs ys e = (cc, cc)
 
-plains_once : (ss ts : List Ty) → map Plain ss ≡ map Plain ts → ss ≡ ts
+pub plains_once : (ss ts : List Ty) → map Plain ss ≡ map Plain ts → ss ≡ ts
 plains_once [] [] e = refl
 plains_once [] (t ∷ ts) e = cc
 plains_once (s ∷ ss) [] e = cc
@@ -167,20 +167,12 @@ module _ (params : List Ty) (es : Effects) (answer : Ty) where
       )
 
   pub loads_function : (a b c d e : Loader) (first second : ℕ) (others : List ℕ) (k : ℕ) → Loads a b OfTypes (type_meaning answer) second → LoadsAll b c (types_meaning params) others → Loads c d OfEffects (effects_meaning es) first
-      → Adds d e (Made head.Fun (first ∷ (second ∷ others))) k → Loads a e OfTypes (type_meaning (ty.Fun params es answer)) k
+      → Makes d e OfTypes (Made head.Fun (first ∷ (second ∷ others))) k → Loads a e OfTypes (type_meaning (ty.Fun params es answer)) k
   loads_function a b c d e first second others k f g h add =
       loads_more a d e meaning (λ v. ((v second, map v others), v first)) (Made head.Fun (first ∷ (second ∷ others))) k means
       (loads_both a c d (λ ρ. both (type_meaning answer ρ) (types_meaning params ρ)) (λ v. (v second, map v others)) (effects_meaning es) (λ v. v first)
       (loads_both a b c (type_meaning answer) (λ v. v second) (types_meaning params) (λ v. map v others) f.to g.to) h.to)
-      add (
-        h.below,
-        (
-          (let n = f.below in let x = g.to.longer in let y = h.to.longer in omega arith),
-          each_weaker (λ k. k < length c.arena.shapes) (λ k. k < length d.arena.shapes) (λ k q. (let y = h.to.longer in omega arith)) others g.below,
-        ),
-      )
-      tt tt
-      (λ j. ((j second ≡ OfTypes) × Each (λ n. j n ≡ OfTypes) others) × (j first ≡ OfEffects)) OfTypes
+      (λ j. ((j second ≡ OfTypes) × Each (λ n. j n ≡ OfTypes) others) × (j first ≡ OfEffects)) OfTypes add
       (kinds_both a c d (λ j. (j second ≡ OfTypes) × Each (λ n. j n ≡ OfTypes) others) (λ j. j first ≡ OfEffects) (let x = f.to.longer in let y = g.to.longer in omega arith) h.to.longer
       (kinds_both a b c (λ j. j second ≡ OfTypes) (λ j. Each (λ n. j n ≡ OfTypes) others) f.to.longer g.to.longer f.kinds g.kinds) h.kinds)
       (λ j p. (p.1, p.0.0, each_to_map (λ k. k ≡ OfTypes) j others p.0.1))

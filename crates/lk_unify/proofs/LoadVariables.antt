@@ -2,6 +2,7 @@
 use Rattle.std.proofs.Common.{◌≡◌, ℕ, ◌+◌, ◌<◌, true, false, ◌⊎◌, inl, inr, ⊎_elim, length, refl, sym, ◌∙◌, ap, subst, arith, Some, None, cond}
 use Rattle.std.specs.BTreeMap.{get, is_at}
 use Rattle.std.specs.Map.{lookup}
+use Rattle.std.specs.Ordering.{nat_cmp}
 use Rattle.lk_types.specs.Each.{Each}
 use Rattle.lk_arena.proofs.RowAlgebra.{bool_cases}
 use Rattle.lk_arena.specs.Openings.{Opening}
@@ -11,12 +12,13 @@ use Rattle.lk_types.specs.declared.ty.Variable.{Variable}
 use Rattle.lk_types.specs.declared.ty.Variable.TheVariants as variable
 use Rattle.lk_unify.proofs.LoadKinds.{put, old_kind, new_kind, kinded_nodes}
 use Rattle.lk_types.proofs.SameVariable.{agrees, test_is, same_is, same_self}
-use Rattle.lk_unify.proofs.LoadSteps.{some_once, one_longer, same_names, added_below, added_back, added_node, added_arena}
+use Rattle.lk_unify.proofs.LoadSteps.{some_once, one_longer, same_names, added_below, added_back, added_made, added_node, added_arena}
 use Rattle.lk_arena.specs.Kinds.{Kind, HasKind, AreKinded}
-use Rattle.lk_unify.specs.Loading.{KindsTo, kind_of, node_for, value_of, shape_for, IsLoader, Loads, Adds}
+use Rattle.lk_unify.specs.Loading.{KindsTo, kind_of, made_at, node_for, value_of, shape_for, IsLoader, IsMade, Loads, Adds}
 use Rattle.lk_arena.specs.Shapes.{parts_of, fields_in, IsArena, IsBuilt, IsDistinct, HasFields, FitsNodes, WeakNodes}
 use Rattle.lk_arena.specs.Values.{Value}
 use Rattle.lk_unify.specs.declared.loader.Loader.{Loader}
+use Rattle.lk_unify.specs.declared.loader.MadeNode.{MadeNode}
 
 -- what the map finds
 pub found_is : (l : Loader) (x : Variable) → get cmp-value.it l.names x ≡ node_for l x
@@ -69,7 +71,7 @@ loads_known l x n whole is = record {
 
 -- ---- a variable that gets one
 
-module _ (b c d : Loader) (x : Variable) (k : ℕ) (whole : IsLoader b) (none : node_for b x ≡ None) (add : Adds b c (shape_for x) k) (arena : d.arena ≡ c.arena)
+module _ (b c d : Loader) (x : Variable) (k : ℕ) (whole : IsLoader b) (none : node_for b x ≡ None) (add : Adds b c (shape_for x) k) (arena : d.arena ≡ c.arena) (made : d.made ≡ c.made)
     (names : (q : Variable) → get cmp-value.it d.names q ≡ cond (is_at (cmp-value.it x) q) (Some k) (get cmp-value.it c.names q)) where
   parts : Each (λ p. p < length b.arena.shapes) (parts_of (shape_for x))
   parts = shape_parts x (λ p. p < length b.arena.shapes)
@@ -103,6 +105,12 @@ module _ (b c d : Loader) (x : Variable) (k : ℕ) (whole : IsLoader b) (none : 
   below : k < length d.arena.shapes
   below = subst (λ a. k < length a.shapes) (sym arena) (added_below b c (shape_for x) k whole add parts)
 
+  made_before : (key : ℕ) (m : MadeNode) → made_at d key ≡ Some m → made_at c key ≡ Some m
+  made_before key m e = sym (ap (λ made. get nat_cmp made key) made) ∙ e
+
+  made_first : (key : ℕ) (m : MadeNode) → made_at d key ≡ Some m → made_at b key ≡ Some m
+  made_first key m e = sym (ap (λ made. get nat_cmp made key) add.made) ∙ made_before key m e
+
   arena_kinded : (k : ℕ → Kind) → AreKinded c.arena.shapes c.arena.classes k → AreKinded d.arena.shapes d.arena.classes k
   arena_kinded k nodes = subst (λ a. AreKinded a.shapes a.classes k) (sym arena) nodes
 
@@ -120,6 +128,9 @@ module _ (b c d : Loader) (x : Variable) (k : ℕ) (whole : IsLoader b) (none : 
                 (λ (t : (x ≡ q) × (n ≡ k)). ap (put h k (kind_of x)) t.1 ∙ new_kind b c s k (kind_of x) whole add parts h kinded.nodes fits ∙ ap kind_of t.0)
                 (λ (o : node_for b q ≡ Some n). old_kind b c s k (kind_of x) whole add parts h kinded.nodes fits n (whole.named q n o) ∙ kinded.named q n o)
                 (name_cases q n e);
+            made = λ key m e.
+                let o = made_first key m e in
+                old_kind b c s k (kind_of x) whole add parts h kinded.nodes fits m.node (whole.made key m o).below ∙ kinded.made key m o;
           },
           new_kind b c s k (kind_of x) whole add parts h kinded.nodes fits,
         );
@@ -136,6 +147,7 @@ module _ (b c d : Loader) (x : Variable) (k : ℕ) (whole : IsLoader b) (none : 
             (λ (h : (x ≡ q) × (n ≡ k)). subst (λ j. j < length d.arena.shapes) (sym h.1) below)
             (λ (h : node_for b q ≡ Some n). let l = whole.named q n h in omega (arith, longer))
             (name_cases q n e);
+        made = λ key m e. subst (λ a. IsMade a.shapes a.classes m) (sym arena) (added_made b c (shape_for x) k whole add parts key m (made_before key m e));
       };
       longer = omega (arith, longer);
       kept = kept_names;

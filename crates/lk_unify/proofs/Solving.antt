@@ -1,20 +1,24 @@
 -- What nodes say when variables get nodes, when one equation more is made into nodes, and when its sides are merged.
 use Rattle.std.proofs.Common.{◌≡◌, ℕ, refl, ◌<◌, List, [], ◌∷◌, ◌++◌, length, sym, subst, ◌∙◌, ap, arith, Option, Some, None}
+use Rattle.std.specs.BTreeMap.{get}
 use Rattle.std.specs.Map.{lookup}
+use Rattle.std.specs.Ordering.{nat_cmp}
 use Rattle.std.specs.Prelude.{IsSome}
 use Rattle.lk_types.specs.declared.ty.RowTail.TheVariants.{Closed}
 use Rattle.lk_types.specs.Variables.{same_variable}
 use Rattle.lk_types.specs.declared.equation.Equation.{Equation}
 use Rattle.lk_types.specs.declared.ty.Variable.{Variable}
 use Rattle.lk_arena.proofs.Ranks.{some_of}
+use Rattle.lk_unify.proofs.LoadSteps.{made_still as still}
 use Rattle.lk_arena.specs.Kinds.{Kind, OfTypes}
-use Rattle.lk_unify.specs.Loading.{node_for, kind_of, end_value, Agrees, IsLoader, IsKinded, Loads, LoadsEquation}
+use Rattle.lk_unify.specs.Loading.{node_for, kind_of, end_value, made_at, Agrees, IsLoader, IsKinded, IsMade, Loads, LoadsEquation}
 use Rattle.lk_arena.specs.Openings.{Opening, only_tail}
 use Rattle.lk_arena.specs.Shapes.{WeakNodes, NeverSame}
 use Rattle.lk_unify.specs.Solving.{AddsEquation, AreBound, IsStart, NeverMeets}
 use Rattle.lk_arena.specs.Steps.{Leads}
 use Rattle.lk_arena.specs.Values.{Value, OfRow}
 use Rattle.lk_unify.specs.declared.loader.Loader.{Loader}
+use Rattle.lk_unify.specs.declared.loader.MadeNode.{MadeNode}
 use Rattle.lk_arena.specs.declared.node.Pair.{Pair}
 
 -- ---- one equation more
@@ -25,7 +29,7 @@ module _ (b m : Loader) (e : Equation) (p : Pair) (loads : LoadsEquation b m e p
       let w = loads.forth v ρ fits agrees met in
       never w.0 w.2 w.4
 
-  module _ (c : Loader) (same : c.names ≡ m.names) (leads : Leads p.left p.right m.arena.shapes m.arena.classes c.arena.shapes c.arena.classes []) where
+  module _ (c : Loader) (same : c.names ≡ m.names) (made : c.made ≡ m.made) (leads : Leads p.left p.right m.arena.shapes m.arena.classes c.arena.shapes c.arena.classes []) where
     named : (x : Variable) (n : ℕ) → node_for c x ≡ Some n → node_for m x ≡ Some n
     named x n is = ap (λ names. lookup (same_variable x) names.entries) (sym same) ∙ is
 
@@ -37,9 +41,16 @@ module _ (b m : Loader) (e : Equation) (p : Pair) (loads : LoadsEquation b m e p
         let at_m = leads.back v (record { nodes = fits; equates = tt }) in
         (at_m.0, at_m.1, record { at = λ x n is. agrees.at x n (ap (λ names. lookup (same_variable x) names.entries) same ∙ is) })
 
+    made_before : (key : ℕ) (n : MadeNode) → made_at c key ≡ Some n → made_at m key ≡ Some n
+    made_before key n is = sym (ap (λ made. get nat_cmp made key) made) ∙ is
+
+    made_still : (key : ℕ) (n : MadeNode) → made_at c key ≡ Some n → IsMade c.arena.shapes c.arena.classes n
+    made_still key n is =
+        still m.arena.shapes m.arena.classes c.arena.shapes c.arena.classes n leads.longer (λ v fits. (leads.back v (record { nodes = fits; equates = tt })).0) (loads.whole.made key n (made_before key n is))
+
     pub adds_equation : AddsEquation b c e p.left
     adds_equation = record {
-      whole = record { arena = leads.arena; named = λ x n is. let under = below x n is in omega (arith, leads.longer) };
+      whole = record { arena = leads.arena; named = λ x n is. let under = below x n is in omega (arith, leads.longer); made = made_still };
       longer = omega (arith, loads.longer, leads.longer);
       below = omega (arith, loads.left_below, leads.longer);
       kept = λ x n is. ap (λ names. lookup (same_variable x) names.entries) same ∙ loads.kept x n is;
@@ -48,7 +59,11 @@ module _ (b m : Loader) (e : Equation) (p : Pair) (loads : LoadsEquation b m e p
           let merged = leads.kinds loaded.0 loaded.2.nodes (loaded.3.0 ∙ sym loaded.3.1) in (
             merged.0,
             λ i h. merged.1 i (omega (arith, loads.longer)) ∙ loaded.1 i h,
-            record { nodes = merged.2; named = λ x n is. merged.1 n (below x n is) ∙ loaded.2.named x n (named x n is) },
+            record {
+              nodes = merged.2;
+              named = λ x n is. merged.1 n (below x n is) ∙ loaded.2.named x n (named x n is);
+              made = λ key n is. let was = made_before key n is in merged.1 n.node (loads.whole.made key n was).below ∙ loaded.2.made key n was;
+            },
             merged.1 p.left loads.left_below ∙ loaded.3.0,
           );
       back = λ v ρ fits agrees.

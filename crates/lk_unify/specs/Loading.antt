@@ -1,8 +1,10 @@
 -- Types as nodes: a node for each variable, the same one wherever it stands again, one for each constructor, for each row with
 -- fields and for each end of a row without a variable. What nodes and values have to do with what types become (`Opening`).
+use Rattle.std.specs.BTreeMap.{get}
 use Rattle.std.specs.Map.{lookup}
 use Rattle.std.specs.Option.{option_map}
-use Rattle.std.specs.Prelude.{◌≡◌, ℕ, ◌<◌, ◌≤◌, List, ◌∷◌, [], ◌++◌, length, map, Option, Some, None}
+use Rattle.std.specs.Ordering.{nat_cmp}
+use Rattle.std.specs.Prelude.{◌≡◌, ◌≢◌, ℕ, ◌<◌, ◌≤◌, false, List, ◌∷◌, [], ◌++◌, length, map, Option, Some, None}
 use Rattle.lk_types.specs.Each.{Each}
 use Rattle.lk_types.specs.Grounding.{all_of}
 use Rattle.lk_types.specs.TypeText.{effect_word}
@@ -16,11 +18,14 @@ use Rattle.lk_types.specs.declared.ty.TyField.{TyField}
 use Rattle.lk_types.specs.declared.ty.TyRow.{TyRow}
 use Rattle.lk_types.specs.declared.ty.Variable.{Variable}
 use Rattle.lk_types.specs.declared.ty.Variable.TheVariants as variable
-use Rattle.lk_arena.specs.Kinds.{Kind, OfTypes, OfFields, OfEffects, OfUnit, OfNothing, AreKinded}
+use Rattle.lk_arena.specs.Kinds.{Kind, OfTypes, OfFields, OfEffects, OfUnit, OfNothing, AreKinded, HasKind}
 use Rattle.lk_arena.specs.Openings.{OpenRow, OpenEffects, Opening, IsOpenMet, opened, row_opened, effects_opened, only_tail, unit_type}
-use Rattle.lk_arena.specs.Shapes.{IsArena, IsDistinct, SameBelow, FitsNodes, WeakNodes}
+use Rattle.lk_arena.specs.Shapes.{fields_in, is_loose_shape, parts_of, AllBelow, HasFields, HasNode, IsArena, IsBuilt, IsDistinct, SameBelow, FitsNodes, WeakNodes}
 use Rattle.lk_arena.specs.Values.{Value, Plain, OfRow, effect_row}
 use Rattle.lk_unify.specs.declared.loader.Loader.{Loader}
+use Rattle.lk_unify.specs.declared.loader.MadeNode.{MadeNode}
+use Rattle.lk_unify.specs.declared.loader.NodeKind.{NodeKind}
+use Rattle.lk_unify.specs.declared.loader.NodeKind.TheVariants as node
 use Rattle.lk_arena.specs.declared.node.Field.{Field}
 use Rattle.lk_arena.specs.declared.node.Head.TheVariants as head
 use Rattle.lk_arena.specs.declared.node.Pair.{Pair}
@@ -71,9 +76,22 @@ shape_for (variable.Effects n) = Open
 pub record Agrees (l : Loader) (ρ : Opening) (v : ℕ → Value) : Type 0 where
   pub at : (x : Variable) (n : ℕ) → node_for l x ≡ Some n → v n ≡ value_of ρ x
 
+-- ---- nodes that are used again
+
+-- the one that was made with this number
+abbrev pub made_at : Loader → ℕ → Option MadeNode
+made_at l key = get nat_cmp l.made key
+
+-- something is known of it, and it has it still, whatever was merged since then
+pub record IsMade (shapes : List Shape) (classes : List ℕ) (made : MadeNode) : Type 0 where
+  pub below : made.node < length shapes
+  pub known : is_loose_shape made.shape ≡ false
+  pub built : (v : ℕ → Value) → WeakNodes shapes classes v → IsBuilt made.shape v (v made.node)
+
 pub record IsLoader (l : Loader) : Type 0 where
   pub arena : IsArena l.arena.shapes l.arena.classes
   pub named : (x : Variable) (n : ℕ) → node_for l x ≡ Some n → n < length l.arena.shapes
+  pub made : (key : ℕ) (made : MadeNode) → made_at l key ≡ Some made → IsMade l.arena.shapes l.arena.classes made
 
 -- ---- kinds of nodes
 
@@ -82,6 +100,13 @@ kind_of (variable.Plain n) = OfTypes
 kind_of (variable.Row n) = OfFields
 kind_of (variable.Effects n) = OfEffects
 
+abbrev pub kind_for : NodeKind → Kind
+kind_for node.Types = OfTypes
+kind_for node.Fields = OfFields
+kind_for node.Effects = OfEffects
+kind_for node.Unit = OfUnit
+kind_for node.Nothing = OfNothing
+
 -- the end of a row of this kind
 abbrev pub IsEndOf : Option Variable → Kind → Type 0
 IsEndOf (Some x) k = k ≡ kind_of x
@@ -89,10 +114,11 @@ IsEndOf None OfFields = Unit {0}
 IsEndOf None OfEffects = Unit {0}
 IsEndOf None k = ⊥
 
--- the nodes have these kinds, those of the variables the kinds of the variables
+-- the nodes have these kinds, those of the variables the kinds of the variables and those that were made the kinds they were made of
 pub record IsKinded (l : Loader) (kind : ℕ → Kind) : Type 0 where
   pub nodes : AreKinded l.arena.shapes l.arena.classes kind
   pub named : (x : Variable) (n : ℕ) → node_for l x ≡ Some n → kind n ≡ kind_of x
+  pub made : (key : ℕ) (made : MadeNode) → made_at l key ≡ Some made → kind made.node ≡ kind_for made.kind
 
 -- the value of a node of this kind
 abbrev pub IsOfKind : Kind → Value → Type 0
@@ -159,9 +185,9 @@ abbrev pub Loaded : Loader → Loader → Kind → (Opening → Option Value) �
 Loaded old new kind meaning None = NeverMeans meaning
 Loaded old new kind meaning (Some n) = Loads old new kind meaning n
 
--- a node for the end of a row, which may be an end of each kind where it isn't a variable
-abbrev pub LoadsEnd : Loader → Loader → Option Variable → ℕ → Type 0
-LoadsEnd old new tail n = (k : Kind) → IsEndOf tail k → Loads old new k (λ ρ. Some (end_value tail ρ)) n
+-- a node for the end of a row of this kind
+abbrev pub LoadsEnd : Loader → Loader → Kind → Option Variable → ℕ → Type 0
+LoadsEnd old new kind tail n = IsEndOf tail kind → Loads old new kind (λ ρ. Some (end_value tail ρ)) n
 
 abbrev pub LoadedAll : Loader → Loader → (Opening → Option (List Value)) → Option (List ℕ) → Type 0
 LoadedAll old new meaning None = NeverMeans meaning
@@ -178,16 +204,49 @@ pub record Adds (old new : Loader) (s : Shape) (n : ℕ) : Type 0 where
   pub shapes : new.arena.shapes ≡ old.arena.shapes ++ s ∷ []
   pub classes : new.arena.classes ≡ old.arena.classes ++ length old.arena.classes ∷ []
   pub names : new.names ≡ old.names
+  pub made : new.made ≡ old.made
+
+-- it was made for this
+abbrev pub IsFound : Loader → NodeKind → Shape → ℕ → Type 0
+IsFound l kind s n = (key : ℕ) × (made_at l key ≡ Some (record { kind = kind; shape = s; node = n }))
+
+-- a node can be made for this
+pub record CanMake (l : Loader) (s : Shape) : Type 0 where
+  pub whole : IsLoader l
+  pub parts : AllBelow (length l.arena.shapes) (parts_of s)
+  pub distinct : IsDistinct (fields_in s)
+  pub filled : HasFields s
+  pub known : is_loose_shape s ≡ false
+
+-- Of the node this is known, and it has this kind: an old one or a new one. What fits the new nodes fits the old ones, and whatever
+-- has this shape can be its value.
+pub record Makes (old new : Loader) (kind : Kind) (s : Shape) (n : ℕ) : Type 0 where
+  pub whole : IsLoader new
+  pub longer : length old.arena.shapes ≤ length new.arena.shapes
+  pub below : n < length new.arena.shapes
+  pub names : (x : Variable) → node_for new x ≡ node_for old x
+  pub back : (v : ℕ → Value) → WeakNodes new.arena.shapes new.arena.classes v → WeakNodes old.arena.shapes old.arena.classes v
+  pub built : (v : ℕ → Value) → WeakNodes new.arena.shapes new.arena.classes v → IsBuilt s v (v n)
+  pub forth : (v : ℕ → Value) (x : Value) → FitsNodes old.arena.shapes old.arena.classes v → IsBuilt s v x → HasNode old.arena.shapes new.arena.shapes new.arena.classes v n x
+  pub kinds : (k : ℕ → Kind) → IsKinded old k → HasKind k kind s → BringsKinds old new k (λ j. j n ≡ kind)
+
+-- fields before a row can be added
+pub record CanAddRow (l : Loader) (fields : List Field) (tail : ℕ) : Type 0 where
+  pub whole : IsLoader l
+  pub tail_below : tail < length l.arena.shapes
+  pub below : Each (λ f. f.node < length l.arena.shapes) fields
+  pub some : length fields ≢ 0
 
 -- fields before a row, if no label stands twice among them
-abbrev pub AddsRow : Loader → Loader → List Field → ℕ → Option ℕ → Type 0
-AddsRow old new fields tail None = IsDistinct fields → ⊥
-AddsRow old new fields tail (Some n) = IsDistinct fields × Adds old new (shape.Row fields tail) n
+abbrev pub AddsRow : Loader → Loader → Kind → List Field → ℕ → Option ℕ → Type 0
+AddsRow old new kind fields tail None = IsDistinct fields → ⊥
+AddsRow old new kind fields tail (Some n) = IsDistinct fields × Makes old new kind (shape.Row fields tail) n
 
 -- a function with these nodes for its result and its parameters, if no effect stands twice
 abbrev pub AddsFunction : Loader → Loader → Effects → ℕ → List ℕ → Option ℕ → Type 0
 AddsFunction old new es answer params None = NeverMeans (effects_meaning es)
-AddsFunction old new es answer params (Some n) = (between : Loader) × (effects : ℕ) × Loads old between OfEffects (effects_meaning es) effects × Adds between new (Made head.Fun (effects ∷ (answer ∷ params))) n
+AddsFunction old new es answer params (Some n) =
+    (between : Loader) × (effects : ℕ) × Loads old between OfEffects (effects_meaning es) effects × Makes between new OfTypes (Made head.Fun (effects ∷ (answer ∷ params))) n
 
 -- the effects as fields
 abbrev pub effect_fields : ℕ → List Effect → List Field

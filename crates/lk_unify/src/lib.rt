@@ -16,6 +16,7 @@ mod numbers;
 mod reading;
 mod row_fields;
 mod row_places;
+mod shared;
 mod side_sizes;
 mod small;
 mod solvable;

@@ -1,11 +1,15 @@
 //! Types as nodes.
 
-ghost use Rattle.std.specs.Prelude.{◌≡◌, ◌∷◌, [], IfOk, Some};
+ghost use Rattle.std.specs.Prelude.{◌≡◌, ◌<◌, ◌∷◌, [], length, IfOk, Some};
 ghost use Rattle.lk_types.specs.TypeText.{effect_word};
-ghost use Rattle.lk_arena.specs.Kinds.{OfTypes, OfFields, OfEffects};
-ghost use Rattle.lk_unify.specs.Loading.{type_meaning, types_meaning, row_meaning, effects_meaning, end_value, shape_for, kind_of, IsLoader, Adds, AddsRow, AddsFunction, Loads, LoadsEnd, Loaded, LoadedAll, LoadedFields, LoadedEquation, effect_fields, node_for};
+ghost use Rattle.lk_arena.specs.Kinds.{OfTypes, OfFields, OfEffects, OfUnit};
+ghost use Rattle.lk_arena.specs.Openings.{unit_type};
+ghost use Rattle.lk_arena.specs.Shapes.{AllBelow};
+ghost use Rattle.lk_arena.specs.Values.{Plain};
+ghost use Rattle.lk_unify.specs.Loading.{type_meaning, types_meaning, row_meaning, effects_meaning, end_value, shape_for, kind_for, kind_of, CanAddRow, IsLoader, Makes, AddsRow, AddsFunction, Loads, LoadsEnd, Loaded, LoadedAll, LoadedFields, LoadedEquation, effect_fields, node_for};
 
-use crate::loader::Loader;
+use crate::loader::{Loader, NodeKind};
+use crate::shared::{add_node, make_node};
 use lk_arena::{Field, Head, Pair, Shape, are_distinct};
 use lk_ast::{List, NoMemory, Text};
 use lk_types::{Effect, Effects, Equation, Ty, TyField, TyRow, Variable, effect_word};
@@ -22,24 +26,20 @@ fn shape_for(variable: Variable) -> Shape
     }
 }
 
-/// Adds a node.
-fn add_node(loader: &mut Loader, shape: Shape) -> Result<usize, NoMemory>
-    ensures { IfOk result (λ n. Adds loader.old loader.new shape n) }
-{
-    loader.arena.push(shape)
-}
-
-/// Adds fields before a row, if no label stands twice among them.
+/// A node for fields before a row, if no label stands twice among them.
 fn add_row(
     alloc: Global,
     loader: &mut Loader,
+    kind: NodeKind,
     fields: List<Field>,
     tail: usize,
 ) -> Result<Option<usize>, NoMemory>
-    ensures { IfOk result (λ answer. AddsRow loader.old loader.new fields tail answer) }
+    requires { CanAddRow loader.old fields tail }
+    ensures { IfOk result (λ answer. AddsRow loader.old loader.new (kind_for kind) fields tail answer) }
 {
     if are_distinct(alloc, fields.as_slice())? {
-        return Ok(Some(add_node(loader, Shape::Row(fields, tail))?));
+        let node = make_node(alloc, loader, kind, Shape::Row(fields, tail))?;
+        return Ok(Some(node));
     }
     Ok(None)
 }
@@ -60,13 +60,18 @@ pub fn load_variable(loader: &mut Loader, variable: Variable) -> Result<usize, N
     }
 }
 
-/// A node for the end of a row.
-fn load_end(loader: &mut Loader, tail: Option<Variable>) -> Result<usize, NoMemory>
+/// A node for the end of a row of this kind.
+fn load_end(
+    alloc: Global,
+    loader: &mut Loader,
+    kind: NodeKind,
+    tail: Option<Variable>,
+) -> Result<usize, NoMemory>
     requires { IsLoader loader.old }
-    ensures { IfOk result (λ n. LoadsEnd loader.old loader.new tail n) }
+    ensures { IfOk result (λ n. LoadsEnd loader.old loader.new (kind_for kind) tail n) }
 {
     match tail {
-        None => Ok(add_node(loader, Shape::Empty)?),
+        None => Ok(make_node(alloc, loader, kind, Shape::Empty)?),
         Some(variable) => Ok(load_variable(loader, variable)?),
     }
 }
@@ -119,6 +124,22 @@ fn function_parts(
     Ok(parts)
 }
 
+/// A node for the type `()` that an effect stands with.
+fn load_unit(alloc: Global, loader: &mut Loader) -> Result<usize, NoMemory>
+    requires { IsLoader loader.old }
+    ensures { IfOk result (λ n. Loads loader.old loader.new OfUnit (λ ρ. Some (Plain unit_type)) n) }
+{
+    let nothing = make_node(alloc, loader, NodeKind::Nothing, Shape::Empty)?;
+    let parts = one(alloc, nothing)?;
+    let unit = make_node(
+        alloc,
+        loader,
+        NodeKind::Unit,
+        Shape::Made(Head::Fields, parts),
+    )?;
+    Ok(unit)
+}
+
 /// A node for what a function may do.
 fn load_effects(
     alloc: Global,
@@ -128,28 +149,34 @@ fn load_effects(
     requires { IsLoader loader.old }
     ensures { IfOk result (λ answer. Loaded loader.old loader.new OfEffects (effects_meaning effects.now) answer) }
 {
-    let tail = load_end(loader, effects.tail.of_effects())?;
+    let tail = load_end(alloc, loader, NodeKind::Effects, effects.tail.of_effects())?;
     if effects.labels.is_empty() {
         return Ok(Some(tail));
     }
-    let nothing = add_node(loader, Shape::Empty)?;
-    let unit = add_node(loader, Shape::Made(Head::Fields, one(alloc, nothing)?))?;
+    let unit = load_unit(alloc, loader)?;
     let fields = effect_fields(alloc, effects.labels.as_slice(), unit)?;
-    Ok(add_row(alloc, loader, fields, tail)?)
+    Ok(add_row(alloc, loader, NodeKind::Effects, fields, tail)?)
 }
 
 /// A node for a constructor without parts.
 fn load_base(alloc: Global, loader: &mut Loader, head: Head) -> Result<usize, NoMemory>
-    ensures { IfOk result (λ n. Adds loader.old loader.new (Shape.Made head []) n) }
+    requires { IsLoader loader.old }
+    ensures { IfOk result (λ n. Makes loader.old loader.new OfTypes (Shape.Made head []) n) }
 {
-    add_node(loader, Shape::Made(head, List::new(alloc)))
+    let parts = List::new(alloc);
+    let node = make_node(alloc, loader, NodeKind::Types, Shape::Made(head, parts))?;
+    Ok(node)
 }
 
 /// A node for a constructor with one part.
 fn load_one(alloc: Global, loader: &mut Loader, head: Head, part: usize) -> Result<usize, NoMemory>
-    ensures { IfOk result (λ n. Adds loader.old loader.new (Shape.Made head (part ∷ [])) n) }
+    requires whole { IsLoader loader.old }
+    requires part { part < length loader.old.arena.shapes }
+    ensures { IfOk result (λ n. Makes loader.old loader.new OfTypes (Shape.Made head (part ∷ [])) n) }
 {
-    add_node(loader, Shape::Made(head, one(alloc, part)?))
+    let parts = one(alloc, part)?;
+    let node = make_node(alloc, loader, NodeKind::Types, Shape::Made(head, parts))?;
+    Ok(node)
 }
 
 /// A node for a function with this result and these parameters.
@@ -160,14 +187,22 @@ fn load_function(
     answer: usize,
     params: &[usize],
 ) -> Result<Option<usize>, NoMemory>
-    requires { IsLoader loader.old }
+    requires whole { IsLoader loader.old }
+    requires answer { answer < length loader.old.arena.shapes }
+    requires params { AllBelow (length loader.old.arena.shapes) params.now }
     ensures { IfOk result (λ found. AddsFunction loader.old loader.new effects.now answer params.now found) }
 {
     let Some(first) = load_effects(alloc, loader, effects)? else {
         return Ok(None);
     };
     let parts = function_parts(alloc, first, answer, params)?;
-    Ok(Some(add_node(loader, Shape::Made(Head::Fun, parts))?))
+    let node = make_node(
+        alloc,
+        loader,
+        NodeKind::Types,
+        Shape::Made(Head::Fun, parts),
+    )?;
+    Ok(Some(node))
 }
 
 /// Makes nodes for a type. The answer is its node, or none where a row in it has a label twice.
@@ -257,11 +292,11 @@ fn load_row(alloc: Global, loader: &mut Loader, row: &TyRow) -> Result<Option<us
     let Some(fields) = load_fields(alloc, loader, row.fields.as_slice())? else {
         return Ok(None);
     };
-    let tail = load_end(loader, row.tail.of_row())?;
+    let tail = load_end(alloc, loader, NodeKind::Fields, row.tail.of_row())?;
     if fields.is_empty() {
         return Ok(Some(tail));
     }
-    Ok(add_row(alloc, loader, fields, tail)?)
+    Ok(add_row(alloc, loader, NodeKind::Fields, fields, tail)?)
 }
 
 #[cycle(loading)]

@@ -1,15 +1,37 @@
-//! Nodes, and which of them stand for variables.
+//! Nodes, which of them stand for variables, and which are used again where the same is to be made.
 
-use lk_arena::Arena;
+use lk_arena::{Arena, Shape};
+use lk_ast::List;
 use lk_types::Variable;
 use std::alloc::Global;
 use std::collections::BTreeMap;
 
-/// Nodes, and which of them stands for which variable.
+/// What a node stands for: a type, a row of fields or of effects, the type `()` that an effect stands with, or the row of that type.
+#[derive(Clone, Copy, PartialEq, Eq)]
+pub enum NodeKind {
+    Types,
+    Fields,
+    Effects,
+    Unit,
+    Nothing,
+}
+
+/// A node, with what it was made for.
+#[derive(Drop)]
+pub struct MadeNode {
+    pub kind: NodeKind,
+    pub shape: Shape,
+    pub node: usize,
+}
+
+/// Nodes, which of them stands for which variable, and nodes that are used again, by a number of what they were made for. Where two
+/// have one number the later one is kept. Which of the nodes were kept is noted at their numbers.
 #[derive(Drop)]
 pub struct Loader {
     pub arena: Arena,
     pub names: BTreeMap<Variable, usize>,
+    pub made: BTreeMap<u64, MadeNode>,
+    pub kept: List<bool>,
 }
 
 impl Loader {
@@ -29,6 +51,8 @@ impl Loader {
         Loader {
             arena: Arena::new(alloc),
             names: BTreeMap::new(alloc),
+            made: BTreeMap::new(alloc),
+            kept: List::new(alloc),
         }
     }
 

@@ -1,5 +1,6 @@
-use Rattle.std.proofs.Common.{◌≡◌, ◌+◌, take, true, false, refl, sym, subst}
+use Rattle.std.proofs.Common.{◌≡◌, ◌+◌, ◌<◌, take, true, false, length, refl, sym, subst, arith}
 use Rattle.std.proofs.lemmas.List.{take_all}
+use Rattle.lk_types.proofs.Members.{each_weaker}
 use Rattle.lk_types.specs.declared.ty.TyRow.{out-TyRow}
 use Rattle.lk_unify.proofs.LoadLists.{loads_no_types, loads_types_more, never_types, loads_no_fields, loads_fields_more, never_fields}
 use Rattle.lk_unify.proofs.LoadRows.{row_end_as, loads_row_end, loaded_row, never_row_fields, some_fields}
@@ -93,12 +94,24 @@ load_row-returns-then-is_empty t c =
     (c.if-is_empty.ensures.0 refl)
     (row_end_as c.load_fields.new.loader c.load_end.new.loader c.in_ok-tail.tail c.of_row.result (out-TyRow c.args.row.now).tail c.of_row.ensures c.in_ok-tail.ensures)
 
+pub load_row-add_row-requires : goal.load_row-add_row-requires
+load_row-add_row-requires t c =
+    let fields = fields_some c.args.loader.now c.load_fields.new.loader _ c.as_slice.result.now c.in_ok-fields.field-0 c.in-Some.fields c.as_slice.ensures c.in-Some.is c.in_ok-fields.ensures in
+    let tail = row_end_as c.load_fields.new.loader c.load_end.new.loader c.in_ok-tail.tail c.of_row.result (out-TyRow c.args.row.now).tail c.of_row.ensures c.in_ok-tail.ensures in
+    record {
+      whole = tail.to.whole;
+      tail_below = tail.below;
+      below =
+          each_weaker (λ f. f.node < length c.load_fields.new.loader.arena.shapes) (λ f. f.node < length c.load_end.new.loader.arena.shapes) (λ f below. (let longer = tail.to.longer in omega arith))
+          c.in-Some.fields fields.below;
+      some = some_fields c.in-Some.fields (λ e. (let h : false ≡ true = c.if-is_empty.ensures.1 e in cc));
+    }
+
 pub load_row-returns : goal.load_row-returns
 load_row-returns t c =
     loaded_row c.args.row.now c.args.loader.now c.load_fields.new.loader c.load_end.new.loader c.add_row.new.loader c.in-Some.fields c.in_ok-tail.tail c.in_ok-add_row.field-0
     (fields_some c.args.loader.now c.load_fields.new.loader _ c.as_slice.result.now c.in_ok-fields.field-0 c.in-Some.fields c.as_slice.ensures c.in-Some.is c.in_ok-fields.ensures)
     (row_end_as c.load_fields.new.loader c.load_end.new.loader c.in_ok-tail.tail c.of_row.result (out-TyRow c.args.row.now).tail c.of_row.ensures c.in_ok-tail.ensures)
-    (some_fields c.in-Some.fields (λ e. (let h : false ≡ true = c.if-is_empty.ensures.1 e in cc)))
     c.in_ok-add_row.ensures
 
 pub load_type-returns-in_default : goal.load_type-returns-in_default

@@ -1,9 +1,25 @@
-use Rattle.std.proofs.Common.{◌≡◌, true, false, refl, ◌∙◌, ap, subst}
-use Rattle.lk_unify.proofs.LoadRows.{effects_end_as, loads_effects_end, loaded_effects, some_effects}
+use Rattle.std.proofs.Common.{◌≡◌, ◌<◌, true, false, length, refl, sym, ◌∙◌, ap, subst, arith}
+use Rattle.lk_types.specs.Each.{Each}
+use Rattle.lk_unify.proofs.LoadRows.{effects_below, effects_end_as, loads_effects_end, loaded_effects, some_effects}
 use Rattle.lk_unify.proofs.load.load_effects.Goals as goal
-use Rattle.lk_unify.specs.Loading.{Adds, effect_fields}
-use Rattle.lk_arena.specs.declared.node.Head.TheVariants as head
-use Rattle.lk_arena.specs.declared.node.Shape.TheVariants.{Made}
+use Rattle.lk_unify.specs.Loading.{effect_fields}
+
+pub load_unit-requires : goal.load_unit-requires
+load_unit-requires c =
+    (effects_end_as c.args.loader.now c.load_end.new.loader c.in_ok-tail.tail c.of_effects.result c.args.effects.now.tail c.of_effects.ensures c.in_ok-tail.ensures).to.whole
+
+pub add_row-requires : goal.add_row-requires
+add_row-requires c =
+    let tail = effects_end_as c.args.loader.now c.load_end.new.loader c.in_ok-tail.tail c.of_effects.result c.args.effects.now.tail c.of_effects.ensures c.in_ok-tail.ensures in
+    let fields = c.in_ok-fields.ensures ∙ ap (effect_fields c.in_ok-unit.unit) c.as_slice.ensures in
+    record {
+      whole = c.in_ok-unit.ensures.to.whole;
+      tail_below = (let below = tail.below in let longer = c.in_ok-unit.ensures.to.longer in omega arith);
+      below =
+          subst (Each (λ f. f.node < length c.load_unit.new.loader.arena.shapes)) (sym fields)
+          (effects_below (length c.load_unit.new.loader.arena.shapes) c.in_ok-unit.unit c.args.effects.now.labels c.in_ok-unit.ensures.below);
+      some = some_effects c.in_ok-unit.unit c.args.effects.now.labels c.in_ok-fields.fields fields (λ e. (let h : false ≡ true = c.if-is_empty.ensures.1 e in cc));
+    }
 
 pub returns-then-is_empty : goal.returns-then-is_empty
 returns-then-is_empty c =
@@ -12,12 +28,9 @@ returns-then-is_empty c =
 
 pub returns : goal.returns
 returns c =
-    loaded_effects c.args.effects.now c.args.loader.now c.load_end.new.loader c.add_node.new.loader c.add_node-2.new.loader c.add_row.new.loader c.in_ok-tail.tail c.in_ok-nothing.nothing
-    c.in_ok-unit.unit c.in_ok-fields.fields c.in_ok-add_row.field-0
+    loaded_effects c.args.effects.now c.args.loader.now c.load_end.new.loader c.load_unit.new.loader c.add_row.new.loader c.in_ok-tail.tail c.in_ok-unit.unit c.in_ok-fields.fields
+    c.in_ok-add_row.field-0
     (effects_end_as c.args.loader.now c.load_end.new.loader c.in_ok-tail.tail c.of_effects.result c.args.effects.now.tail c.of_effects.ensures c.in_ok-tail.ensures)
-    c.in_ok-nothing.ensures
-    (subst (λ ps. Adds c.add_node.new.loader c.add_node-2.new.loader (Made head.Fields ps) c.in_ok-unit.unit) c.in_ok-one.ensures c.in_ok-unit.ensures)
+    c.in_ok-unit.ensures
     (c.in_ok-fields.ensures ∙ ap (effect_fields c.in_ok-unit.unit) c.as_slice.ensures)
-    (some_effects c.in_ok-unit.unit c.args.effects.now.labels c.in_ok-fields.fields (c.in_ok-fields.ensures ∙ ap (effect_fields c.in_ok-unit.unit) c.as_slice.ensures)
-    (λ e. (let h : false ≡ true = c.if-is_empty.ensures.1 e in cc)))
     c.in_ok-add_row.ensures

@@ -1,0 +1,271 @@
+//! Nodes that are used again where the same is to be made: those without variables, since types with variables seldom come twice.
+//! Which these are and under which number one is looked for is no part of any contract: what is found is compared.
+
+ghost use Rattle.std.specs.Prelude.{◌≡◌, IfOk, IfSome, IsTrue};
+ghost use Rattle.lk_unify.specs.Loading.{kind_for, Adds, CanMake, IsFound, Makes};
+
+use crate::loader::{Loader, MadeNode, NodeKind};
+use lk_arena::{Field, Head, Shape};
+use lk_ast::{List, NoMemory};
+use std::alloc::Global;
+
+/// Adds a node.
+pub fn add_node(loader: &mut Loader, shape: Shape) -> Result<usize, NoMemory>
+    ensures { IfOk result (λ n. Adds loader.old loader.new shape n) }
+{
+    loader.arena.push(shape)
+}
+
+/// One number more is mixed in.
+fn mixed(number: u64, more: u64) -> u64 {
+    (number ^ more).wrapping_mul(0x0000_0100_0000_01b3)
+}
+
+/// A number for a constructor.
+fn number_of_head(head: Head) -> u64 {
+    match head {
+        Head::Int => 0,
+        Head::Bool => 1,
+        Head::Text => 2,
+        Head::List => 3,
+        Head::Fields => 4,
+        Head::Tags => 5,
+        Head::Fun => 6,
+    }
+}
+
+/// A number for a kind.
+fn number_of_kind(kind: NodeKind) -> u64 {
+    match kind {
+        NodeKind::Types => 0,
+        NodeKind::Fields => 1,
+        NodeKind::Effects => 2,
+        NodeKind::Unit => 3,
+        NodeKind::Nothing => 4,
+    }
+}
+
+/// Fields are mixed in.
+fn with_fields(number: u64, fields: &[Field]) -> u64 {
+    let mut all = number;
+    for field in fields {
+        for byte in field.label.as_str().as_bytes() {
+            all = mixed(all, u64::from(*byte));
+        }
+        all = mixed(all, field.node as u64);
+    }
+    all
+}
+
+/// Parts are mixed in.
+fn with_parts(number: u64, parts: &[usize]) -> u64 {
+    let mut all = number;
+    for part in parts {
+        all = mixed(all, *part as u64);
+    }
+    all
+}
+
+/// The number under which a node of this kind and shape is looked for.
+fn key_of(kind: NodeKind, shape: &Shape) -> u64 {
+    let start = mixed(0xcbf2_9ce4_8422_2325, number_of_kind(kind));
+    match shape {
+        Shape::Made(head, parts) => {
+            with_parts(mixed(start, number_of_head(*head)), parts.as_slice())
+        }
+        Shape::Row(fields, tail) => { with_fields(mixed(start, *tail as u64), fields.as_slice()) }
+        _ => start,
+    }
+}
+
+/// Whether the parts are the same.
+fn same_parts(left: &[usize], right: &[usize]) -> bool
+    ensures { IsTrue result → left.now ≡ right.now }
+{
+    left == right
+}
+
+/// Whether the fields are the same.
+fn same_fields(left: &[Field], right: &[Field]) -> bool
+    ensures { IsTrue result → left.now ≡ right.now }
+{
+    if left.len() != right.len() {
+        return false;
+    }
+    for i in 0..left.len() {
+        if left[i].node != right[i].node {
+            return false;
+        }
+        if !left[i].label.equals(&right[i].label) {
+            return false;
+        }
+    }
+    true
+}
+
+/// Whether the shapes are the same, and something is known by them.
+fn same_shape(left: &Shape, right: &Shape) -> bool
+    ensures { IsTrue result → left.now ≡ right.now }
+{
+    match left {
+        Shape::Empty => match right {
+            Shape::Empty => true,
+            _ => false,
+        },
+        Shape::Made(head, parts) => match right {
+            Shape::Made(other, others) => {
+                *head == *other && same_parts(parts.as_slice(), others.as_slice())
+            }
+            _ => false,
+        },
+        Shape::Row(fields, tail) => match right {
+            Shape::Row(others, other) => {
+                *tail == *other && same_fields(fields.as_slice(), others.as_slice())
+            }
+            _ => false,
+        },
+        _ => false,
+    }
+}
+
+/// The same parts.
+fn copy_parts(alloc: Global, parts: &[usize]) -> Result<List<usize>, NoMemory>
+    ensures { IfOk result (λ copy. copy ≡ parts.now) }
+{
+    let mut copy = List::new(alloc);
+    for part in parts {
+        copy.push(*part)?;
+    }
+    Ok(copy)
+}
+
+/// The same fields.
+fn copy_fields(alloc: Global, fields: &[Field]) -> Result<List<Field>, NoMemory>
+    ensures { IfOk result (λ copy. copy ≡ fields.now) }
+{
+    let mut copy = List::new(alloc);
+    for field in fields {
+        copy.push(Field {
+            label: field.label.copy(alloc)?,
+            node: field.node,
+        })?;
+    }
+    Ok(copy)
+}
+
+/// The same shape.
+fn copy_shape(alloc: Global, shape: &Shape) -> Result<Shape, NoMemory>
+    ensures { IfOk result (λ copy. copy ≡ shape.now) }
+{
+    match shape {
+        Shape::Free => Ok(Shape::Free),
+        Shape::Open => Ok(Shape::Open),
+        Shape::Empty => Ok(Shape::Empty),
+        Shape::Made(head, parts) => Ok(Shape::Made(*head, copy_parts(alloc, parts.as_slice())?)),
+        Shape::Row(fields, tail) => Ok(Shape::Row(copy_fields(alloc, fields.as_slice())?, *tail)),
+    }
+}
+
+/// A node that was made for this, if one is there under this number.
+fn find_node(loader: &Loader, key: u64, kind: NodeKind, shape: &Shape) -> Option<usize>
+    ensures { IfSome result (λ n. IsFound loader.now kind shape.now n) }
+{
+    let Some(made) = loader.made.get(&key) else {
+        return None;
+    };
+    if made.kind == kind && same_shape(&made.shape, shape) {
+        return Some(made.node);
+    }
+    None
+}
+
+/// Whether the node was kept.
+fn is_kept(loader: &Loader, node: usize) -> bool {
+    match loader.kept.get(node) {
+        Some(kept) => *kept,
+        None => false,
+    }
+}
+
+/// Whether all parts were kept.
+fn are_kept(loader: &Loader, parts: &[usize]) -> bool {
+    for part in parts {
+        if !is_kept(loader, *part) {
+            return false;
+        }
+    }
+    true
+}
+
+/// Whether the nodes of all fields were kept.
+fn fields_kept(loader: &Loader, fields: &[Field]) -> bool {
+    for field in fields {
+        if !is_kept(loader, field.node) {
+            return false;
+        }
+    }
+    true
+}
+
+/// Whether a node of this shape is to be kept: no variable stands in it.
+fn is_closed(loader: &Loader, shape: &Shape) -> bool {
+    match shape {
+        Shape::Empty => true,
+        Shape::Made(_, parts) => are_kept(loader, parts.as_slice()),
+        Shape::Row(fields, tail) => {
+            is_kept(loader, *tail) && fields_kept(loader, fields.as_slice())
+        }
+        _ => false,
+    }
+}
+
+/// Notes that a node was kept.
+fn note_kept(kept: &mut List<bool>, node: usize) -> Result<(), NoMemory> {
+    for _ in kept.len()..node {
+        kept.push(false)?;
+    }
+    kept.push(true)
+}
+
+/// Adds a node and keeps it under this number.
+fn keep_node(
+    alloc: Global,
+    loader: &mut Loader,
+    key: u64,
+    kind: NodeKind,
+    shape: Shape,
+) -> Result<usize, NoMemory>
+    requires { CanMake loader.old shape }
+    ensures { IfOk result (λ n. Makes loader.old loader.new (kind_for kind) shape n) }
+{
+    let copy = copy_shape(alloc, &shape)?;
+    let node = add_node(loader, shape)?;
+    note_kept(&mut loader.kept, node)?;
+    let made = MadeNode {
+        kind,
+        shape: copy,
+        node,
+    };
+    drop(loader.made.insert(key, made)?);
+    Ok(node)
+}
+
+/// A node for this: one that was made for it, or a new one.
+pub fn make_node(
+    alloc: Global,
+    loader: &mut Loader,
+    kind: NodeKind,
+    shape: Shape,
+) -> Result<usize, NoMemory>
+    requires { CanMake loader.old shape }
+    ensures { IfOk result (λ n. Makes loader.old loader.new (kind_for kind) shape n) }
+{
+    if !is_closed(loader, &shape) {
+        return Ok(add_node(loader, shape)?);
+    }
+    let key = key_of(kind, &shape);
+    if let Some(node) = find_node(loader, key, kind, &shape) {
+        return Ok(node);
+    }
+    keep_node(alloc, loader, key, kind, shape)
+}
