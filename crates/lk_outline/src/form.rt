@@ -135,7 +135,7 @@ fn some_case<'p>(
 {
     match last {
         None => Ok(()),
-        Some(last) => Ok(under(alloc, round, scope, sites, binder, &last.name, &last.body)?),
+        Some(last) => under(alloc, round, scope, sites, binder, &last.name, &last.body),
     }
 }
 
@@ -158,7 +158,7 @@ pub fn switch<'p>(
     let binder = sites.len();
     expr(alloc, round, scope, sites, e)?;
     cases(alloc, round, scope, sites, binder, list)?;
-    Ok(some_case(alloc, round, scope, sites, binder, last)?)
+    some_case(alloc, round, scope, sites, binder, last)
 }
 
 /// A query.

@@ -102,7 +102,7 @@ pub fn note<'p>(
     ensures { OnOk result (shown sites.new ≡ noted span (shown_kind kind.entry) round (shown sites.old)) }
 {
     let number = sites.len();
-    Ok(sites.push(site(round, number, span, kind))?)
+    sites.push(site(round, number, span, kind))
 }
 
 /// Puts a node at this number, if there is one.

@@ -76,17 +76,17 @@ fn node<'p>(
 {
     match node {
         Node::Int(_) | Node::Text(_) | Node::Bool(_) | Node::Table(_) => {
-            Ok(note(round, sites, span, Kind::Other)?)
+            note(round, sites, span, Kind::Other)
         }
         Node::Name(name) => {
             let kind = Kind::Name(binder_of(scope, name));
-            Ok(note(round, sites, span, kind)?)
+            note(round, sites, span, kind)
         }
         Node::Function(name) => {
             let kind = Kind::Function(name);
-            Ok(note(round, sites, span, kind)?)
+            note(round, sites, span, kind)
         }
-        Node::Lambda(e) => Ok(lambda(alloc, round, scope, sites, span, e)?),
+        Node::Lambda(e) => lambda(alloc, round, scope, sites, span, e),
         Node::Call(name, args) => {
             let args = args.as_slice();
             call(alloc, round, scope, sites, span, &name.text, args)
@@ -117,7 +117,7 @@ fn node<'p>(
         | Node::Print(e)
         | Node::Project(e, _)
         | Node::Tag(_, e)
-        | Node::Insert(_, e) => Ok(one(alloc, round, scope, sites, span, e)?),
+        | Node::Insert(_, e) => one(alloc, round, scope, sites, span, e),
         Node::If(c, d, e) => three(alloc, round, scope, sites, span, c, d, e),
         Node::Record(fields) => {
             let fields = fields.as_slice();
@@ -138,9 +138,9 @@ fn node<'p>(
         Node::Var(x, e, body) | Node::ForList(x, e, body) | Node::ForTable(x, e, body) => {
             variable(alloc, round, scope, sites, span, x, e, body)
         }
-        Node::Query(_, e) => Ok(query(alloc, round, scope, sites, span, e)?),
+        Node::Query(_, e) => query(alloc, round, scope, sites, span, e),
         Node::Update(rows) | Node::Delete(rows) => {
-            Ok(change(alloc, round, scope, sites, span, rows)?)
+            change(alloc, round, scope, sites, span, rows)
         }
     }
 }
@@ -179,7 +179,7 @@ fn two<'p>(
 {
     note(round, sites, span, Kind::Other)?;
     expr(alloc, round, scope, sites, a)?;
-    Ok(expr(alloc, round, scope, sites, b)?)
+    expr(alloc, round, scope, sites, b)
 }
 
 /// A comparison by `==` or `<>`.
@@ -199,7 +199,7 @@ fn equal<'p>(
     let operand = behind_next(sites)?;
     note(round, sites, span, Kind::Equality(operand))?;
     expr(alloc, round, scope, sites, a)?;
-    Ok(expr(alloc, round, scope, sites, b)?)
+    expr(alloc, round, scope, sites, b)
 }
 
 /// A comparison by an order.
@@ -219,7 +219,7 @@ fn ordered<'p>(
     let operand = behind_next(sites)?;
     note(round, sites, span, Kind::Order(operand))?;
     expr(alloc, round, scope, sites, a)?;
-    Ok(expr(alloc, round, scope, sites, b)?)
+    expr(alloc, round, scope, sites, b)
 }
 
 /// A node with three parts.
@@ -240,7 +240,7 @@ fn three<'p>(
     note(round, sites, span, Kind::Other)?;
     expr(alloc, round, scope, sites, c)?;
     expr(alloc, round, scope, sites, d)?;
-    Ok(expr(alloc, round, scope, sites, e)?)
+    expr(alloc, round, scope, sites, e)
 }
 
 /// Expressions.
@@ -295,7 +295,7 @@ fn apply<'p>(
 {
     note(round, sites, span, Kind::Other)?;
     expr(alloc, round, scope, sites, f)?;
-    Ok(exprs(alloc, round, scope, sites, args)?)
+    exprs(alloc, round, scope, sites, args)
 }
 
 /// `l = e` in a record.
@@ -366,7 +366,7 @@ fn extend<'p>(
 {
     note(round, sites, span, Kind::Other)?;
     parts(alloc, round, scope, sites, fields)?;
-    Ok(expr(alloc, round, scope, sites, e)?)
+    expr(alloc, round, scope, sites, e)
 }
 
 /// An expression under one more name.
@@ -407,5 +407,5 @@ fn variable<'p>(
     note(round, sites, span, Kind::Other)?;
     let binder = sites.len();
     expr(alloc, round, scope, sites, e)?;
-    Ok(under(alloc, round, scope, sites, binder, x, body)?)
+    under(alloc, round, scope, sites, binder, x, body)
 }

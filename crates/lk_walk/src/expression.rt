@@ -47,7 +47,7 @@ pub fn expr<'p>(
     let slot = walker.enter()?;
     let own = node(alloc, context, walker, rest)?;
     let number = walker.leave(alloc, rest.span, slot, own)?;
-    Ok(end_all(alloc, walker, blocks, number)?)
+    end_all(alloc, walker, blocks, number)
 }
 
 /// Walks through what an expression is.
@@ -115,7 +115,7 @@ fn switch<'p>(
     let tail = last_case(alloc, context, walker, last, &mut types)?;
     let bodies = one_type(alloc, types.as_slice(), walker.next)?;
     let variant = variant_of(tags, tail);
-    Ok(switch_own(alloc, context.effects, value, variant, bodies)?)
+    switch_own(alloc, context.effects, value, variant, bodies)
 }
 
 /// Walks through `for (x <- e) d`.
@@ -135,7 +135,7 @@ fn for_list<'p>(
     let list = expr(alloc, context, walker, list)?;
     let body = under(alloc, context, walker, body, name, Ty::Var(element))?;
     let elements = one(alloc, elements_are(alloc, list, element)?)?;
-    Ok(for_own(alloc, elements, body, walker.next)?)
+    for_own(alloc, elements, body, walker.next)
 }
 
 /// Walks through `for (x <-- t) d`.
@@ -156,7 +156,7 @@ fn for_table<'p>(
     let elements = one(alloc, elements_are(alloc, table, element)?)?;
     walker.say(at, elements)?;
     let body = under(alloc, context, walker, body, name, Ty::Var(element))?;
-    Ok(for_own(alloc, List::new(alloc), body, walker.next)?)
+    for_own(alloc, List::new(alloc), body, walker.next)
 }
 
 /// Walks through an expression under one more name of that type.
@@ -205,7 +205,7 @@ fn lambda<'p>(
     };
     let body = expr(alloc, &inner, walker, &e.body)?;
     walker.unbind(e.params.len());
-    Ok(lambda_own(alloc, context.effects, params, effects, body, walker.next)?)
+    lambda_own(alloc, context.effects, params, effects, body, walker.next)
 }
 
 /// Walks through a query of this, with keys.
@@ -226,7 +226,7 @@ fn query<'p>(
         effects: &effects,
     };
     let body = expr(alloc, &inner, walker, body)?;
-    Ok(query_own(alloc, context.effects, keys, body, walker.next)?)
+    query_own(alloc, context.effects, keys, body, walker.next)
 }
 
 /// Walks through a case, and notes its tag and the type of its body.
@@ -441,7 +441,7 @@ fn parts<'p>(
         Node::Record(fields) => fields_in(alloc, context, walker, fields.as_slice(), types),
         Node::Extend(fields, e) => {
             fields_in(alloc, context, walker, fields.as_slice(), types)?;
-            Ok(part(alloc, context, walker, e, types)?)
+            part(alloc, context, walker, e, types)
         }
     }
 }

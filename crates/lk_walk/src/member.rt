@@ -64,7 +64,7 @@ fn behind(f: &FunDef, first: u32) -> Result<u32, NoMemory>
     ensures { IfOk result (λ next. next ≡ length f.now.params + (2 + first)) }
 {
     let count = u32::try_from(f.params.len()).ok().ok_or(NoMemory)?;
-    Ok(moved(moved(first, 2)?, count)?)
+    moved(moved(first, 2)?, count)
 }
 
 /// The type of a function, of which nothing is known.
@@ -73,7 +73,7 @@ pub fn function_type(alloc: Global, f: &FunDef, first: u32) -> Result<Ty, NoMemo
 {
     let params = new_types(alloc, f.params.as_slice(), moved(first, 2)?)?;
     let answer = Ty::Var(moved(first, 1)?);
-    Ok(function_of(alloc, params, any_effects(alloc, first), answer)?)
+    function_of(alloc, params, any_effects(alloc, first), answer)
 }
 
 /// The types of functions.
@@ -140,7 +140,7 @@ fn main_told(
 {
     if is_main {
         let types = new_types(alloc, f.params.as_slice(), moved(first, 2)?)?;
-        Ok(all_texts(alloc, types)?)
+        all_texts(alloc, types)
     } else {
         Ok(List::new(alloc))
     }

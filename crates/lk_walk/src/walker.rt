@@ -134,7 +134,7 @@ impl<'p> Walker<'p> {
     pub fn say(&mut self, at: Span, equations: List<Equation>) -> Result<(), NoMemory>
         ensures { OnOk result (self.new ≡ said at equations self.old) }
     {
-        Ok(say_all(&mut self.steps, at, equations)?)
+        say_all(&mut self.steps, at, equations)
     }
 
     /// Leaves a node, of which this is said. The answer is the number of the variable for its type.

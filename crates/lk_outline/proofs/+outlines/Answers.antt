@@ -1,5 +1,6 @@
 use Rattle.std.proofs.Common.{arith, refl, ap, ap₂, sym, ◌∙◌, ◌+◌, ◌-◌, ◌++◌, true, map, drop, length}
 use Rattle.std.proofs.lemmas.List.{length-map}
+use Rattle.std.proofs.lemmas.Result.{on_ok_weaker}
 use Rattle.std.specs.Option.{option_copied, option_map}
 use Rattle.lk_ast.specs.declared.expression.Node.TheOpen.{Node-F}
 use Rattle.lk_ast.specs.declared.expression.Node.TheVariants as node
@@ -79,26 +80,23 @@ form::some_case-returns-in-None-clause-sites t c =
     sym (put_nothing (seen c.args.round c.args.scope.now) (shown c.args.sites.now))
     ∙ ap (λ last. put (some_bound (option_map outline_last last) c.args.binder) (seen c.args.round c.args.scope.now) (shown c.args.sites.now)) (sym c.in-None.is)
 
-pub form::some_case-returns-in_ok-under-in-Some-clause-sites : goal.form::some_case-returns-in_ok-under-in-Some-clause-sites
-form::some_case-returns-in_ok-under-in-Some-clause-sites t c =
-    c.in_ok-under-in-Some.ensures.sites
-    ∙ sym (last_put c.in-Some.last c.args.binder c.args.round c.args.scope.now (shown c.args.sites.now))
-    ∙ ap (λ last. put (some_bound (option_map outline_last last) c.args.binder) (seen c.args.round c.args.scope.now) (shown c.args.sites.now)) (sym c.in-Some.is)
+pub form::some_case-returns-in-Some-clause-sites : goal.form::some_case-returns-in-Some-clause-sites
+form::some_case-returns-in-Some-clause-sites t c = on_ok_same c.under.result (shown c.under.new.sites) c.under.ensures.sites
+    (sym (last_put c.in-Some.last c.args.binder c.args.round c.args.scope.now (shown c.args.sites.now))
+    ∙ ap (λ last. put (some_bound (option_map outline_last last) c.args.binder) (seen c.args.round c.args.scope.now) (shown c.args.sites.now)) (sym c.in-Some.is))
 
-pub walk::node-returns-in_ok-note-in-Name-clause-sites : goal.walk::node-returns-in_ok-note-in-Name-clause-sites
+pub walk::node-returns-in-Name-clause-sites : goal.walk::node-returns-in-Name-clause-sites
 unfolding put
-walk::node-returns-in_ok-note-in-Name-clause-sites t c =
-    c.in_ok-note-in-Name.ensures
-    ∙ ap (λ n. noted c.args.span (Kind.Name n) c.args.round (shown c.args.sites.now)) c.binder_of.ensures
+walk::node-returns-in-Name-clause-sites t c = on_ok_same c.note.result (shown c.note.new.sites) c.note.ensures
+    (ap (λ n. noted c.args.span (Kind.Name n) c.args.round (shown c.args.sites.now)) c.binder_of.ensures
     ∙ leaf_put c.args.span (Kind.Name (binder_of (named c.in-Name.name c.args.scope.now))) c.args.round c.args.scope.now (shown c.args.sites.now)
-    ∙ ap (λ part. put part (seen c.args.round c.args.scope.now) (shown c.args.sites.now)) (sym (node_is c.args.node.now (Node-F.Name c.in-Name.name) (c.in-Name.is ∙ sym (node.rolls-Name c.in-Name.name)) c.args.span))
+    ∙ ap (λ part. put part (seen c.args.round c.args.scope.now) (shown c.args.sites.now)) (sym (node_is c.args.node.now (Node-F.Name c.in-Name.name) (c.in-Name.is ∙ sym (node.rolls-Name c.in-Name.name)) c.args.span)))
 
-pub walk::node-returns-in_ok-note-in-Function-clause-sites : goal.walk::node-returns-in_ok-note-in-Function-clause-sites
+pub walk::node-returns-in-Function-clause-sites : goal.walk::node-returns-in-Function-clause-sites
 unfolding put
-walk::node-returns-in_ok-note-in-Function-clause-sites t c =
-    c.in_ok-note-in-Function.ensures
-    ∙ leaf_put c.args.span (Kind.Function c.in-Function.name) c.args.round c.args.scope.now (shown c.args.sites.now)
-    ∙ ap (λ part. put part (seen c.args.round c.args.scope.now) (shown c.args.sites.now)) (sym (node_is c.args.node.now (Node-F.Function c.in-Function.name) (c.in-Function.is ∙ sym (node.rolls-Function c.in-Function.name)) c.args.span))
+walk::node-returns-in-Function-clause-sites t c = on_ok_same c.note-in-Function.result (shown c.note-in-Function.new.sites) c.note-in-Function.ensures
+    (leaf_put c.args.span (Kind.Function c.in-Function.name) c.args.round c.args.scope.now (shown c.args.sites.now)
+    ∙ ap (λ part. put part (seen c.args.round c.args.scope.now) (shown c.args.sites.now)) (sym (node_is c.args.node.now (Node-F.Function c.in-Function.name) (c.in-Function.is ∙ sym (node.rolls-Function c.in-Function.name)) c.args.span)))
 
 pub walk::node-returns-in-Call-clause-sites : goal.walk::node-returns-in-Call-clause-sites
 walk::node-returns-in-Call-clause-sites t c = on_ok_same c.call.result (shown c.call.new.sites) c.call.ensures.sites
@@ -112,8 +110,10 @@ walk::node-returns-in-Apply-clause-sites t c = on_ok_same c.apply.result (shown 
 
 pub walk::apply-returns-clause-sites : goal.walk::apply-returns-clause-sites
 walk::apply-returns-clause-sites t c =
-    all_put c.args.span c.args.round c.args.scope.now c.expr.new.scope (outline c.args.f.now) (map outline c.args.args.now) (shown c.args.sites.now) (shown c.note.new.sites) (shown c.expr.new.sites) (shown c.exprs.new.sites)
-    c.in_ok-note.ensures c.in_ok-expr.ensures.sites c.in_ok-expr.ensures.left c.in_ok-exprs.ensures.sites
+    on_ok_weaker c.exprs.result
+    (all_put c.args.span c.args.round c.args.scope.now c.expr.new.scope (outline c.args.f.now) (map outline c.args.args.now) (shown c.args.sites.now) (shown c.note.new.sites) (shown c.expr.new.sites) (shown c.exprs.new.sites)
+    c.in_ok-note.ensures c.in_ok-expr.ensures.sites c.in_ok-expr.ensures.left)
+    c.exprs.ensures.sites
 
 pub walk::node-returns-in-Extend-clause-sites : goal.walk::node-returns-in-Extend-clause-sites
 walk::node-returns-in-Extend-clause-sites t c = on_ok_same c.extend.result (shown c.extend.new.sites) c.extend.ensures.sites
@@ -122,8 +122,10 @@ walk::node-returns-in-Extend-clause-sites t c = on_ok_same c.extend.result (show
 
 pub walk::extend-returns-clause-sites : goal.walk::extend-returns-clause-sites
 walk::extend-returns-clause-sites t c =
-    before_put c.args.span c.args.round c.args.scope.now c.parts.new.scope (map outline_part c.args.fields.now) (outline c.args.e.now) (shown c.args.sites.now) (shown c.note.new.sites) (shown c.parts.new.sites) (shown c.expr.new.sites)
-    c.in_ok-note.ensures c.in_ok-parts.ensures.sites c.in_ok-parts.ensures.left c.in_ok-expr.ensures.sites
+    on_ok_weaker c.expr.result
+    (before_put c.args.span c.args.round c.args.scope.now c.parts.new.scope (map outline_part c.args.fields.now) (outline c.args.e.now) (shown c.args.sites.now) (shown c.note.new.sites) (shown c.parts.new.sites) (shown c.expr.new.sites)
+    c.in_ok-note.ensures c.in_ok-parts.ensures.sites c.in_ok-parts.ensures.left)
+    c.expr.ensures.sites
 
 pub walk::node-returns-in-If-clause-sites : goal.walk::node-returns-in-If-clause-sites
 walk::node-returns-in-If-clause-sites t c = on_ok_same c.three.result (shown c.three.new.sites) c.three.ensures.sites
@@ -131,8 +133,10 @@ walk::node-returns-in-If-clause-sites t c = on_ok_same c.three.result (shown c.t
 
 pub walk::three-returns-clause-sites : goal.walk::three-returns-clause-sites
 walk::three-returns-clause-sites t c =
-    three_put c.args.span c.args.round c.args.scope.now c.expr.new.scope c.expr-2.new.scope (outline c.args.c.now) (outline c.args.d.now) (outline c.args.e.now) (shown c.args.sites.now) (shown c.note.new.sites) (shown c.expr.new.sites) (shown c.expr-2.new.sites) (shown c.expr-3.new.sites)
-    c.in_ok-note.ensures c.in_ok-expr.ensures.sites c.in_ok-expr.ensures.left c.in_ok-expr-2.ensures.sites c.in_ok-expr-2.ensures.left c.in_ok-expr-3.ensures.sites
+    on_ok_weaker c.expr-3.result
+    (three_put c.args.span c.args.round c.args.scope.now c.expr.new.scope c.expr-2.new.scope (outline c.args.c.now) (outline c.args.d.now) (outline c.args.e.now) (shown c.args.sites.now) (shown c.note.new.sites) (shown c.expr.new.sites) (shown c.expr-2.new.sites) (shown c.expr-3.new.sites)
+    c.in_ok-note.ensures c.in_ok-expr.ensures.sites c.in_ok-expr.ensures.left c.in_ok-expr-2.ensures.sites c.in_ok-expr-2.ensures.left)
+    c.expr-3.ensures.sites
 
 pub walk::node-returns-in-Record-clause-sites : goal.walk::node-returns-in-Record-clause-sites
 walk::node-returns-in-Record-clause-sites t c = on_ok_same c.record_of.result (shown c.record_of.new.sites) c.record_of.ensures.sites
@@ -153,15 +157,16 @@ walk::node-returns-in-Switch-clause-sites t c = on_ok_same c.switch.result (show
 pub form::switch-returns-clause-sites : goal.form::switch-returns-clause-sites
 unfolding put
 form::switch-returns-clause-sites t c =
-    switch_put c.args.span c.args.round c.args.scope.now c.expr.new.scope c.cases.new.scope (outline c.args.e.now) (map outline_case c.args.list.now) (option_map outline_last c.args.last.now) c.len-binder.result (shown c.args.sites.now) (shown c.note.new.sites) (shown c.expr.new.sites) (shown c.cases.new.sites) (shown c.some_case.new.sites)
+    on_ok_weaker c.some_case.result
+    (switch_put c.args.span c.args.round c.args.scope.now c.expr.new.scope c.cases.new.scope (outline c.args.e.now) (map outline_case c.args.list.now) (option_map outline_last c.args.last.now) c.len-binder.result (shown c.args.sites.now) (shown c.note.new.sites) (shown c.expr.new.sites) (shown c.cases.new.sites) (shown c.some_case.new.sites)
     c.in_ok-note.ensures (c.len-binder.ensures ∙ sym (length-map c.note.new.sites shown_site)) c.in_ok-expr.ensures.sites c.in_ok-expr.ensures.left
-    c.in_ok-cases.ensures.sites c.in_ok-cases.ensures.left c.in_ok-some_case.ensures.sites
+    c.in_ok-cases.ensures.sites c.in_ok-cases.ensures.left)
+    c.some_case.ensures.sites
 
-pub walk::node-returns-in_ok-note-in-Int-clause-sites : goal.walk::node-returns-in_ok-note-in-Int-clause-sites
-walk::node-returns-in_ok-note-in-Int-clause-sites t c =
-    c.in_ok-note-in-Int.ensures
-    ∙ leaf_put c.args.span unsaid c.args.round c.args.scope.now (shown c.args.sites.now)
-    ∙ ap (λ part. put part (seen c.args.round c.args.scope.now) (shown c.args.sites.now)) (sym (leaf_is c.args.node.now c.args.span c.in-Int.is))
+pub walk::node-returns-in-Int-clause-sites : goal.walk::node-returns-in-Int-clause-sites
+walk::node-returns-in-Int-clause-sites t c = on_ok_same c.note-in-Int.result (shown c.note-in-Int.new.sites) c.note-in-Int.ensures
+    (leaf_put c.args.span unsaid c.args.round c.args.scope.now (shown c.args.sites.now)
+    ∙ ap (λ part. put part (seen c.args.round c.args.scope.now) (shown c.args.sites.now)) (sym (leaf_is c.args.node.now c.args.span c.in-Int.is)))
 
 pub walk::node-returns-in-Var-clause-sites : goal.walk::node-returns-in-Var-clause-sites
 walk::node-returns-in-Var-clause-sites t c = on_ok_same c.variable.result (shown c.variable.new.sites) c.variable.ensures.sites
@@ -169,8 +174,10 @@ walk::node-returns-in-Var-clause-sites t c = on_ok_same c.variable.result (shown
 
 pub walk::variable-returns-clause-sites : goal.walk::variable-returns-clause-sites
 walk::variable-returns-clause-sites t c =
-    under_put c.args.span c.args.x.now c.args.round c.args.scope.now c.expr.new.scope (outline c.args.e.now) (outline c.args.body.now) c.len-binder.result (shown c.args.sites.now) (shown c.note.new.sites) (shown c.expr.new.sites) (shown c.under.new.sites)
-    c.in_ok-note.ensures (c.len-binder.ensures ∙ sym (length-map c.note.new.sites shown_site)) c.in_ok-expr.ensures.sites c.in_ok-expr.ensures.left c.in_ok-under.ensures.sites
+    on_ok_weaker c.under.result
+    (under_put c.args.span c.args.x.now c.args.round c.args.scope.now c.expr.new.scope (outline c.args.e.now) (outline c.args.body.now) c.len-binder.result (shown c.args.sites.now) (shown c.note.new.sites) (shown c.expr.new.sites) (shown c.under.new.sites)
+    c.in_ok-note.ensures (c.len-binder.ensures ∙ sym (length-map c.note.new.sites shown_site)) c.in_ok-expr.ensures.sites c.in_ok-expr.ensures.left)
+    c.under.ensures.sites
 
 pub walk::node-returns-in-Lt-clause-sites : goal.walk::node-returns-in-Lt-clause-sites
 unfolding put
@@ -180,9 +187,11 @@ walk::node-returns-in-Lt-clause-sites t c = on_ok_same c.ordered.result (shown c
 pub walk::ordered-returns-clause-sites : goal.walk::ordered-returns-clause-sites
 unfolding put
 walk::ordered-returns-clause-sites t c =
-    two_put c.args.span (Kind.Order (1 + length (shown c.args.sites.now))) c.args.round c.args.scope.now c.expr.new.scope (outline c.args.a.now) (outline c.args.b.now) (shown c.args.sites.now) (shown c.note.new.sites) (shown c.expr.new.sites) (shown c.expr-2.new.sites)
+    on_ok_weaker c.expr-2.result
+    (two_put c.args.span (Kind.Order (1 + length (shown c.args.sites.now))) c.args.round c.args.scope.now c.expr.new.scope (outline c.args.a.now) (outline c.args.b.now) (shown c.args.sites.now) (shown c.note.new.sites) (shown c.expr.new.sites) (shown c.expr-2.new.sites)
     (c.in_ok-note.ensures ∙ ap (λ n. noted c.args.span (Kind.Order n) c.args.round (shown c.args.sites.now)) c.in_ok-operand.ensures)
-    c.in_ok-expr.ensures.sites c.in_ok-expr.ensures.left c.in_ok-expr-2.ensures.sites
+    c.in_ok-expr.ensures.sites c.in_ok-expr.ensures.left)
+    c.expr-2.ensures.sites
 
 pub walk::node-returns-in-Eq-clause-sites : goal.walk::node-returns-in-Eq-clause-sites
 unfolding put
@@ -192,9 +201,11 @@ walk::node-returns-in-Eq-clause-sites t c = on_ok_same c.equal.result (shown c.e
 pub walk::equal-returns-clause-sites : goal.walk::equal-returns-clause-sites
 unfolding put
 walk::equal-returns-clause-sites t c =
-    two_put c.args.span (Kind.Equality (1 + length (shown c.args.sites.now))) c.args.round c.args.scope.now c.expr.new.scope (outline c.args.a.now) (outline c.args.b.now) (shown c.args.sites.now) (shown c.note.new.sites) (shown c.expr.new.sites) (shown c.expr-2.new.sites)
+    on_ok_weaker c.expr-2.result
+    (two_put c.args.span (Kind.Equality (1 + length (shown c.args.sites.now))) c.args.round c.args.scope.now c.expr.new.scope (outline c.args.a.now) (outline c.args.b.now) (shown c.args.sites.now) (shown c.note.new.sites) (shown c.expr.new.sites) (shown c.expr-2.new.sites)
     (c.in_ok-note.ensures ∙ ap (λ n. noted c.args.span (Kind.Equality n) c.args.round (shown c.args.sites.now)) c.in_ok-operand.ensures)
-    c.in_ok-expr.ensures.sites c.in_ok-expr.ensures.left c.in_ok-expr-2.ensures.sites
+    c.in_ok-expr.ensures.sites c.in_ok-expr.ensures.left)
+    c.expr-2.ensures.sites
 
 pub walk::node-returns-in-Seq-clause-sites : goal.walk::node-returns-in-Seq-clause-sites
 walk::node-returns-in-Seq-clause-sites t c = on_ok_same c.two.result (shown c.two.new.sites) c.two.ensures.sites
@@ -202,5 +213,7 @@ walk::node-returns-in-Seq-clause-sites t c = on_ok_same c.two.result (shown c.tw
 
 pub walk::two-returns-clause-sites : goal.walk::two-returns-clause-sites
 walk::two-returns-clause-sites t c =
-    two_put c.args.span unsaid c.args.round c.args.scope.now c.expr.new.scope (outline c.args.a.now) (outline c.args.b.now) (shown c.args.sites.now) (shown c.note.new.sites) (shown c.expr.new.sites) (shown c.expr-2.new.sites)
-    c.in_ok-note.ensures c.in_ok-expr.ensures.sites c.in_ok-expr.ensures.left c.in_ok-expr-2.ensures.sites
+    on_ok_weaker c.expr-2.result
+    (two_put c.args.span unsaid c.args.round c.args.scope.now c.expr.new.scope (outline c.args.a.now) (outline c.args.b.now) (shown c.args.sites.now) (shown c.note.new.sites) (shown c.expr.new.sites) (shown c.expr-2.new.sites)
+    c.in_ok-note.ensures c.in_ok-expr.ensures.sites c.in_ok-expr.ensures.left)
+    c.expr-2.ensures.sites

@@ -1,6 +1,7 @@
 use Rattle.std.proofs.Common.{arith, subst, ◌∙◌, ap, ap₂, sym, map, [], ◌∷◌}
 use Rattle.std.specs.Option.{option_map, option_copied}
 use Rattle.std.specs.Prelude.{IfOk}
+use Rattle.std.proofs.lemmas.Result.{IfOk-equal, IfOk-weaker}
 use Rattle.lk_types.specs.declared.ty.Effect.TheVariants as effect
 use Rattle.lk_typing.specs.Names.{table_named, types_of}
 use Rattle.lk_typing.specs.Types.{labelled}
@@ -29,14 +30,16 @@ expr-loop-name-preserved t c = (
 )
 
 pub expr-returns-clause-walked : goal.expr-returns-clause-walked
-expr-returns-clause-walked t c = ap (λ (p : Walker × Ty). p.0)
-    (blocks_end c.loop-name.rest.now.span (walk_in c.args.context.now.globals.now c.loop-name.rest.now) c.args.context.now.effects.now c.loop-name.walker c.enter-2.new.self c.node.new.walker c.leave.new.self c.end_all.new.walker c.in_ok-slot-2.slot c.in_ok-number.number c.in_ok-end_all.field-0 (as_own c.in_ok-own.own) c.loop-name.blocks _
-    c.in_ok-slot-2.ensures.entered c.in_ok-slot-2.ensures.slot c.in_ok-own.ensures c.in_ok-number.ensures.left c.in_ok-number.ensures.number c.in_ok-end_all.ensures c.loop-name.invariant.1)
+expr-returns-clause-walked t c = IfOk-weaker c.end_all.result _ _ (λ made is. ap (λ (p : Walker × Ty). p.0)
+    (blocks_end c.loop-name.rest.now.span (walk_in c.args.context.now.globals.now c.loop-name.rest.now) c.args.context.now.effects.now c.loop-name.walker c.enter-2.new.self c.node.new.walker c.leave.new.self c.end_all.new.walker c.in_ok-slot-2.slot c.in_ok-number.number made (as_own c.in_ok-own.own) c.loop-name.blocks _
+    c.in_ok-slot-2.ensures.entered c.in_ok-slot-2.ensures.slot c.in_ok-own.ensures c.in_ok-number.ensures.left c.in_ok-number.ensures.number is c.loop-name.invariant.1))
+    c.end_all.ensures
 
 pub expr-returns-clause-number : goal.expr-returns-clause-number
-expr-returns-clause-number t c = ap (λ (p : Walker × Ty). p.1)
-    (blocks_end c.loop-name.rest.now.span (walk_in c.args.context.now.globals.now c.loop-name.rest.now) c.args.context.now.effects.now c.loop-name.walker c.enter-2.new.self c.node.new.walker c.leave.new.self c.end_all.new.walker c.in_ok-slot-2.slot c.in_ok-number.number c.in_ok-end_all.field-0 (as_own c.in_ok-own.own) c.loop-name.blocks _
-    c.in_ok-slot-2.ensures.entered c.in_ok-slot-2.ensures.slot c.in_ok-own.ensures c.in_ok-number.ensures.left c.in_ok-number.ensures.number c.in_ok-end_all.ensures c.loop-name.invariant.1)
+expr-returns-clause-number t c = IfOk-weaker c.end_all.result _ _ (λ made is. ap (λ (p : Walker × Ty). p.1)
+    (blocks_end c.loop-name.rest.now.span (walk_in c.args.context.now.globals.now c.loop-name.rest.now) c.args.context.now.effects.now c.loop-name.walker c.enter-2.new.self c.node.new.walker c.leave.new.self c.end_all.new.walker c.in_ok-slot-2.slot c.in_ok-number.number made (as_own c.in_ok-own.own) c.loop-name.blocks _
+    c.in_ok-slot-2.ensures.entered c.in_ok-slot-2.ensures.slot c.in_ok-own.ensures c.in_ok-number.ensures.left c.in_ok-number.ensures.number is c.loop-name.invariant.1))
+    c.end_all.ensures
 
 pub node-returns-in_default : goal.node-returns-in_default
 node-returns-in_default t c =
@@ -48,31 +51,32 @@ pub plain-returns : goal.plain-returns
 plain-returns t c = plain_inner c.args.context.now.globals.now c.args.e.now (out-Node c.get-node.result.now) c.args.context.now.effects.now c.args.walker.now c.parts.new.walker c.parts.new.types c.new-types.result (as_own c.in_ok-own_of.field-0)
     (ap out-Node c.get-node.ensures) c.new-types.ensures c.in_ok-parts.ensures.walked c.in_ok-parts.ensures.types c.in_ok-own_of.ensures
 
-pub parts-returns-in_ok-part-in-Extend-clause-walked : goal.parts-returns-in_ok-part-in-Extend-clause-walked
-parts-returns-in_ok-part-in-Extend-clause-walked t c =
-    c.in_ok-part-in-Extend.ensures.walked
-    ∙ extended_all c.args.context.now.globals.now c.in-Extend.fields c.in-Extend.e (out-Node c.args.node.now) c.args.context.now.effects.now c.args.walker.now c.fields_in-in-Extend.new.walker
+pub parts-returns-in_ok-fields_in-in-Extend-clause-walked : goal.parts-returns-in_ok-fields_in-in-Extend-clause-walked
+parts-returns-in_ok-fields_in-in-Extend-clause-walked t c =
+    IfOk-equal c.part-in-Extend.result _ _ _ c.part-in-Extend.ensures.walked
+    (extended_all c.args.context.now.globals.now c.in-Extend.fields c.in-Extend.e (out-Node c.args.node.now) c.args.context.now.effects.now c.args.walker.now c.fields_in-in-Extend.new.walker
     (ap out-Node c.in-Extend.is ∙ outs-Extend c.in-Extend.fields c.in-Extend.e)
-    (c.in_ok-fields_in-in-Extend.ensures.walked ∙ ap (λ list. went_all (map (walk_in c.args.context.now.globals.now) (map expr_of list)) c.args.context.now.effects.now c.args.walker.now) c.as_slice-in-Extend.ensures)
+    (c.in_ok-fields_in-in-Extend.ensures.walked ∙ ap (λ list. went_all (map (walk_in c.args.context.now.globals.now) (map expr_of list)) c.args.context.now.effects.now c.args.walker.now) c.as_slice-in-Extend.ensures))
 
-pub parts-returns-in_ok-part-in-Extend-clause-types : goal.parts-returns-in_ok-part-in-Extend-clause-types
-parts-returns-in_ok-part-in-Extend-clause-types t c =
-    c.in_ok-part-in-Extend.ensures.types
-    ∙ extended_types c.args.context.now.globals.now c.in-Extend.fields c.in-Extend.e (out-Node c.args.node.now) c.args.context.now.effects.now c.args.walker.now c.fields_in-in-Extend.new.walker c.args.types.now c.fields_in-in-Extend.new.types
+pub parts-returns-in_ok-fields_in-in-Extend-clause-types : goal.parts-returns-in_ok-fields_in-in-Extend-clause-types
+parts-returns-in_ok-fields_in-in-Extend-clause-types t c =
+    IfOk-equal c.part-in-Extend.result _ _ _ c.part-in-Extend.ensures.types
+    (extended_types c.args.context.now.globals.now c.in-Extend.fields c.in-Extend.e (out-Node c.args.node.now) c.args.context.now.effects.now c.args.walker.now c.fields_in-in-Extend.new.walker c.args.types.now c.fields_in-in-Extend.new.types
     (ap out-Node c.in-Extend.is ∙ outs-Extend c.in-Extend.fields c.in-Extend.e)
     (c.in_ok-fields_in-in-Extend.ensures.walked ∙ ap (λ list. went_all (map (walk_in c.args.context.now.globals.now) (map expr_of list)) c.args.context.now.effects.now c.args.walker.now) c.as_slice-in-Extend.ensures)
-    (c.in_ok-fields_in-in-Extend.ensures.types ∙ ap (λ list. types_all (map (walk_in c.args.context.now.globals.now) (map expr_of list)) c.args.context.now.effects.now c.args.walker.now c.args.types.now) c.as_slice-in-Extend.ensures)
+    (c.in_ok-fields_in-in-Extend.ensures.types ∙ ap (λ list. types_all (map (walk_in c.args.context.now.globals.now) (map expr_of list)) c.args.context.now.effects.now c.args.walker.now c.args.types.now) c.as_slice-in-Extend.ensures))
 
 pub lambda-returns : goal.lambda-returns
-lambda-returns t c = lambda_inner c.args.at c.args.e.now.params c.args.e.now.place (walk_in c.args.context.now.globals.now c.args.e.now.body) c.args.context.now.effects.now c.any_effects-effects.result c.args.walker.now c.number.new.self c.bind_all.new.self c.tell.new.self c.expr.new.walker c.unbind.new.self
-    c.in_ok-number.field-0 c.in_ok-body.body c.in_ok-params.params (as_told c.in_ok-marked.marked) (as_own c.in_ok-lambda_own.field-0)
+lambda-returns t c = IfOk-weaker c.lambda_own.result _ _ (λ own is. lambda_inner c.args.at c.args.e.now.params c.args.e.now.place (walk_in c.args.context.now.globals.now c.args.e.now.body) c.args.context.now.effects.now c.any_effects-effects.result c.args.walker.now c.number.new.self c.bind_all.new.self c.tell.new.self c.expr.new.walker c.unbind.new.self
+    c.in_ok-number.field-0 c.in_ok-body.body c.in_ok-params.params (as_told c.in_ok-marked.marked) (as_own own)
     c.in_ok-number.ensures.next c.in_ok-number.ensures.number c.any_effects-effects.ensures
     (c.in_ok-params.ensures.bound ∙ ap (λ ps. bound_all ps c.number.new.self) c.as_slice.ensures)
     (c.in_ok-params.ensures.types ∙ ap (λ ps. types_of (params_from c.number.new.self.next ps)) c.as_slice.ensures)
     (c.in_ok-marked.ensures ∙ ap (λ mark. has_if mark c.any_effects-effects.result effect.Move c.bind_all.new.self.next) c.is_marked.ensures)
     c.in_ok-tell.ensures c.in_ok-body.ensures.walked c.in_ok-body.ensures.number
     (c.unbind.ensures ∙ ap (λ count. unbound count c.expr.new.walker) c.len.ensures)
-    c.in_ok-lambda_own.ensures
+    is)
+    c.lambda_own.ensures
 
 pub change-returns : goal.change-returns
 change-returns t c = change_inner c.args.at c.args.context.now.globals.now c.args.rows.now c.args.context.now.effects.now c.no_effects-effects.result c.args.walker.now
@@ -103,9 +107,10 @@ node-returns-in-ForList t c = as_form c.args.context.now.globals.now c.args.e.no
     c.for_list.ensures
 
 pub for_list-returns : goal.for_list-returns
-for_list-returns t c = for_list_inner c.args.at c.args.name.now.text (walk_in c.args.context.now.globals.now c.args.list.now) (walk_in c.args.context.now.globals.now c.args.body.now) c.args.context.now.effects.now c.args.walker.now c.number.new.self c.expr.new.walker c.under.new.walker c.in_ok-element.element c.in_ok-list.list c.in_ok-body.body c.in_ok-elements.elements _
+for_list-returns t c = IfOk-weaker c.for_own.result _ _ (λ own is. for_list_inner c.args.at c.args.name.now.text (walk_in c.args.context.now.globals.now c.args.list.now) (walk_in c.args.context.now.globals.now c.args.body.now) c.args.context.now.effects.now c.args.walker.now c.number.new.self c.expr.new.walker c.under.new.walker c.in_ok-element.element c.in_ok-list.list c.in_ok-body.body c.in_ok-elements.elements _
     c.in_ok-element.ensures.next c.in_ok-element.ensures.number c.in_ok-list.ensures.walked c.in_ok-list.ensures.number c.in_ok-body.ensures.walked c.in_ok-body.ensures.number
-    (c.in_ok-elements.ensures ∙ ap (λ equation. equation ∷ []) c.in_ok-elements_are.ensures) c.in_ok-for_own.ensures
+    (c.in_ok-elements.ensures ∙ ap (λ equation. equation ∷ []) c.in_ok-elements_are.ensures) is)
+    c.for_own.ensures
 
 pub node-returns-in-ForTable : goal.node-returns-in-ForTable
 node-returns-in-ForTable t c = as_form c.args.context.now.globals.now c.args.e.now (for_table_walked c.args.e.now.span c.in-ForTable.name.text (walk_in c.args.context.now.globals.now c.in-ForTable.table) (walk_in c.args.context.now.globals.now c.in-ForTable.body)) c.args.context.now.effects.now c.args.walker.now c.for_table.new.walker c.for_table.result as_own
@@ -113,9 +118,10 @@ node-returns-in-ForTable t c = as_form c.args.context.now.globals.now c.args.e.n
     c.for_table.ensures
 
 pub for_table-returns : goal.for_table-returns
-for_table-returns t c = for_table_inner c.args.at c.args.name.now.text (walk_in c.args.context.now.globals.now c.args.table.now) (walk_in c.args.context.now.globals.now c.args.body.now) c.args.context.now.effects.now c.args.walker.now c.number.new.self c.expr.new.walker c.say.new.self c.under.new.walker c.in_ok-element.element c.in_ok-table.table c.in_ok-body.body c.in_ok-elements.elements c.new.result _
+for_table-returns t c = IfOk-weaker c.for_own.result _ _ (λ own is. for_table_inner c.args.at c.args.name.now.text (walk_in c.args.context.now.globals.now c.args.table.now) (walk_in c.args.context.now.globals.now c.args.body.now) c.args.context.now.effects.now c.args.walker.now c.number.new.self c.expr.new.walker c.say.new.self c.under.new.walker c.in_ok-element.element c.in_ok-table.table c.in_ok-body.body c.in_ok-elements.elements c.new.result _
     c.in_ok-element.ensures.next c.in_ok-element.ensures.number c.in_ok-table.ensures.walked c.in_ok-table.ensures.number
-    (c.in_ok-elements.ensures ∙ ap (λ equation. equation ∷ []) c.in_ok-elements_are.ensures) c.in_ok-say.ensures c.in_ok-body.ensures.walked c.in_ok-body.ensures.number c.new.ensures c.in_ok-for_own.ensures
+    (c.in_ok-elements.ensures ∙ ap (λ equation. equation ∷ []) c.in_ok-elements_are.ensures) c.in_ok-say.ensures c.in_ok-body.ensures.walked c.in_ok-body.ensures.number c.new.ensures is)
+    c.for_own.ensures
 
 pub node-returns-in-Query : goal.node-returns-in-Query
 node-returns-in-Query t c = as_form c.args.context.now.globals.now c.args.e.now (query_walked c.args.e.now.span c.in-Query.keys (walk_in c.args.context.now.globals.now c.in-Query.body)) c.args.context.now.effects.now c.args.walker.now c.query.new.walker c.query.result as_own
@@ -123,7 +129,8 @@ node-returns-in-Query t c = as_form c.args.context.now.globals.now c.args.e.now 
     (subst (λ keys. IfOk c.query.result (λ own. Inner c.args.e.now.span (query_walked c.args.e.now.span keys (walk_in c.args.context.now.globals.now c.in-Query.body) c.args.walker.now.names c.args.context.now.effects.now c.args.walker.now.next) c.args.walker.now c.query.new.walker (as_own own))) c.as_slice-in-Query.ensures c.query.ensures)
 
 pub query-returns : goal.query-returns
-query-returns t c = query_inner c.args.at c.args.keys.now (walk_in c.args.context.now.globals.now c.args.body.now) c.args.context.now.effects.now c.in_ok-effects.effects c.args.walker.now c.expr.new.walker c.in_ok-body.body _ c.in_ok-effects.ensures c.in_ok-body.ensures.walked c.in_ok-body.ensures.number c.in_ok-query_own.ensures
+query-returns t c = IfOk-weaker c.query_own.result _ _ (λ own is. query_inner c.args.at c.args.keys.now (walk_in c.args.context.now.globals.now c.args.body.now) c.args.context.now.effects.now c.in_ok-effects.effects c.args.walker.now c.expr.new.walker c.in_ok-body.body _ c.in_ok-effects.ensures c.in_ok-body.ensures.walked c.in_ok-body.ensures.number is)
+    c.query_own.ensures
 
 pub node-returns-in-Var : goal.node-returns-in-Var
 node-returns-in-Var t c = as_form c.args.context.now.globals.now c.args.e.now (var_walked c.args.e.now.span c.in-Var.name.text (walk_in c.args.context.now.globals.now c.in-Var.first) (walk_in c.args.context.now.globals.now c.in-Var.rest)) c.args.context.now.effects.now c.args.walker.now c.variable.new.walker c.variable.result as_own
@@ -140,10 +147,11 @@ node-returns-in-Switch t c = as_form c.args.context.now.globals.now c.args.e.now
     (subst (λ list. IfOk c.switch.result (λ own. Inner c.args.e.now.span (switch_walked c.args.e.now.span (walk_in c.args.context.now.globals.now c.in-Switch.value) (map (case_in c.args.context.now.globals.now) list) (option_map (last_in c.args.context.now.globals.now) c.in-Switch.last) c.args.walker.now.names c.args.context.now.effects.now c.args.walker.now.next) c.args.walker.now c.switch.new.walker (as_own own))) c.as_slice.ensures c.switch.ensures)
 
 pub switch-returns : goal.switch-returns
-switch-returns t c = switch_inner c.args.at (walk_in c.args.context.now.globals.now c.args.value.now) (map (case_in c.args.context.now.globals.now) c.args.list.now) (option_map (last_in c.args.context.now.globals.now) c.args.last.now) c.args.context.now.effects.now c.args.walker.now c.expr.new.walker c.cases.new.walker c.last_case.new.walker
+switch-returns t c = IfOk-weaker c.switch_own.result _ _ (λ own is. switch_inner c.args.at (walk_in c.args.context.now.globals.now c.args.value.now) (map (case_in c.args.context.now.globals.now) c.args.list.now) (option_map (last_in c.args.context.now.globals.now) c.args.last.now) c.args.context.now.effects.now c.args.walker.now c.expr.new.walker c.cases.new.walker c.last_case.new.walker
     c.in_ok-value.value c.cases.new.tags c.new-tags.result c.cases.new.types c.last_case.new.types c.new-types.result c.in_ok-tail.tail (as_own c.in_ok-bodies.bodies) c.variant_of-variant.result _
     c.in_ok-value.ensures.walked c.in_ok-value.ensures.number c.new-tags.ensures c.new-types.ensures
     c.in_ok-cases.ensures.walked c.in_ok-cases.ensures.tags c.in_ok-cases.ensures.types
     c.in_ok-tail.ensures.walked c.in_ok-tail.ensures.tail c.in_ok-tail.ensures.types
     (c.in_ok-bodies.ensures ∙ ap (λ types. one_type types c.last_case.new.walker.next) c.as_slice.ensures)
-    c.variant_of-variant.ensures c.in_ok-switch_own.ensures
+    c.variant_of-variant.ensures is)
+    c.switch_own.ensures
