@@ -27,7 +27,8 @@ use Rattle.lk_ground_types.proofs.Binding.{binds_as, binds_both, binds_effects, 
 use Rattle.lk_ground_types.proofs.EffectLists.{left_of}
 use Rattle.lk_types.proofs.LabelMaps.{get_here, get_there, map_back, removed_here, removed_there, same_maps, tie_cases, Tied, Differ}
 use Rattle.lk_types.proofs.Parts.{all_some, function_some, mapped, same_some, with_one}
-use Rattle.lk_ground_types.specs.Bound.{is_listed, row_of, with_effects, with_plain, with_row, without}
+use Rattle.lk_ground_types.proofs.RowNumbers.{row_of}
+use Rattle.lk_ground_types.specs.Bound.{is_listed, with_effects, with_plain, with_row, without}
 use Rattle.lk_ground_types.specs.Forms.{fields_in, fields_level, function_in, function_level, item_in, item_level, tags_in, tags_level}
 use Rattle.lk_ground_types.specs.Matching.{Binds}
 
@@ -214,6 +215,9 @@ one_more_taken fs row i f d rest less a b c below f_is taken less_is binds = rec
 pub at_field : (f : TyField) (row : Row) (k : Ground) (a b : Grounding) → fin.get row f.label ≡ Some k → Binds (variables_of f.ty) (Becomes f.ty k) a b → Binds (variables_of_field f) (FieldBecomes f row) a b
 at_field f row k a b some binds = binds_as (variables_field f) binds (λ σ e. e.1 ∙ sym e.2 ∙ some)
 
+pub no_field : (f : TyField) (row : Row) (a : Grounding) → fin.get row f.label ≡ None → Binds (variables_of_field f) (FieldBecomes f row) a a
+no_field f row a none = binds_nothing (variables_of_field f) (FieldBecomes f row) a (λ σ e. some_none e.0 (sym e.2 ∙ none))
+
 -- ---- a row
 
 -- the entries of a row, from its fields
@@ -259,3 +263,6 @@ module _ (es : Effects) (labels : List Effect) (a : Grounding) where
       (binds_effects EffectsBecome a n (is_listed left) b new
       (λ σ e. ap is_listed left_is ∙ left_of es.labels labels (effect_tail σ es.tail) e.0 e.1 e.2 ∙ ap (effect_tail σ) is))
       (λ σ e. e)
+
+  pub no_effects_bound : es.tail ≡ Closed → Binds (effects_variables es) EffectsBecome a a
+  no_effects_bound is = binds_none (effects_variables es) EffectsBecome a (ap (before_tail [] variable.Effects) is)

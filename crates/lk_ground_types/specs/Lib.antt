@@ -1,7 +1,9 @@
+pub mod Becoming
 pub mod Bound
 pub mod Counting
 pub mod Forms
 pub mod Functions
+pub mod Grounds
 pub mod Law
 pub mod Least
 pub mod Made

@@ -1,5 +1,5 @@
 -- How large ground types are: a base, list, record, variant, function, label or effect each counts one.
-use Rattle.std.specs.Prelude.{ℕ, ◌+◌, Option, Some, None, length, sum, nat_le, if◌then◌else◌}
+use Rattle.std.specs.Prelude.{ℕ, ◌+◌, Bool, length, sum, nat_le}
 use Rattle.lk_types.specs.Sizes.{most_nodes}
 use Rattle.lk_types.specs.declared.ground.Ground.{Ground, fold-Ground}
 use Rattle.lk_types.specs.declared.ground.Ground.TheOpen.{Ground-F, GroundField-F}
@@ -21,6 +21,6 @@ ground_nodes = fold-Ground ℕ ℕ level field_level
 unfoldable pub field_nodes : GroundField → ℕ
 field_nodes = fold-GroundField ℕ ℕ level field_level
 
--- the type, if it has no more nodes than a type may have
-abbrev pub within : Ground → Option Ground
-within t = if nat_le (ground_nodes t) most_nodes then Some t else None
+-- whether it has no more nodes than a type may have
+abbrev pub fits : Ground → Bool
+fits t = nat_le (ground_nodes t) most_nodes

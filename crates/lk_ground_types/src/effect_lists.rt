@@ -3,7 +3,7 @@
 ghost use Rattle.lk_ground_types.specs.Bound.{is_listed, without};
 ghost use Rattle.lk_types.specs.Rows.{effects_of};
 ghost use Rattle.std.specs.List.{filter};
-ghost use Rattle.std.specs.Prelude.{◌≡◌, ◌||◌, IfOk, length};
+ghost use Rattle.std.specs.Prelude.{◌≡◌, ◌||◌, IfOk};
 
 use lk_ast::{List, NoMemory};
 use lk_types::Effect;
@@ -67,24 +67,4 @@ fn those_in(
         }
     }
     Ok(found)
-}
-
-/// How many effects a list has, where each counts once.
-pub fn count_listed(labels: &[Effect]) -> usize
-    ensures { result ≡ length (effects_of (is_listed labels.now)) }
-{
-    count_in(&ALL, labels)
-}
-
-/// How many of the effects are in a list.
-fn count_in(effects: &[Effect], labels: &[Effect]) -> usize
-    ensures { result ≡ length (filter (is_listed labels.now) effects.now) }
-{
-    let mut count = 0;
-    for effect in effects {
-        if is_among(*effect, labels) {
-            count += 1;
-        }
-    }
-    count
 }

@@ -1,150 +1,161 @@
 //! What stands for the variables of a type, from what it becomes.
 
-ghost use Rattle.lk_ground_types.specs.Bound.{grounding_of};
-ghost use Rattle.lk_ground_types.specs.Matching.{Binds};
+ghost use Rattle.lk_ground_types.specs.Bound.{IsRowWithin};
+ghost use Rattle.lk_ground_types.specs.Grounds.{ArePartsBelow, at, part_made, row_in};
+ghost use Rattle.lk_ground_types.specs.Matching.{BindsIn};
+ghost use Rattle.lk_types.specs.Each.{Each};
 ghost use Rattle.lk_types.specs.Grounding.{Grounding, all_of, before_row, effects_under, field_under, row_under, under};
 ghost use Rattle.lk_types.specs.Rows.{EffectSet, Row as TheRow, effects_of, fields_of};
 ghost use Rattle.lk_types.specs.declared.ground.Ground.{Ground as TheGround};
 ghost use Rattle.lk_types.specs.Variables.{effects_variables, variables_of, variables_of_field, variables_of_row};
 ghost use Rattle.std.specs.FinMap as finite;
-ghost use Rattle.std.specs.Prelude.{◌≡◌, OnOk, Some, flat_map, map};
+ghost use Rattle.std.specs.Prelude.{◌≡◌, ◌<◌, OnOk, Some, flat_map, length, map};
 
 use crate::bindings::Bindings;
-use crate::bound_row::BoundRow;
 use crate::effect_lists::those_without;
-use crate::forms::{function_parts, list_item, record_fields, variant_tags};
+use crate::ground_level::GroundPart;
+use crate::grounds::Grounds;
+use crate::level_parts::{function_parts, list_item, record_fields, variant_tags};
+use crate::part_row::PartRow;
 use lk_ast::NoMemory;
-use lk_types::{Effect, Effects, Ground, GroundField, RowTail, Ty, TyField, TyRow};
+use lk_types::{Effect, Effects, RowTail, Ty, TyField, TyRow};
 use std::alloc::Global;
 
-/// Binds the variables of a type to what stands for them where it becomes this ground type. Where it can't, they stay as they
-/// are. `NoMemory` where memory runs out.
+/// Binds the variables of a type to what stands for them where it becomes the ground type of that number. Where it can't, they stay
+/// as they are. `NoMemory` where memory runs out.
 #[cycle(matching)]
-pub fn match_type<'g>(
+pub fn match_type(
     alloc: Global,
-    found: &mut Bindings<'g>,
+    found: &mut Bindings,
+    grounds: &Grounds,
     body: &Ty,
-    ty: &'g Ground,
+    number: u32,
 ) -> Result<(), NoMemory>
-    ensures { OnOk result (Binds (variables_of body.now) (λ σ. under σ body.now ≡ Some ty.now) (grounding_of found.old) (grounding_of found.new)) }
+    ensures { OnOk result (BindsIn grounds.now (number < length grounds.now) (variables_of body.now) (λ σ. under σ body.now ≡ Some (at grounds.now number)) found.old found.new) }
 {
     match body {
         Ty::Int => Ok(()),
         Ty::Bool => Ok(()),
         Ty::Text => Ok(()),
         Ty::List(item) => {
-            let Some(known) = list_item(ty) else {
+            let Some(part) = list_item(grounds, number) else {
                 return Ok(());
             };
-            Ok(match_type(alloc, found, item.get(), known)?)
+            Ok(match_type(alloc, found, grounds, item.get(), part)?)
         }
         Ty::Fields(row) => {
-            let Some(fields) = record_fields(ty) else {
+            let Some(parts) = record_fields(grounds, number) else {
                 return Ok(());
             };
-            Ok(match_row(alloc, found, row, fields)?)
+            Ok(match_row(alloc, found, grounds, row, parts)?)
         }
         Ty::Tags(row) => {
-            let Some(tags) = variant_tags(ty) else {
+            let Some(parts) = variant_tags(grounds, number) else {
                 return Ok(());
             };
-            Ok(match_row(alloc, found, row, tags)?)
+            Ok(match_row(alloc, found, grounds, row, parts)?)
         }
         Ty::Fun(params, effects, answer) => {
-            let Some((knowns, labels, known)) = function_parts(ty) else {
+            let Some((knowns, labels, known)) = function_parts(grounds, number) else {
                 return Ok(());
             };
-            match_all(alloc, found, params.as_slice(), knowns)?;
-            match_effects(alloc, found, effects, labels)?;
-            Ok(match_type(alloc, found, answer.get(), known)?)
+            match_all(alloc, found, grounds, params.as_slice(), knowns)?;
+            match_effects(alloc, found, grounds, effects, labels)?;
+            Ok(match_type(alloc, found, grounds, answer.get(), known)?)
         }
-        Ty::Var(number) => Ok(found.bind_plain(*number, ty)?),
+        Ty::Var(variable) => Ok(found.bind_plain(*variable, number)?),
     }
 }
 
 #[cycle(matching)]
-fn match_all<'g>(
+fn match_all(
     alloc: Global,
-    found: &mut Bindings<'g>,
+    found: &mut Bindings,
+    grounds: &Grounds,
     types: &[Ty],
-    knowns: &'g [Ground],
+    numbers: &[u32],
 ) -> Result<(), NoMemory>
-    ensures { OnOk result (Binds (flat_map variables_of types.now) (λ σ. all_of (map (under σ) types.now) ≡ Some knowns.now) (grounding_of found.old) (grounding_of found.new)) }
+    ensures { OnOk result (BindsIn grounds.now (Each (λ n. n < length grounds.now) numbers.now) (flat_map variables_of types.now) (λ σ. all_of (map (under σ) types.now) ≡ Some (map (at grounds.now) numbers.now)) found.old found.new) }
 {
-    if types.len() != knowns.len() {
+    if types.len() != numbers.len() {
         return Ok(());
     }
     for (i, ty) in types.iter().enumerate() {
-        match_type(alloc, found, ty, &knowns[i])?;
+        match_type(alloc, found, grounds, ty, numbers[i])?;
     }
     Ok(())
 }
 
 /// The fields of the row take those with their labels, and its tail the rest.
 #[cycle(matching)]
-fn match_row<'g>(
+fn match_row(
     alloc: Global,
-    found: &mut Bindings<'g>,
+    found: &mut Bindings,
+    grounds: &Grounds,
     row: &TyRow,
-    fields: &'g [GroundField],
+    parts: &[GroundPart],
 ) -> Result<(), NoMemory>
-    ensures { OnOk result (Binds (variables_of_row row.now) (λ σ. (m : TheRow) × (row_under σ row.now ≡ Some m) × (fields_of m ≡ fields.now)) (grounding_of found.old) (grounding_of found.new)) }
+    ensures { OnOk result (BindsIn grounds.now (ArePartsBelow (length grounds.now) parts.now) (variables_of_row row.now) (λ σ. (m : TheRow) × (row_under σ row.now ≡ Some m) × (fields_of m ≡ map (part_made grounds.now) parts.now)) found.old found.new) }
 {
-    let mut rest = BoundRow::of(alloc, fields)?;
-    match_fields(alloc, found, &mut rest, row.fields.as_slice())?;
+    let mut rest = PartRow::of(alloc, parts)?;
+    match_fields(alloc, found, grounds, &mut rest, row.fields.as_slice())?;
     match row.tail {
         RowTail::Closed => Ok(()),
-        RowTail::Var(number) => Ok(found.bind_row(number, rest)?),
+        RowTail::Var(variable) => Ok(found.bind_row(variable, rest)?),
     }
 }
 
 /// Takes the fields out that these become.
 #[cycle(matching)]
-fn match_fields<'g>(
+fn match_fields(
     alloc: Global,
-    found: &mut Bindings<'g>,
-    rest: &mut BoundRow<'g>,
+    found: &mut Bindings,
+    grounds: &Grounds,
+    rest: &mut PartRow,
     fields: &[TyField],
 ) -> Result<(), NoMemory>
-    ensures left { OnOk result ((σ : Grounding) (below : TheRow) → before_row (map (field_under σ) fields.now) below ≡ Some rest.old → rest.new ≡ below) }
-    ensures bound { OnOk result (Binds (flat_map variables_of_field fields.now) (λ σ. (below : TheRow) × (before_row (map (field_under σ) fields.now) below ≡ Some rest.old)) (grounding_of found.old) (grounding_of found.new)) }
+    ensures within { OnOk result (IsRowWithin (length grounds.now) rest.old → IsRowWithin (length grounds.now) rest.new) }
+    ensures left { OnOk result ((σ : Grounding) (below : TheRow) → before_row (map (field_under σ) fields.now) below ≡ Some (row_in grounds.now rest.old) → row_in grounds.now rest.new ≡ below) }
+    ensures bound { OnOk result (BindsIn grounds.now (IsRowWithin (length grounds.now) rest.old) (flat_map variables_of_field fields.now) (λ σ. (below : TheRow) × (before_row (map (field_under σ) fields.now) below ≡ Some (row_in grounds.now rest.old))) found.old found.new) }
 {
     for field in fields {
-        match_field(alloc, found, rest, field)?;
+        match_field(alloc, found, grounds, rest, field)?;
     }
     Ok(())
 }
 
 #[cycle(matching)]
-fn match_field<'g>(
+fn match_field(
     alloc: Global,
-    found: &mut Bindings<'g>,
-    rest: &mut BoundRow<'g>,
+    found: &mut Bindings,
+    grounds: &Grounds,
+    rest: &mut PartRow,
     field: &TyField,
 ) -> Result<(), NoMemory>
     ensures left { OnOk result (rest.new ≡ finite.remove rest.old field.now.label) }
-    ensures bound { OnOk result (Binds (variables_of_field field.now) (λ σ. (g : TheGround) × (under σ field.now.ty ≡ Some g) × (finite.get rest.old field.now.label ≡ Some g)) (grounding_of found.old) (grounding_of found.new)) }
+    ensures bound { OnOk result (BindsIn grounds.now (IsRowWithin (length grounds.now) rest.old) (variables_of_field field.now) (λ σ. (g : TheGround) × (under σ field.now.ty ≡ Some g) × (finite.get (row_in grounds.now rest.old) field.now.label ≡ Some g)) found.old found.new) }
 {
     match rest.take(field.label.as_str()) {
         None => Ok(()),
-        Some(known) => Ok(match_type(alloc, found, &field.ty, known)?),
+        Some(part) => Ok(match_type(alloc, found, grounds, &field.ty, part)?),
     }
 }
 
 /// The tail of the effects takes those that are not named.
-fn match_effects<'g>(
+fn match_effects(
     alloc: Global,
-    found: &mut Bindings<'g>,
+    found: &mut Bindings,
+    grounds: &Grounds,
     effects: &Effects,
     labels: &[Effect],
 ) -> Result<(), NoMemory>
-    ensures { OnOk result (Binds (effects_variables effects.now) (λ σ. (s : EffectSet) × (effects_under σ effects.now ≡ Some s) × (effects_of s ≡ labels.now)) (grounding_of found.old) (grounding_of found.new)) }
+    ensures { OnOk result (BindsIn grounds.now (Unit {0}) (effects_variables effects.now) (λ σ. (s : EffectSet) × (effects_under σ effects.now ≡ Some s) × (effects_of s ≡ labels.now)) found.old found.new) }
 {
     match effects.tail {
         RowTail::Closed => Ok(()),
-        RowTail::Var(number) => {
+        RowTail::Var(variable) => {
             let left = those_without(alloc, labels, effects.labels.as_slice())?;
-            Ok(found.bind_effects(number, left)?)
+            Ok(found.bind_effects(variable, left)?)
         }
     }
 }

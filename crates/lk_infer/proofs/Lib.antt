@@ -27,7 +27,6 @@ pub mod ProgramAnswers
 pub mod Restricted
 pub mod ShownUnfold
 pub mod SolvedWalks
-pub mod SpentNodes
 pub mod Unions
 pub mod WalkAnswers
 pub mod WalkSteps

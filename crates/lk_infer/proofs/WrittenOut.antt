@@ -10,12 +10,3 @@ pub two_first : (ts : List Ty) (a b : Ty) → slice_get ts 0 ≡ Some a → slic
 two_first [] a b first second = absurd (none-some a first)
 two_first (x ∷ []) a b first second = absurd (none-some b second)
 two_first (x ∷ y ∷ ts) a b first second = ap (λ z. z ∷ (y ∷ ts)) (same_some first) ∙ ap (λ z. a ∷ (z ∷ ts)) (same_some second)
-
--- one type more of those that are written out
-pub tree_more : (ts : List Ty) (i : ℕ) (t : Ty) → slice_get ts i ≡ Some t → take i ts ++ t ∷ [] ≡ take (i + 1) ts
-tree_more [] i t is = absurd (none-some t is)
-tree_more (x ∷ ts) zero t is = ap (λ y. y ∷ []) (let same : x ≡ t = same_some is in sym same)
-tree_more (x ∷ ts) (suc i) t is = ap (λ ys. x ∷ ys) (tree_more ts i t is) ∙ ap (λ n. take n (x ∷ ts)) (one_more i)
-  where
-    one_more : (i : ℕ) → suc (i + 1) ≡ suc i + 1
-    one_more i = omega arith

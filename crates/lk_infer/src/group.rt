@@ -15,9 +15,9 @@ use crate::error::InferError;
 use crate::late::{first_node, refuse_late};
 use crate::schemes::schemes_of;
 use crate::solving::solve_walk;
-use lk_ast::{Decl, List, NoMemory};
+use lk_ast::{Decl, List};
 use lk_equations::{Scope, Tables};
-use lk_types::{Scheme, Ty, Types};
+use lk_types::{Scheme, Types};
 use lk_typing::typing_laws;
 use lk_walk::{GroupWalk, walk_group};
 use std::alloc::Global;
@@ -28,18 +28,7 @@ pub struct Group {
     /// The scheme of each function, in text order.
     pub schemes: List<Scheme>,
     /// The type of each node, in pre-order.
-    pub types: List<Ty>,
-}
-
-/// These types by themselves, each with all its parts.
-fn written_out(alloc: Global, types: &Types) -> Result<List<Ty>, NoMemory>
-    ensures { IfOk result (λ all. all ≡ types.now) }
-{
-    let mut all = List::new(alloc);
-    for number in 0..types.len() {
-        all.push(types.tree(alloc, number)?)?;
-    }
-    Ok(all)
+    pub types: Types,
 }
 
 /// Schemes of the functions and types of the nodes, by what a walk says of them.
@@ -56,8 +45,7 @@ fn generalise(alloc: Global, walk: GroupWalk) -> Result<Group, InferError>
     let nodes = walk.nodes.len();
     let all = solve_walk(alloc, walk)?;
     let schemes = schemes_of(alloc, &all, functions)?;
-    let inside = all.part(alloc, functions, nodes)?;
-    let types = written_out(alloc, &inside)?;
+    let types = all.part(alloc, functions, nodes)?;
     Ok(Group { schemes, types })
 }
 

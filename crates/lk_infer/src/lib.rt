@@ -13,7 +13,6 @@ mod lacks;
 mod late;
 mod program;
 mod schemes;
-mod sizes;
 mod solving;
 mod typed;
 

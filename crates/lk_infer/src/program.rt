@@ -16,12 +16,11 @@ ghost use Rattle.std.specs.Prelude.{◌≡◌, ◌++◌, ◌||◌, [], false, Er
 use crate::declare::declare;
 use crate::error::InferError;
 use crate::group::{Group, infer_group};
-use crate::sizes::any_large;
 use crate::typed::Typed;
 use lk_ast::{Decl, List, NoMemory};
 use lk_equations::{Scope, Tables};
 use lk_names::Scoped;
-use lk_types::{Scheme, Ty};
+use lk_types::{Scheme, Types};
 use lk_typing::typing_laws;
 use std::alloc::Global;
 
@@ -35,22 +34,12 @@ fn append_schemes(schemes: &mut List<Scheme>, others: List<Scheme>) -> Result<()
     Ok(())
 }
 
-/// Adds types to others.
-fn append_types(types: &mut List<Ty>, others: List<Ty>) -> Result<(), NoMemory>
-    ensures { OnOk result (types.new ≡ types.old ++ others) }
-{
-    for ty in others.into_vec() {
-        types.push(ty)?;
-    }
-    Ok(())
-}
-
 /// What is inferred of the declarations so far.
 pub struct Inference<'p> {
     /// The functions with their schemes, as later ones see them.
     pub earlier: Scope<'p, Scheme>,
     pub schemes: List<Scheme>,
-    pub types: List<Ty>,
+    pub types: Types,
     /// Whether a type of a node is too large.
     pub large: bool,
 }
@@ -66,7 +55,7 @@ impl<'p> Inference<'p> {
         Inference {
             earlier: Scope::new(alloc),
             schemes: List::new(alloc),
-            types: List::new(alloc),
+            types: Types::new(alloc),
             large: false,
         }
     }
@@ -109,10 +98,11 @@ pub fn add_group<'p>(
     ensures types { OnOk result (so_far.new.types ≡ so_far.old.types ++ group.types) }
     ensures large { OnOk result (so_far.new.large ≡ (so_far.old.large || some_large group.types)) }
 {
-    so_far.large |= any_large(group.types.as_slice());
+    let large = group.types.any_large(alloc)?;
+    so_far.large |= large;
     declare(alloc, &mut so_far.earlier, decl, group.schemes.as_slice())?;
     append_schemes(&mut so_far.schemes, group.schemes)?;
-    append_types(&mut so_far.types, group.types)?;
+    so_far.types.append(group.types)?;
     Ok(())
 }
 

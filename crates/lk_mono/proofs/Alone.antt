@@ -1,5 +1,5 @@
 -- No node of a typed expression both compares and is a query, an update or a deletion.
-use Rattle.std.proofs.Common.{◌≡◌, Bool, true, List, [], ◌++◌, None, Some}
+use Rattle.std.proofs.Common.{◌≡◌, Bool, true, List, ◌++◌, Some}
 use Rattle.std.proofs.lemmas.Option.{none-some}
 use Rattle.lk_ast.specs.declared.declaration.TableDecl.{TableDecl}
 use Rattle.lk_ast.specs.declared.expression.Case.{Case}

@@ -1,25 +1,23 @@
 -- Both lists of instances, from the walks that make them.
-use Rattle.std.proofs.Common.{◌≡◌, ◌⊎◌, ℕ, suc, ◌+◌, ◌<◌, ◌≤◌, Bool, true, false, ◌||◌, not, List, [], ◌∷◌, ◌++◌, Option, Some, None, if◌then◌else◌, length, map, slice_get, refl, sym, ap, subst, ◌∙◌}
+use Rattle.std.proofs.Common.{◌≡◌, ℕ, suc, ◌+◌, ◌<◌, ◌≤◌, Bool, true, false, not, List, [], ◌∷◌, ◌++◌, Option, Some, None, if◌then◌else◌, length, slice_get, refl, sym, ap, subst, ◌∙◌}
 use Rattle.std.proofs.lemmas.List.{length-map}
 use Rattle.std.proofs.lemmas.Option.{slice_get_within}
 use native.Mathlib.Omega.{arith}
 use Rattle.lk_types.proofs.Parts.{same_some}
 use Rattle.lk_ground_types.proofs.Variables.{true_false}
 use Rattle.lk_mono.proofs.Growing.{in_front}
-use Rattle.lk_mono.proofs.MadeUses.{all_made_uses}
-use Rattle.lk_mono.specs.Held.{AreHeld, IsHeld, IsSound, IsSource}
-use Rattle.lk_mono.specs.Instances.{AreDistinct, AreGathered, AreHelpers, AreInstances, AreMains, AreTooMany, Body, EndsFull, EndsLarge, HasBody, IsBody, IsDone, IsMain, IsTooLarge, Wanted, everywhere, first_large, most_instances, outside, own_turn, turn_of, uses_among, uses_of, with_use, within_blocks}
+use Rattle.lk_mono.specs.Held.{AreHeld, IsSound}
+use Rattle.lk_mono.specs.Instances.{AreDistinct, AreGathered, AreHelpers, AreMains, AreTooMany, Body, EndsFull, EndsLarge, HasBody, IsDone, IsMain, IsTooLarge, Wanted, everywhere, most_instances, outside, own_turn, turn_of, uses_among, uses_of, with_use, within_blocks}
 use Rattle.lk_mono.specs.Listed.{AreFound, AreListedIn, IsListedAt}
-use Rattle.lk_mono.specs.Queues.{as_list, as_use, is_made}
+use Rattle.lk_mono.specs.Queues.{as_list, as_use}
 use Rattle.lk_mono.specs.Steps.{AllWalked, Gathered, StopsFull, StopsLarge}
 use Rattle.lk_mono.specs.declared.body.Body.{Body as TheBody}
 use Rattle.lk_mono.specs.declared.body.Source.{Source}
-use Rattle.lk_mono.specs.declared.listing.Instances.{Instances}
 use Rattle.lk_mono.specs.declared.queue.Queue.{Queue}
 use Rattle.lk_mono.specs.declared.queue.Use.{Use as TheUse}
 use Rattle.lk_ast.specs.declared.declaration.Program.{Program}
 use Rattle.lk_ast.specs.declared.place.Span.{Span}
-use Rattle.lk_sound.specs.Nodes.{Use, TypedNode, nodes_of}
+use Rattle.lk_sound.specs.Nodes.{Use, TypedNode}
 use Rattle.lk_principal.specs.Law.{IsInstanceOf}
 use Rattle.lk_types.specs.Each.{Each, OneOf}
 use Rattle.lk_types.specs.declared.scheme.Scheme.{Scheme}
@@ -53,28 +51,22 @@ module _ (P : Use → Type 0) (wanted : Wanted) where
     at_nodes nodes (rest_of (wanted node.part.inside) node.part.use_of (uses_among wanted nodes) all),
   )
 
--- ---- what is made
-
-made_of_body : (p : _) (schemes : _) (types : _) (body : Body) → IsBody p schemes types body.use_of body.nodes → first_large body.nodes ≡ None → Each (λ u. is_made u ≡ true) (uses_among everywhere body.nodes)
-made_of_body p schemes types body is fits =
-    subst (λ nodes. Each (λ u. is_made u ≡ true) (uses_among everywhere nodes)) (sym is.are) (all_made_uses false is.typed.is.typed.body (sym (ap first_large is.are) ∙ fits) everywhere)
-
 -- ---- nodes of instances
 
 module _ (mains helpers : List Use) where
-  main_node : (node : TypedNode) → At (IsIn mains) outside node → At (IsIn helpers) within_blocks node → At (λ u. is_made u ≡ true) everywhere node → IsListedAt mains helpers false node
-  main_node node out within made u is = (by_side node.part.inside refl, made u is refl) where
+  main_node : (node : TypedNode) → At (IsIn mains) outside node → At (IsIn helpers) within_blocks node → IsListedAt mains helpers false node
+  main_node node out within u is = by_side node.part.inside refl where
     by_side : (b : Bool) → node.part.inside ≡ b → IsIn (if b then helpers else mains) u
     by_side true same = within u is same
     by_side false same = out u is (ap not same)
 
-  main_nodes : (nodes : List TypedNode) → Each (At (IsIn mains) outside) nodes → Each (At (IsIn helpers) within_blocks) nodes → Each (At (λ u. is_made u ≡ true) everywhere) nodes → Each (IsListedAt mains helpers false) nodes
-  main_nodes [] out within made = tt
-  main_nodes (node ∷ nodes) out within made = (main_node node out.0 within.0 made.0, main_nodes nodes out.1 within.1 made.1)
+  main_nodes : (nodes : List TypedNode) → Each (At (IsIn mains) outside) nodes → Each (At (IsIn helpers) within_blocks) nodes → Each (IsListedAt mains helpers false) nodes
+  main_nodes [] out within = tt
+  main_nodes (node ∷ nodes) out within = (main_node node out.0 within.0, main_nodes nodes out.1 within.1)
 
-  helper_nodes : (nodes : List TypedNode) → Each (At (IsIn helpers) everywhere) nodes → Each (At (λ u. is_made u ≡ true) everywhere) nodes → Each (IsListedAt mains helpers true) nodes
-  helper_nodes [] all made = tt
-  helper_nodes (node ∷ nodes) all made = ((λ u is. (all.0 u is refl, made.0 u is refl)), helper_nodes nodes all.1 made.1)
+  helper_nodes : (nodes : List TypedNode) → Each (At (IsIn helpers) everywhere) nodes → Each (IsListedAt mains helpers true) nodes
+  helper_nodes [] all = tt
+  helper_nodes (node ∷ nodes) all = ((λ u is. all.0 u is refl), helper_nodes nodes all.1)
 
   module _ (source : Source) where
     pub mains_listed : (helds : List TheBody) (bodies : List Body) → AreHeld source helds bodies
@@ -82,7 +74,7 @@ module _ (mains helpers : List Use) where
         → Each (AreListedIn mains helpers false) bodies
     mains_listed [] [] held out within = tt
     mains_listed (h ∷ helds) (body ∷ bodies) (AreHeld.more is held) out within = (
-      main_nodes body.nodes (at_nodes _ outside body.nodes out.0) (at_nodes _ within_blocks body.nodes within.0) (at_nodes _ everywhere body.nodes (made_of_body _ _ _ body is.instance is.fits)),
+      main_nodes body.nodes (at_nodes _ outside body.nodes out.0) (at_nodes _ within_blocks body.nodes within.0),
       mains_listed helds bodies held out.1 within.1,
     )
     mains_listed [] (_ ∷ _) held out within = elim held [ ]
@@ -92,7 +84,7 @@ module _ (mains helpers : List Use) where
         → Each (λ (body : Body). Each (IsIn helpers) (uses_among everywhere body.nodes)) bodies → Each (AreListedIn mains helpers true) bodies
     helpers_listed [] [] held all = tt
     helpers_listed (h ∷ helds) (body ∷ bodies) (AreHeld.more is held) all =
-        (helper_nodes body.nodes (at_nodes _ everywhere body.nodes all.0) (at_nodes _ everywhere body.nodes (made_of_body _ _ _ body is.instance is.fits)), helpers_listed helds bodies held all.1)
+        (helper_nodes body.nodes (at_nodes _ everywhere body.nodes all.0), helpers_listed helds bodies held all.1)
     helpers_listed [] (_ ∷ _) held all = elim held [ ]
     helpers_listed (_ ∷ _) [] held all = elim held [ ]
 
@@ -127,11 +119,10 @@ module _ (source : Source) where
   only_one u v i is = let within : i < 1 = slice_get_within (u ∷ []) i v is in omega (arith, within)
 
   pub first_sound : (main : TheUse) (queue : Queue) → queue.listed ≡ main ∷ [] → queue.room ≡ 4095
-      → IsInstanceOf source.program.now source.typed.now.schemes main.name.now main.ty → is_made (as_use main) ≡ true → IsSound source 0 queue
-  first_sound main queue listed room instance made = record {
+      → IsInstanceOf source.program.now source.typed.now.schemes main.name.now main.ty → IsSound source 0 queue
+  first_sound main queue listed room instance = record {
     room = (let count : length queue.listed ≡ 1 = ap length listed in omega (arith, count, room));
     instances = subst (λ l. Each (λ u. IsInstanceOf source.program.now source.typed.now.schemes u.name u.type) (as_list l)) (sym listed) (instance, tt);
-    made = subst (λ l. Each (λ u. is_made u ≡ true) (as_list l)) (sym listed) (made, tt);
     distinct = subst (λ l. AreDistinct (as_list l)) (sym listed) (λ i j u at other. only_one (as_use main) u i at ∙ sym (only_one (as_use main) u j other));
   }
 
@@ -140,7 +131,6 @@ module _ (source : Source) where
   empty_sound mains helpers bodies uses none room sound = record {
     room = (let many : length (uses_of bodies) ≡ length mains.listed = ap length uses ∙ length-map mains.listed as_use in let few : length helpers.listed ≡ 0 = ap length none in let all : 0 + (length mains.listed + mains.room) ≡ most_instances = sound.room in omega (arith, many, few, room, all));
     instances = subst (λ l. Each (λ u. IsInstanceOf source.program.now source.typed.now.schemes u.name u.type) (as_list l)) (sym none) tt;
-    made = subst (λ l. Each (λ u. is_made u ≡ true) (as_list l)) (sym none) tt;
     distinct = subst (λ l. AreDistinct (as_list l)) (sym none) (λ i j u at other. cc);
   }
 

@@ -1,19 +1,15 @@
 -- What the uses among nodes call, found one after another.
-use Rattle.std.proofs.Common.{◌≡◌, ℕ, Bool, true, ◌||◌, List, [], ◌∷◌, ◌++◌, Option, Some, None, if◌then◌else◌, append_assoc, slice_get, refl, sym, ap, subst, ◌∙◌}
+use Rattle.std.proofs.Common.{◌≡◌, ℕ, Bool, ◌||◌, List, [], ◌∷◌, ◌++◌, Some, if◌then◌else◌, append_assoc, slice_get, sym, subst}
 use Rattle.std.proofs.lemmas.List.{append-nil}
 use Rattle.lk_mono.specs.Grounded.{AreAllCalled, AreCalled}
-use Rattle.lk_mono.specs.Held.{AreHeld, AreSited, IsHeld}
+use Rattle.lk_mono.specs.Held.{AreHeld, AreSited}
 use Rattle.lk_mono.specs.Instances.{Body}
 use Rattle.lk_mono.specs.Listed.{AreListedIn, IsListedAt}
 use Rattle.lk_mono.specs.Looks.{TheFound, as_uses}
-use Rattle.lk_mono.specs.Queues.{is_made, made}
 use Rattle.lk_mono.specs.declared.body.Body.{Body as TheBody}
 use Rattle.lk_mono.specs.declared.body.Source.{Source}
 use Rattle.lk_sound.specs.Nodes.{Use, TypedNode}
 use Rattle.lk_types.specs.Each.{Each, OneOf}
-
-made_type : (u : Use) → is_made u ≡ true → made u ≡ Some u.type
-made_type u is = ap (λ b. if b then Some u.type else None) is
 
 module _ (mains helpers : List Use) (in_helper : Bool) where
   -- the list in which it stands
@@ -32,7 +28,7 @@ module _ (mains helpers : List Use) (in_helper : Bool) where
 
   -- the place is that of what is found, where that is listed
   abbrev pub IsPlaceOf : ℕ → TheFound → Type 0
-  IsPlaceOf n f = (u : Use) → f.name ≡ u.name → f.type ≡ Some u.type → OneOf (λ other. other ≡ u) (list_for f.inside) → slice_get (list_for f.inside) n ≡ Some u
+  IsPlaceOf n f = (u : Use) → f.name ≡ u.name → f.type ≡ u.type → OneOf (λ other. other ≡ u) (list_for f.inside) → slice_get (list_for f.inside) n ≡ Some u
 
   next : (f : TheFound) (found : List TheFound) (n : ℕ) → IsPlaceOf n f → (left : List TypedNode) → AreSited left (f ∷ found) → Each (IsListedAt mains helpers in_helper) left → Ahead left (n ∷ []) found
   next f found n place [] sited _ = elim sited [ ]
@@ -40,8 +36,7 @@ module _ (mains helpers : List Use) (in_helper : Bool) where
       let behind : Ahead left (n ∷ []) found = next f found n place left sited listed in
       record { left = behind.left; sited = behind.sited; listed = behind.listed; whole = λ rest called. AreCalled.other none (behind.whole rest called) }
   next f found n place (node ∷ left) (AreSited.use_at {u = u} uses inside name type sited) (first, listed) =
-      let (there, is) = first u uses in
-      let here : slice_get (list_for f.inside) n ≡ Some u = place u name (type ∙ made_type u is) (subst (λ i. OneOf (λ other. other ≡ u) (list_for i)) (sym inside) there) in
+      let here : slice_get (list_for f.inside) n ≡ Some u = place u name type (subst (λ i. OneOf (λ other. other ≡ u) (list_for i)) (sym inside) (first u uses)) in
       record { left = left; sited = sited; listed = listed; whole = λ rest called. AreCalled.called uses (subst (λ i. slice_get (list_for i) n ≡ Some u) inside here) called }
 
   pub goes : (nodes : List TypedNode) (places : List ℕ) (f : TheFound) (found : List TheFound) (n : ℕ) → IsPlaceOf n f → Ahead nodes places (f ∷ found) → Ahead nodes (places ++ n ∷ []) found

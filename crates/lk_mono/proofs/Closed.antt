@@ -1,10 +1,9 @@
 -- The instances of a ground program are a closed set: what they use is among them, their queries are flat, and helpers call only
 -- what stands before them.
-use Rattle.std.proofs.Common.{◌≡◌, inl, inr, ℕ, zero, suc, ◌+◌, ◌<◌, Bool, true, false, ◌||◌, List, [], ◌∷◌, ◌++◌, Option, Some, None, map, find, slice_get, if◌then◌else◌, bytes_eq, cond, refl, sym, ap, ap₂, subst, ◌∙◌, append_assoc, append-nil}
+use Rattle.std.proofs.Common.{◌≡◌, inl, inr, ℕ, zero, suc, ◌+◌, ◌<◌, Bool, true, false, ◌||◌, List, [], ◌∷◌, ◌++◌, Some, find, slice_get, if◌then◌else◌, bytes_eq, cond, refl, sym, ap, ap₂, subst, ◌∙◌, append_assoc, append-nil}
 use native.Mathlib.Omega.{arith}
 use Rattle.std.proofs.lemmas.Option.{none-some}
-use Rattle.std.proofs.lemmas.Slice.Eq.{bytes_eq-Decides}
-use Rattle.lk_ast.specs.Functions.{functions_in, functions_of, function_named, is_main, is_named, main_of}
+use Rattle.lk_ast.specs.Functions.{functions_in, functions_of, is_main, is_named}
 use Rattle.lk_ast.specs.Tables.{tables_of}
 use Rattle.lk_ast.specs.declared.declaration.Decl.{Decl}
 use Rattle.lk_ast.specs.declared.declaration.FunDef.{FunDef}
@@ -18,9 +17,9 @@ use Rattle.lk_ground_types.specs.Shapes.{has_function, is_flat, is_query_type}
 use Rattle.lk_infer.proofs.Principal.{inferred_principal}
 use Rattle.lk_infer.specs.Inferred.{HasTypes}
 use Rattle.lk_mono.proofs.BlockParts.{BlockUses, PartUses, UsesInside, part_uses}
-use Rattle.lk_mono.proofs.BlockUses.{IsFlatPart as IsFlat, each_of_parts}
+use Rattle.lk_mono.proofs.BlockUses.{IsFlatPart as IsFlat}
 use Rattle.lk_mono.proofs.Growing.{appended}
-use Rattle.lk_mono.proofs.HelperUses.{IsClear, IsGood, all_good, good_block}
+use Rattle.lk_mono.proofs.HelperUses.{IsGood, all_good, good_block}
 use Rattle.lk_mono.proofs.Loopless.{IsLoopless, flat_type}
 use Rattle.lk_mono.proofs.MainUses.{is_of_text}
 use Rattle.lk_mono.proofs.Ranks.{lower}
@@ -28,8 +27,7 @@ use Rattle.lk_ground.specs.Language.{function_of as function_in}
 use Rattle.lk_mono.specs.Grounded.{Are, AreCalled, IsGrounded, IsInstance}
 use Rattle.lk_mono.specs.Held.{types_in}
 use Rattle.lk_mono.specs.Instanced.{AreInstancesOf, HasInstances, IsInstanceOf, nodes_in}
-use Rattle.lk_mono.specs.Grounded as grounded
-use Rattle.lk_mono.specs.Instances.{Body, HasBody as HasNodes, IsBody, IsDone, IsMain, IsWalked, Turn, Wanted, uses_of}
+use Rattle.lk_mono.specs.Instances.{Body, HasBody as HasNodes, IsBody, IsWalked, Turn, Wanted, uses_of}
 use Rattle.lk_mono.specs.Shapes.{AreShaped, IsFaultless, IsNotFlat, IsShaped as AllFaultless, IsUsedBy, answer_level, answers_function}
 use Rattle.lk_mono.specs.Shapes as shapes
 use Rattle.lk_mono.specs.declared.error.ShapeKind.TheVariants.{QueryCapture, QueryNotFlat}
@@ -41,14 +39,14 @@ use Rattle.lk_principal.specs.Bodies.{IsSeenBy}
 use Rattle.lk_principal.specs.Law.{UseLaw}
 use Rattle.lk_sound.proofs.Apart.{functions_apart}
 use Rattle.lk_sound.proofs.FlatTypes.{second_holds}
-use Rattle.lk_types.proofs.Members.{each_in, found_in, one_in_back, one_in_front}
+use Rattle.lk_types.proofs.Members.{found_in, one_in_back, one_in_front}
 use Rattle.lk_sound.specs.Functions.{AreSeen, HasFunctionType}
 use Rattle.lk_sound.specs.Instances.{AreClosed, HasBody, Instances, IsFine, IsFlatBlock, IsFlatPart, IsHelperNode, IsListed, IsShaped, number_in, number_of}
 use Rattle.lk_sound.specs.Law.{InstanceLaw}
 use Rattle.lk_sound.specs.Nodes.{Block, Part, TypedNode, Use, nodes_of, parts_of}
 use Rattle.lk_types.specs.Each.{Each, OneOf}
 use Rattle.lk_types.specs.Rows.{EffectSet, Label, effects_of}
-use Rattle.lk_types.specs.declared.ground.Ground.{Ground, out-Ground}
+use Rattle.lk_types.specs.declared.ground.Ground.{Ground}
 use Rattle.lk_types.specs.declared.ground.Ground.TheVariants as known
 use Rattle.lk_types.specs.declared.scheme.Scheme.{Scheme}
 use Rattle.lk_types.specs.declared.ty.Ty.{Ty}

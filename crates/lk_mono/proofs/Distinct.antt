@@ -1,19 +1,15 @@
 -- A list of instances has none twice, and stays so as those that it lacks are put behind it.
-use Rattle.std.proofs.Common.{◌≡◌, ◌⊎◌, inl, inr, ℕ, zero, suc, true, List, [], ◌∷◌, ◌++◌, length, Some, slice_get, refl, sym, ◌∙◌}
+use Rattle.std.proofs.Common.{◌≡◌, ◌⊎◌, inl, inr, ℕ, zero, suc, List, [], ◌∷◌, ◌++◌, length, Some, slice_get, refl, sym, ◌∙◌}
 use native.Mathlib.Omega.{arith}
 use Rattle.std.proofs.lemmas.Option.{none-some}
-use Rattle.lk_mono.specs.Instances.{AreDistinct, IsListed, IsWith}
+use Rattle.lk_mono.specs.Instances.{AreDistinct, IsWith}
 use Rattle.lk_mono.specs.Instances as instances
-use Rattle.lk_mono.specs.Queues.{is_made}
 use Rattle.lk_sound.specs.Nodes.{Use}
 use Rattle.lk_types.proofs.Members.{each_both}
 use Rattle.lk_types.specs.Each.{Each, OneOf}
 
 abbrev IsIn : List Use → Use → Type 0
 IsIn list u = OneOf (λ other. other ≡ u) list
-
-abbrev pub AreMade : List Use → Type 0
-AreMade list = Each (λ u. is_made u ≡ true) list
 
 -- what stands at a place of a list with one behind it
 last_or : (list : List Use) (u : Use) (i : ℕ) (v : Use) → slice_get (list ++ u ∷ []) i ≡ Some v → (slice_get list i ≡ Some v) ⊎ ((i ≡ length list) × (u ≡ v))
@@ -40,11 +36,11 @@ distinct_behind list u distinct lacks i j v first second = by_both (last_or list
     by_both (inr here) (inl other) = absurd (lacks (at_place list j u v other here.1))
     by_both (inr here) (inr other) = here.0 ∙ sym other.0
 
-pub distinct_with : {others : ℕ} (list us longer : List Use) → IsWith others list us longer → AreMade us → AreDistinct list → AreDistinct longer
-distinct_with list [] longer instances.IsWith.nothing made distinct = distinct
-distinct_with list (u ∷ us) longer (instances.IsWith.there listed more) made distinct = distinct_with list us longer more made.1 distinct
-distinct_with list (u ∷ us) longer (instances.IsWith.lacking lacks room more) made distinct =
-    distinct_with (list ++ u ∷ []) us longer more made.1 (distinct_behind list u distinct (λ there. lacks (there, made.0)))
+pub distinct_with : {others : ℕ} (list us longer : List Use) → IsWith others list us longer → AreDistinct list → AreDistinct longer
+distinct_with list [] longer instances.IsWith.nothing distinct = distinct
+distinct_with list (u ∷ us) longer (instances.IsWith.there listed more) distinct = distinct_with list us longer more distinct
+distinct_with list (u ∷ us) longer (instances.IsWith.lacking lacks room more) distinct =
+    distinct_with (list ++ u ∷ []) us longer more (distinct_behind list u distinct lacks)
 
 -- what holds of those in the list and of what is put behind it
 pub each_with : (P : Use → Type 0) {others : ℕ} (list us longer : List Use) → IsWith others list us longer → Each P us → Each P list → Each P longer
@@ -52,6 +48,3 @@ each_with P list [] longer instances.IsWith.nothing each all = all
 each_with P list (u ∷ us) longer (instances.IsWith.there listed more) each all = each_with P list us longer more each.1 all
 each_with P list (u ∷ us) longer (instances.IsWith.lacking lacks room more) each all =
     each_with P (list ++ u ∷ []) us longer more each.1 (each_both P list (u ∷ []) all (each.0, tt))
-
-pub made_with : {others : ℕ} (list us longer : List Use) → IsWith others list us longer → AreMade us → AreMade list → AreMade longer
-made_with list us longer with_them made all = each_with (λ u. is_made u ≡ true) list us longer with_them made all

@@ -7,8 +7,7 @@ use Rattle.lk_mono.specs.Instances.{Body}
 use Rattle.lk_mono.specs.Shapes as Shapes
 use Rattle.lk_mono.specs.Shapes.{AreShaped, Fault, FirstFault, FirstRefused, IsFaultless, IsMisshapen, IsShaped, answers_function}
 use Rattle.lk_mono.specs.declared.error.ShapeKind.{ShapeKind}
-use Rattle.lk_mono.specs.declared.error.ShapeKind.TheVariants.{MainType, EqualityAtFunction, OrderAtNonBase, QueryNotFlat, QueryCapture}
-use Rattle.lk_sound.specs.Nodes.{Block, Comparison, Equality, Order, TypedNode}
+use Rattle.lk_sound.specs.Nodes.{Comparison, Equality, Order, TypedNode}
 use Rattle.lk_types.specs.Each.{Each}
 use Rattle.lk_types.specs.declared.ground.Ground.{Ground}
 

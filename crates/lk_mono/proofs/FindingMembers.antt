@@ -1,6 +1,6 @@
 -- Members as the code has them, and as the definitions do.
-use Rattle.std.proofs.Common.{arith, ◌≡◌, ◌⊎◌, inl, inr, ℕ, Bool, true, false, List, [], ◌∷◌, ◌++◌, Option, Some, None, Bor, refl, ap, ap₂, sym, ◌∙◌, bytes_eq, cond, drop, length, map, take, append_assoc, append-nil}
-use Rattle.std.proofs.lemmas.List.{length-map, map-append}
+use Rattle.std.proofs.Common.{arith, ◌≡◌, ◌⊎◌, inl, inr, ℕ, ◌+◌, ◌<◌, Bool, true, false, List, [], ◌∷◌, ◌++◌, Option, Some, None, Bor, refl, ap, ap₂, sym, ◌∙◌, bytes_eq, cond, drop, length, map, take, append_assoc, append-nil}
+use Rattle.std.proofs.lemmas.List.{drop-drop, drop_all, length-map, map-append}
 use Rattle.std.specs.List.{find}
 use Rattle.std.specs.Option.{option_map}
 use Rattle.lk_ast.specs.declared.declaration.FunDef.{FunDef}
@@ -41,7 +41,7 @@ no_members fs functions program ss schemes left types members none first all sch
 -- one more
 pub members_more : (fs rest : List (Bor FunDef)) (ss srest : List Scheme) (left behind : List Ty) (n : ℕ) (m : Member) (members new : List Member) (all : List TheMember)
     → fs ≡ m.function ∷ rest → ss ≡ m.scheme.now ∷ srest → shown m.sites ≡ body_outline m.function.now.params m.function.now.body
-    → n ≡ length m.sites → m.types.now ≡ take n left → behind ≡ drop n left → new ≡ members ++ (m ∷ [])
+    → n ≡ length m.sites → m.types ≡ take n left → behind ≡ drop n left → new ≡ members ++ (m ∷ [])
     → map as_member members ++ members_of (map (λ f. f.now) fs) ss left ≡ all → map as_member new ++ members_of (map (λ f. f.now) rest) srest behind ≡ all
 members_more fs rest ss srest left behind n m members new all first scheme outline number own others pushed before =
     ap (λ xs. map as_member xs ++ members_of (map (λ f. f.now) rest) srest behind) pushed
@@ -71,3 +71,13 @@ none_left (f ∷ fs) (s ∷ ss) left (inr none) = absurd (omega (arith, none))
 pub all_members : (fs : List (Bor FunDef)) (ss : List Scheme) (left : List Ty) (members : List Member) (all : List TheMember) → (length fs ≡ 0) ⊎ (length ss ≡ 0)
     → map as_member members ++ members_of (map (λ f. f.now) fs) ss left ≡ all → map as_member members ≡ all
 all_members fs ss left members all none before = sym (append-nil (map as_member members)) ∙ ap (λ xs. map as_member members ++ xs) (sym (none_left fs ss left none)) ∙ before
+
+-- ---- places among the types
+
+pub behind_some : (types : List Ty) (from size place : ℕ) → place ≡ from + size → drop place types ≡ drop size (drop from types)
+behind_some types from size place is = ap (λ k. drop k types) is ∙ sym (drop-drop size from types)
+
+-- more than there are
+pub behind_all : (types : List Ty) (from size count : ℕ) → count ≡ length types → count < 18446744073709551616 → (from + size < 18446744073709551616 → ⊥) → drop count types ≡ drop size (drop from types)
+behind_all types from size count is fits beyond =
+    drop_all count types (omega (arith, is)) ∙ sym (drop-drop size from types ∙ drop_all (from + size) types (omega (arith, is, fits, beyond)))

@@ -1,5 +1,5 @@
 -- Functions of a ground program, made of instances one after another.
-use Rattle.std.proofs.Common.{◌≡◌, ℕ, suc, ◌+◌, ◌⊎◌, inl, inr, length, Bool, List, [], ◌∷◌, ◌++◌, Some, map, append_assoc, refl, sym, ap, subst, ◌∙◌}
+use Rattle.std.proofs.Common.{◌≡◌, ℕ, suc, ◌+◌, ◌⊎◌, inl, inr, length, Bool, List, [], ◌∷◌, ◌++◌, Some, append_assoc, refl, sym, ap, subst, ◌∙◌}
 use Rattle.std.proofs.lemmas.List.{append-nil}
 use native.Mathlib.Omega.{arith}
 use Rattle.lk_ground.specs.Language.{function_of}

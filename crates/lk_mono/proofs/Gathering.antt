@@ -96,7 +96,7 @@ module _ (helds : List TheBody) (start : Queue) (number : ℕ) (now : Queue) (ga
       further : ok ≡ true → IsGathering source others bodies start (1 + number) new
       further all =
           let more : IsGrown law source is its.body.use_of its.body.nodes its.is_held.instance within_blocks others now new =
-          grown law source is its.body.use_of its.body.nodes its.is_held.instance within_blocks others now new so_far.sound its.is_held.fits (added true all) in
+          grown law source is its.body.use_of its.body.nodes its.is_held.instance within_blocks others now new so_far.sound (added true all) in
           let first : AreIn (as_list new.listed) within_blocks (take number bodies) =
           still_are (as_list now.listed) (uses_among within_blocks its.body.nodes) (as_list new.listed) more.more within_blocks (take number bodies) so_far.listed in
           let next : suc number ≡ 1 + number = omega arith in

@@ -1,11 +1,10 @@
 -- Lists of instances that grow by what an instance uses.
-use Rattle.std.proofs.Common.{◌≡◌, inl, inr, ℕ, true, false, List, [], ◌∷◌, ◌++◌, Some, None, refl, sym, subst, ◌∙◌, append_assoc, append-nil}
-use Rattle.lk_mono.proofs.Distinct.{AreMade}
-use Rattle.lk_mono.proofs.MadeUses.{all_made_uses, each_among}
+use Rattle.std.proofs.Common.{◌≡◌, inl, inr, ℕ, true, false, List, [], ◌∷◌, ◌++◌, Some, refl, sym, subst, ◌∙◌, append_assoc, append-nil}
+use Rattle.lk_mono.proofs.Among.{each_among}
 use Rattle.lk_mono.proofs.MayUse.{may_use}
 use Rattle.lk_mono.proofs.Queued.{more_listed, more_sound}
 use Rattle.lk_mono.specs.Held.{IsSound, IsSource}
-use Rattle.lk_mono.specs.Instances.{Body, IsBody, IsFull, IsWith, Wanted, first_large, uses_among}
+use Rattle.lk_mono.specs.Instances.{Body, IsBody, IsFull, IsWith, Wanted, uses_among}
 use Rattle.lk_mono.specs.Instances as instances
 use Rattle.lk_mono.specs.Queues.{IsAdded, IsQueueOf, as_list}
 use Rattle.lk_mono.specs.Queues as queues
@@ -51,7 +50,7 @@ still_in list us longer more u there =
 -- each of those that were to be in it is
 pub all_in : {others : ℕ} (list us longer : List Use) → IsWith others list us longer → Each (IsIn longer) us
 all_in list [] longer instances.IsWith.nothing = tt
-all_in list (u ∷ us) longer (instances.IsWith.there listed more) = (still_in list us longer more u listed.0, all_in list us longer more)
+all_in list (u ∷ us) longer (instances.IsWith.there listed more) = (still_in list us longer more u listed, all_in list us longer more)
 all_in list (u ∷ us) longer (instances.IsWith.lacking lacks room more) = (still_in (list ++ u ∷ []) us longer more u (at_end list u), all_in (list ++ u ∷ []) us longer more)
 
 still_each : {others : ℕ} (list us longer : List Use) → IsWith others list us longer → (them : List Use) → Each (IsIn list) them → Each (IsIn longer) them
@@ -86,17 +85,13 @@ module _ (law : UseLaw) (source : Source) (is : IsSource source) where
           each_becomes nodes all.1,
         )
 
-    -- and made, where the types of its nodes aren't too large
-    uses_made : first_large nodes ≡ None → AreMade (uses_among wanted nodes)
-    uses_made none = subst (λ nodes. AreMade (uses_among wanted nodes)) (sym body.are) (all_made_uses false body.typed.is.typed.body (subst (λ nodes. first_large nodes ≡ None) body.are none) wanted)
-
     -- the list with what the instance uses
     pub record IsGrown (others : ℕ) (old new : Queue) : Type 0 where
       pub more : IsWith others (as_list old.listed) (uses_among wanted nodes) (as_list new.listed)
       pub sound : IsSound source others new
 
-    pub grown : (others : ℕ) (old new : Queue) → IsSound source others old → first_large nodes ≡ None → IsAdded others (as_list old.listed) (uses_among wanted nodes) new true → IsGrown others old new
-    grown others old new sound none (queues.all {longer} more queued) = record {
-      more = more_listed source others old new (uses_among wanted nodes) longer sound more queued (uses_made none);
-      sound = more_sound source others old new (uses_among wanted nodes) longer sound more queued (uses_made none) uses_instances;
+    pub grown : (others : ℕ) (old new : Queue) → IsSound source others old → IsAdded others (as_list old.listed) (uses_among wanted nodes) new true → IsGrown others old new
+    grown others old new sound (queues.all {longer} more queued) = record {
+      more = more_listed source others old new (uses_among wanted nodes) longer sound more queued;
+      sound = more_sound source others old new (uses_among wanted nodes) longer sound more queued uses_instances;
     }

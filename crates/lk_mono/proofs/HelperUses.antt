@@ -6,7 +6,7 @@ use Rattle.lk_mono.proofs.BlockUses.{HasGoodBlock, IsFlatPart, IsGoodBlock, Uses
 use Rattle.lk_mono.proofs.FlatUses.{UsesLoopless, flat_uses}
 use Rattle.lk_mono.proofs.Growing.{appended}
 use Rattle.lk_mono.proofs.Loopless.{IsLoopless, function_recurs, is_recursive_type}
-use Rattle.lk_mono.proofs.MadeUses.{each_among}
+use Rattle.lk_mono.proofs.Among.{each_among}
 use Rattle.lk_mono.proofs.Ones.{each_as}
 use Rattle.lk_mono.proofs.SameNodes.{same_nodes}
 use Rattle.lk_mono.specs.Instances.{AreInstances, Body, HasBody, IsBody, IsWalked, IsWith, everywhere, own_turn, turn_of, uses_among, uses_of, with_use, within_blocks}

@@ -1,5 +1,5 @@
 -- A program's instances are fixed, and where they can't be listed, the reason is.
-use Rattle.std.proofs.Common.{◌≡◌, ℕ, List, [], ◌∷◌, Some, slice_get, length, refl, sym, ap, ap₂, subst, ◌∙◌}
+use Rattle.std.proofs.Common.{◌≡◌, List, [], ◌∷◌, Some, slice_get, length, refl, sym, ap, ap₂, subst, ◌∙◌}
 use Rattle.lk_ast.specs.Functions.{functions_of}
 use Rattle.lk_ast.specs.declared.declaration.FunDef.{FunDef}
 use Rattle.lk_ast.specs.declared.declaration.Program.{Program}
@@ -13,7 +13,7 @@ use Rattle.lk_names.specs.Programs.{IsBound}
 use Rattle.lk_outline.specs.Law.{OutlineLaw}
 use Rattle.lk_principal.proofs.FunctionNames.{one_place}
 use Rattle.lk_sound.proofs.Apart.{functions_apart}
-use Rattle.lk_sound.specs.Nodes.{TypedNode, Use}
+use Rattle.lk_sound.specs.Nodes.{Use}
 use Rattle.lk_types.specs.Each.{Each}
 use Rattle.lk_types.specs.Grounding.{under}
 use Rattle.lk_types.specs.declared.scheme.Scheme.{Scheme}

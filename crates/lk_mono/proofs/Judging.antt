@@ -1,5 +1,5 @@
 -- What is answered for a whole program, from its instances and their shapes.
-use Rattle.std.proofs.Common.{◌≡◌, ℕ, ◌<◌, Bool, Err, length, true, false, List, [], ◌∷◌, Option, Some, None, map, slice_get, refl, sym, ap, subst, ◌∙◌}
+use Rattle.std.proofs.Common.{◌≡◌, ℕ, ◌<◌, Bool, Err, length, true, false, List, [], ◌∷◌, Option, Some, None, slice_get, refl, sym, ap, subst, ◌∙◌}
 use native.Mathlib.Omega.{arith}
 use Rattle.lk_ast.specs.declared.place.Span.{Span}
 use Rattle.lk_types.proofs.Parts.{same_some}
@@ -10,7 +10,7 @@ use Rattle.lk_mono.specs.Held.{AreHeld}
 use Rattle.lk_mono.specs.Judged.{Judged}
 use Rattle.lk_mono.specs.Listed.{AreFound, AreListedIn}
 use Rattle.lk_mono.specs.Queues.{as_list, as_use}
-use Rattle.lk_mono.specs.Shapes.{AreShaped, IsMisshapen, IsShaped, FirstRefused, answers_function}
+use Rattle.lk_mono.specs.Shapes.{AreShaped, IsMisshapen, answers_function}
 use Rattle.lk_mono.specs.declared.body.Body.{Body as TheBody}
 use Rattle.lk_mono.specs.declared.body.Source.{Source}
 use Rattle.lk_mono.specs.declared.error.MonoError.{MonoError}

@@ -1,4 +1,5 @@
 pub mod Alone
+pub mod Among
 pub mod Behind
 pub mod BlockParts
 pub mod BlockUses
@@ -10,8 +11,7 @@ pub mod Distinct
 pub mod Faults
 pub mod FaultsOnce
 pub mod FindingMembers
-pub mod FirstNode
-pub mod Fitting
+pub mod FirstLarge
 pub mod Flags
 pub mod FlatUses
 pub mod FunctionLists
@@ -25,17 +25,16 @@ pub mod Judging
 pub mod Keeping
 pub mod Looking
 pub mod Loopless
-pub mod MadeTypes
-pub mod MadeUses
 pub mod MainAnswers
 pub mod MainFirst
-pub mod MainTypes
 pub mod MainUses
 pub mod Marks
 pub mod MayUse
 pub mod MembersAt
 pub mod NodeTypes
 pub mod Nothing
+pub mod Numbering
+pub mod NumbersGrown
 pub mod OneAnswer
 pub mod Ones
 pub mod OwnMembers

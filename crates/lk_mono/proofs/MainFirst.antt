@@ -2,7 +2,6 @@
 use Rattle.std.proofs.Common.{◌≡◌, false, List, [], ◌∷◌, Some, refl, slice_get, sym, ap, ◌∙◌}
 use Rattle.std.proofs.lemmas.Option.{none-some}
 use Rattle.lk_ast.specs.Functions.{functions_of, function_named, is_main, main_of}
-use Rattle.lk_ast.specs.declared.declaration.FunDef.{FunDef}
 use Rattle.lk_ast.specs.declared.declaration.Program.{Program}
 use Rattle.lk_ground.specs.Language.{function_of, instance}
 use Rattle.lk_ground.specs.declared.program.GroundFun.{GroundFun}

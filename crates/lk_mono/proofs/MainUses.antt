@@ -1,42 +1,36 @@
 -- The first instance: `main` at its least type.
-use Rattle.std.proofs.Common.{◌≡◌, ℕ, ◌+◌, ◌<◌, Bool, true, false, ◌&&◌, ◌==◌, codes, List, [], ◌∷◌, ◌++◌, Option, Some, None, length, map, find, slice_get, refl, sym, ap, subst, ◌∙◌}
+use Rattle.std.proofs.Common.{◌≡◌, ℕ, Bool, true, false, ◌&&◌, ◌==◌, codes, List, [], ◌∷◌, Some, None, length, slice_get, refl, sym, ap, subst, ◌∙◌}
 use Rattle.std.proofs.lemmas.Bool.{eqb-true}
 use Rattle.std.proofs.lemmas.List.{length-map}
 use Rattle.std.proofs.lemmas.Option.{none-some}
-use Rattle.std.specs.Option.{option_map}
 use native.Mathlib.Omega.{arith}
 use Rattle.lk_ast.specs.Functions.{functions_of, function_named, is_client, is_main, is_named, main_of}
 use Rattle.lk_ast.specs.declared.declaration.FunDef.{FunDef}
 use Rattle.lk_ast.specs.declared.declaration.Program.{Program}
 use Rattle.lk_ast.specs.declared.declaration.TableDecl.{TableDecl}
-use Rattle.lk_ast.specs.declared.place.Span.{Span}
-use Rattle.lk_ast.specs.declared.place.Word.{Word}
-use Rattle.lk_types.proofs.Parts.{mapped, same_some}
+use Rattle.lk_types.proofs.Parts.{same_some}
 use Rattle.lk_ground_types.proofs.Variables.{true_false}
 use Rattle.lk_ground_types.specs.Least.{least}
-use Rattle.lk_ground_types.specs.Sizes.{within}
 use Rattle.lk_infer.specs.Inferred.{HasTypes}
 use Rattle.lk_mono.proofs.MembersAt.{IsMemberAt, IsNamedAt, member_at, named_at}
-use Rattle.lk_mono.specs.Instances.{IsMain, can_be_made, fits}
-use Rattle.lk_mono.specs.Mains.{IsOfText, made_of_text, of_text}
+use Rattle.lk_mono.specs.Mains.{of_text}
 use Rattle.lk_mono.specs.Members.{TheMember, members_of, named_member}
 use Rattle.lk_names.specs.Programs.{IsBound}
-use Rattle.lk_sound.specs.Nodes.{Use}
 use Rattle.lk_principal.proofs.FunctionNames.{found_named}
-use Rattle.lk_principal.specs.Bodies.{IsTyped, IsTypedLeast, shares}
-use Rattle.lk_principal.specs.Law.{BodyLaw, IsInstanceOf, LeastLaw, SchemesLaw}
+use Rattle.lk_principal.specs.Bodies.{IsTypedLeast, shares}
+use Rattle.lk_principal.specs.Law.{BodyLaw, LeastLaw, SchemesLaw}
 use Rattle.lk_sound.proofs.Apart.{functions_apart}
 use Rattle.lk_types.proofs.Members.{found_in}
-use Rattle.lk_types.specs.Each.{Each, OneOf}
-use Rattle.lk_types.specs.Rows.{EffectSet, Label, effects_of}
+use Rattle.lk_types.specs.Each.{Each}
+use Rattle.lk_types.specs.Rows.{EffectSet, effects_of}
 use Rattle.lk_types.specs.Schemes.{IsInstance}
-use Rattle.lk_types.specs.declared.ground.Ground.{Ground, out-Ground}
+use Rattle.lk_types.specs.declared.ground.Ground.{Ground}
 use Rattle.lk_types.specs.declared.ground.Ground.TheVariants as known
 use Rattle.lk_types.specs.declared.scheme.Scheme.{Scheme}
 use Rattle.lk_types.specs.declared.ty.Effect.{Effect}
 use Rattle.lk_types.specs.declared.ty.Ty.{Ty}
 use Rattle.lk_typing.specs.Groups.{IsFunction}
-use Rattle.lk_typing.specs.Names.{Named, Entry, names_of, types_of, texts}
+use Rattle.lk_typing.specs.Names.{Named, Entry, types_of}
 use Rattle.lk_typing.specs.Types.{function_of}
 
 and_left : (a b : Bool) → (a && b) ≡ true → a ≡ true

@@ -1,5 +1,5 @@
 -- A program is refused for one reason at the most, and one that has a ground program for none.
-use Rattle.std.proofs.Common.{◌≡◌, false, List, [], ◌∷◌, Some, refl, sym, ap, ap₂, subst, ◌∙◌}
+use Rattle.std.proofs.Common.{◌≡◌, false, List, [], ◌∷◌, refl, sym, ap, ap₂, subst, ◌∙◌}
 use Rattle.lk_ast.specs.declared.declaration.FunDef.{FunDef}
 use Rattle.lk_ast.specs.declared.declaration.Program.{Program}
 use Rattle.lk_ast.specs.declared.place.Span.{Span}
@@ -9,7 +9,7 @@ use Rattle.lk_mono.proofs.Alone.{IsAlone, all_alone}
 use Rattle.lk_mono.proofs.FaultsOnce.{AreSame, misshapen_once, shaped_fine}
 use Rattle.lk_mono.proofs.InstancesOnce.{instances_once, listed_small, listed_within, many_or_large, too_large_once}
 use Rattle.lk_mono.specs.Grounded.{IsGrounded}
-use Rattle.lk_mono.specs.Instances.{Body, HasBody, IsBody}
+use Rattle.lk_mono.specs.Instances.{Body, HasBody}
 use Rattle.lk_mono.specs.Law.{GroundedLaw, IsRefused, RefusedLaw}
 use Rattle.lk_mono.specs.Refused.{HasFault}
 use Rattle.lk_mono.specs.Shapes.{AreShaped, IsMisshapen}

@@ -1,12 +1,8 @@
 -- What the sessions of a ground program show has no function in it, and the sessions of the ground program and of its program have
 -- the same events.
-use Rattle.std.proofs.Common.{◌≡◌, ℕ, false, ◌||◌, List, [], ◌∷◌, ◌++◌, Some, refl, sym, ap, subst, ◌∙◌}
-use Rattle.std.specs.List.{list_any}
+use Rattle.std.proofs.Common.{◌≡◌, ℕ, false, ◌||◌, List, [], ◌∷◌, ◌++◌, refl, sym, ap, subst, ◌∙◌}
 use Rattle.lk_ast.proofs.PlainRows.{rows_plain}
-use Rattle.lk_ast.specs.Functions.{main_of}
-use Rattle.lk_ast.specs.Plain.{holds_function}
 use Rattle.lk_ast.specs.Rows.{rows_value}
-use Rattle.lk_ast.specs.declared.declaration.FunDef.{FunDef}
 use Rattle.lk_ast.specs.declared.declaration.Program.{Program}
 use Rattle.lk_ast.specs.declared.event.Event.{Event}
 use Rattle.lk_ast.specs.declared.event.Event.TheVariants as event
@@ -18,7 +14,6 @@ use Rattle.lk_evaluation.specs.Source.{session}
 use Rattle.lk_ground.proofs.AlikePlain.{plain_events}
 use Rattle.lk_ground.specs.Alike.{Alike}
 use Rattle.lk_ground.specs.Language.{function_of}
-use Rattle.lk_ground.specs.declared.program.GroundFun.{GroundFun}
 use Rattle.lk_ground.specs.declared.program.GroundProgram.{GroundProgram}
 use Rattle.lk_types.proofs.Parts.{same_some}
 use Rattle.lk_ground_types.specs.Shapes.{has_function}

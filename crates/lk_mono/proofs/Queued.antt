@@ -1,12 +1,11 @@
--- A list of instances that are all made is the code's own list, and stays so with others behind it that are.
-use Rattle.std.proofs.Common.{◌≡◌, ℕ, ◌+◌, cond, List, [], ◌∷◌, length, refl, sym, ap, subst, ◌∙◌}
+-- A list of instances is the code's own list, and stays so with others behind it.
+use Rattle.std.proofs.Common.{◌≡◌, ℕ, ◌+◌, List, length, refl, sym, ap, subst, ◌∙◌}
 use native.Mathlib.Omega.{arith}
 use Rattle.std.proofs.lemmas.List.{length-map}
-use Rattle.std.specs.List.{filter}
-use Rattle.lk_mono.proofs.Distinct.{AreMade, distinct_with, each_with, made_with}
+use Rattle.lk_mono.proofs.Distinct.{distinct_with, each_with}
 use Rattle.lk_mono.specs.Held.{IsSound}
 use Rattle.lk_mono.specs.Instances.{IsWith, most_instances}
-use Rattle.lk_mono.specs.Queues.{IsQueueOf, as_list, as_use, is_made}
+use Rattle.lk_mono.specs.Queues.{IsQueueOf, as_list, as_use}
 use Rattle.lk_mono.specs.declared.body.Source.{Source}
 use Rattle.lk_mono.specs.declared.queue.Queue.{Queue}
 use Rattle.lk_mono.specs.declared.queue.Use.{Use as TheUse}
@@ -14,15 +13,8 @@ use Rattle.lk_sound.specs.Nodes.{Use}
 use Rattle.lk_principal.specs.Law.{IsInstanceOf}
 use Rattle.lk_types.specs.Each.{Each}
 
-pub kept_all : (list : List Use) → AreMade list → filter is_made list ≡ list
-kept_all [] made = refl
-kept_all (u ∷ us) made = ap (λ b. cond b (u ∷ filter is_made us) (filter is_made us)) made.0 ∙ ap (λ rest. u ∷ rest) (kept_all us made.1)
-
-as_many : (listed : List TheUse) → length (as_list listed) ≡ length listed
+pub as_many : (listed : List TheUse) → length (as_list listed) ≡ length listed
 as_many listed = length-map listed as_use
-
-pub listed_all : (others : ℕ) (list : List Use) (queue : Queue) → IsQueueOf others list queue → AreMade list → as_list queue.listed ≡ list
-listed_all others list queue q made = q.listed ∙ kept_all list made
 
 room_kept : (others n m room : ℕ) → n ≡ m → others + (n + room) ≡ most_instances → others + (m + room) ≡ most_instances
 room_kept others n m room same is = omega arith
@@ -30,22 +22,18 @@ room_kept others n m room same is = omega arith
 module _ (source : Source) (others : ℕ) where
   pub sound_queue : (queue : Queue) → IsSound source others queue → IsQueueOf others (as_list queue.listed) queue
   sound_queue queue sound = record {
-    listed = sym (kept_all (as_list queue.listed) sound.made);
+    listed = refl;
     room = room_kept others (length queue.listed) (length (as_list queue.listed)) queue.room (sym (as_many queue.listed)) sound.room;
   }
 
-  -- with instances behind it that can be made
-  module _ (old new : Queue) (us longer : List Use) (sound : IsSound source others old) (more : IsWith others (as_list old.listed) us longer) (queue : IsQueueOf others longer new) (made : AreMade us) where
-    pub longer_listed : longer ≡ as_list new.listed
-    longer_listed = sym (listed_all others longer new queue (made_with (as_list old.listed) us longer more made sound.made))
-
+  -- with instances behind it
+  module _ (old new : Queue) (us longer : List Use) (sound : IsSound source others old) (more : IsWith others (as_list old.listed) us longer) (queue : IsQueueOf others longer new) where
     pub more_listed : IsWith others (as_list old.listed) us (as_list new.listed)
-    more_listed = subst (IsWith others (as_list old.listed) us) longer_listed more
+    more_listed = subst (IsWith others (as_list old.listed) us) (sym queue.listed) more
 
     pub more_sound : Each (λ u. IsInstanceOf source.program.now source.typed.now.schemes u.name u.type) us → IsSound source others new
     more_sound instances = record {
-      room = room_kept others (length longer) (length new.listed) new.room (ap length longer_listed ∙ as_many new.listed) queue.room;
+      room = room_kept others (length longer) (length new.listed) new.room (ap length (sym queue.listed) ∙ as_many new.listed) queue.room;
       instances = each_with (λ u. IsInstanceOf source.program.now source.typed.now.schemes u.name u.type) (as_list old.listed) us (as_list new.listed) more_listed instances sound.instances;
-      distinct = distinct_with (as_list old.listed) us (as_list new.listed) more_listed made sound.distinct;
-      made = made_with (as_list old.listed) us (as_list new.listed) more_listed made sound.made;
+      distinct = distinct_with (as_list old.listed) us (as_list new.listed) more_listed sound.distinct;
     }

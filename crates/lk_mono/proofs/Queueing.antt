@@ -1,21 +1,23 @@
 -- What adding uses to a list of instances does, to the code's list and to the definition's.
-use Rattle.std.proofs.Common.{◌≡◌, inl, inr, ℕ, zero, suc, ◌+◌, ◌-◌, ◌<◌, Bool, true, false, cond, List, [], ◌∷◌, ◌++◌, map, length, Some, None, if◌then◌else◌, refl, sym, ap, ap₂, subst, ◌∙◌, MatchBool}
+use Rattle.std.proofs.Common.{◌≡◌, inl, inr, ℕ, zero, suc, ◌+◌, ◌-◌, ◌<◌, Bool, true, false, ◌&&◌, ◌==◌, List, [], ◌∷◌, ◌++◌, get_or, map, length, Some, slice_get, bytes_eq, refl, sym, ap, ap₂, subst, ◌∙◌, MatchBool}
 use native.Mathlib.Omega.{arith}
-use Rattle.std.proofs.lemmas.Bool.{false≢true}
-use Rattle.std.proofs.lemmas.List.Elements.{filter-append}
-use Rattle.std.proofs.lemmas.Option.{none-some}
-use Rattle.std.specs.List.{AllWithin, HoldsAt, filter}
+use Rattle.std.proofs.lemmas.Bool.{eqb-true, false≢true}
+use Rattle.std.proofs.lemmas.Bool.Decides.{nat_tests}
+use Rattle.std.specs.Cmp.Lexicographic.{bytes_decides}
+use Rattle.lk_ground_types.specs.Grounds.{AreDistinct, at}
+use Rattle.std.specs.List.{AllWithin, HoldsAt}
 use Rattle.lk_mono.specs.Instances.{IsFull, IsListed, IsWith, Wanted, most_instances}
 use Rattle.lk_mono.specs.Instances as instances
-use Rattle.lk_mono.specs.Looks.{TheFound}
-use Rattle.lk_mono.specs.Queues.{AreFoundOf, IsAdded, IsQueueOf, as_list, as_use, is_made, made}
+use Rattle.lk_mono.specs.Looks.{IsNumbered, TheFound}
+use Rattle.lk_mono.specs.Queues.{AreFoundOf, AreUsesNumbered, IsAdded, IsQueueOf, as_list, as_use}
 use Rattle.lk_mono.specs.Queues as queues
 use Rattle.lk_mono.specs.declared.queue.Queue.{Queue}
 use Rattle.lk_mono.specs.declared.queue.Use.{Use as TheUse}
 use Rattle.lk_sound.specs.Nodes.{Use}
-use Rattle.lk_types.specs.Each.{OneOf}
+use Rattle.lk_types.specs.Each.{Each, OneOf}
 use Rattle.lk_types.specs.Rows.{Label}
 use Rattle.lk_types.specs.declared.ground.Ground.{Ground}
+use Rattle.lk_types.proofs.Parts.{same_some}
 use Rattle.lk_typing.proofs.Levels.{map_joined}
 
 -- ---- which are in a list
@@ -43,47 +45,7 @@ module _ {A B : Type 0} (f : A → B) (w : B) where
   not_there xs true answer is one = false≢true (sym is)
   not_there xs false answer is one = none_within xs answer one
 
--- an element that passes a test is in the list just where it is among those that pass
-module _ {A : Type 0} (p : A → Bool) (w : A) where
-  one_kept : (b : Bool) (x : A) (xs kept : List A) → (OneOf (λ other. other ≡ w) kept → OneOf (λ other. other ≡ w) xs)
-      → OneOf (λ other. other ≡ w) (cond b (x ∷ kept) kept) → OneOf (λ other. other ≡ w) (x ∷ xs)
-  one_kept true x xs kept more (inl e) = inl e
-  one_kept true x xs kept more (inr one) = inr (more one)
-  one_kept false x xs kept more one = inr (more one)
-
-  pub in_filtered : (xs : List A) → OneOf (λ other. other ≡ w) (filter p xs) → OneOf (λ other. other ≡ w) xs
-  in_filtered [] one = one
-  in_filtered (x ∷ xs) one = one_kept (p x) x xs (filter p xs) (in_filtered xs) one
-
-  first_kept : (b : Bool) (x : A) (kept : List A) → b ≡ true → x ≡ w → OneOf (λ other. other ≡ w) (cond b (x ∷ kept) kept)
-  first_kept true x kept passes is = inl is
-  first_kept false x kept passes is = absurd (false≢true passes)
-
-  later_kept : (b : Bool) (x : A) (kept : List A) → OneOf (λ other. other ≡ w) kept → OneOf (λ other. other ≡ w) (cond b (x ∷ kept) kept)
-  later_kept true x kept one = inr one
-  later_kept false x kept one = one
-
-  pub to_filtered : (xs : List A) → p w ≡ true → OneOf (λ other. other ≡ w) xs → OneOf (λ other. other ≡ w) (filter p xs)
-  to_filtered [] passes one = one
-  to_filtered (x ∷ xs) passes (inl is) = first_kept (p x) x (filter p xs) (ap p is ∙ passes) is
-  to_filtered (x ∷ xs) passes (inr one) = later_kept (p x) x (filter p xs) (to_filtered xs passes one)
-
 -- ---- one use
-
--- what is made of it, by whether it can be
-made_by : (b : Bool) (ty t : Ground) → Some ty ≡ (if b then Some t else None) → (b ≡ true) × (ty ≡ t)
-made_by true ty t is = (refl, cc)
-made_by false ty t is = absurd (none-some ty (sym is))
-
-unmade_by : (b : Bool) (t : Ground) → None ≡ (if b then Some t else None) → b ≡ false
-unmade_by true t is = absurd (none-some t is)
-unmade_by false t is = refl
-
-pub is_made_of : (u : Use) (ty : Ground) → Some ty ≡ made u → (is_made u ≡ true) × (ty ≡ u.type)
-is_made_of u ty is = made_by (is_made u) ty u.type is
-
-pub not_made_of : (u : Use) → None ≡ made u → is_made u ≡ false
-not_made_of u is = unmade_by (is_made u) u.type is
 
 -- the instance of which this is a name and a type
 pub same_use : (u : Use) (name : Label) (ty : Ground) → name ≡ u.name → ty ≡ u.type → record { name = name; type = ty } ≡ u
@@ -93,23 +55,15 @@ abbrev IsIn : List Use → Use → Type 0
 IsIn list u = OneOf (λ other. other ≡ u) list
 
 module _ (others : ℕ) (list : List Use) (queue : Queue) (q : IsQueueOf others list queue) (u : Use) where
-  module _ (name : Label) (ty : Ground) (named : name ≡ u.name) (is : Some ty ≡ made u) where
+  module _ (name : Label) (ty : Ground) (named : name ≡ u.name) (typed : ty ≡ u.type) where
     abbrev one : Use
     one = record { name = name; type = ty }
 
-    same : one ≡ u
-    same = same_use u name ty named (is_made_of u ty is).1
-
     pub there_is_listed : IsIn (as_list queue.listed) one → IsListed list u
-    there_is_listed there =
-        (in_filtered is_made u list (subst (λ xs. IsIn xs u) q.listed (subst (IsIn (as_list queue.listed)) same there)), (is_made_of u ty is).0)
+    there_is_listed there = subst (λ xs. IsIn xs u) q.listed (subst (IsIn (as_list queue.listed)) (same_use u name ty named typed) there)
 
     pub lacking_not_listed : (IsIn (as_list queue.listed) one → ⊥) → IsListed list u → ⊥
-    lacking_not_listed lacks listed =
-        lacks (subst (IsIn (as_list queue.listed)) (sym same) (subst (λ xs. IsIn xs u) (sym q.listed) (to_filtered is_made u list (is_made_of u ty is).0 listed.0)))
-
-  pub large_not_listed : None ≡ made u → IsListed list u → ⊥
-  large_not_listed is listed = false≢true (sym (not_made_of u is) ∙ listed.1)
+    lacking_not_listed lacks listed = lacks (subst (IsIn (as_list queue.listed)) (sym (same_use u name ty named typed)) (subst (λ xs. IsIn xs u) (sym q.listed) listed))
 
   pub listed_added : IsListed list u → IsAdded others list (u ∷ []) queue true
   listed_added listed = queues.all (instances.IsWith.there listed instances.IsWith.nothing) q
@@ -124,27 +78,88 @@ module _ (others : ℕ) (list : List Use) (queue : Queue) (q : IsQueueOf others 
     one_less : (n : ℕ) → n ≡ length list + 1 → others + (n + (queue.room - 1)) ≡ most_instances
     one_less n is = let all : others + (length list + queue.room) ≡ most_instances = q.room in omega arith
 
-    added_by : (listed : List TheUse) → as_list listed ≡ filter is_made (list ++ u ∷ []) → IsAdded others list (u ∷ []) (record { listed = listed; room = queue.room - 1 }) true
+    added_by : (listed : List TheUse) → as_list listed ≡ list ++ u ∷ [] → IsAdded others list (u ∷ []) (record { listed = listed; room = queue.room - 1 }) true
     added_by listed are = queues.all (instances.IsWith.lacking lacks there_is_room instances.IsWith.nothing) (record { listed = are; room = one_less (length (list ++ u ∷ [])) (longer list) })
       where
         longer : (xs : List Use) → length (xs ++ u ∷ []) ≡ length xs + 1
         longer [] = omega arith
         longer (x ∷ xs) = let more : length (xs ++ u ∷ []) ≡ length xs + 1 = longer xs in omega arith
 
-    with_one : (b : Bool) → is_made u ≡ b → (listed : List TheUse) → as_list listed ≡ as_list queue.listed ++ cond b (u ∷ []) [] → as_list listed ≡ filter is_made (list ++ u ∷ [])
-    with_one b is listed are = are ∙ ap₂ (λ xs c. xs ++ cond c (u ∷ []) []) q.listed (sym is) ∙ sym (filter-append is_made list (u ∷ []))
+    pub made_added : (x : TheUse) → x.ty ≡ u.type → x.name.now ≡ u.name → IsAdded others list (u ∷ []) (record { listed = queue.listed ++ x ∷ []; room = queue.room - 1 }) true
+    made_added x typed named = added_by (queue.listed ++ x ∷ [])
+        (map_joined as_use queue.listed (x ∷ []) ∙ ap₂ (λ xs v. xs ++ v ∷ []) q.listed (same_use u x.name.now x.ty named typed))
 
-    pub large_added : None ≡ made u → IsAdded others list (u ∷ []) (record { listed = queue.listed; room = queue.room - 1 }) true
-    large_added is = added_by queue.listed (with_one false (not_made_of u is) queue.listed (no_more (as_list queue.listed)))
-      where
-        no_more : (xs : List Use) → xs ≡ xs ++ []
-        no_more [] = refl
-        no_more (x ∷ xs) = ap (λ ys. x ∷ ys) (no_more xs)
+-- ---- by numbers
 
-    pub made_added : (x : TheUse) → Some x.ty ≡ made u → x.name.now ≡ u.name → IsAdded others list (u ∷ []) (record { listed = queue.listed ++ x ∷ []; room = queue.room - 1 }) true
-    made_added x is named = added_by (queue.listed ++ x ∷ [])
-        (with_one true (is_made_of u x.ty is).0 (queue.listed ++ x ∷ [])
-        (map_joined as_use queue.listed (x ∷ []) ∙ ap (λ v. as_list queue.listed ++ v ∷ []) (same_use u x.name.now x.ty named (is_made_of u x.ty is).1)))
+abbrev pub IsTested : Label → ℕ → List TheUse → Bool → Type 0
+IsTested name number xs r = MatchBool r ((k : ℕ) × (k < length xs) × HoldsAt (λ x. (bytes_eq x.name.now name && (x.number == number)) ≡ true) xs k)
+    (AllWithin (λ x. (bytes_eq x.name.now name && (x.number == number)) ≡ false) xs 0 (length xs))
+
+pub each_last : {A : Type 0} (P : A → Type 0) (xs : List A) (x : A) → Each P xs → P x → Each P (xs ++ x ∷ [])
+each_last P [] x all one = (one, tt)
+each_last P (y ∷ xs) x all one = (all.0, each_last P xs x all.1 one)
+
+each_at : {A : Type 0} (P : A → Type 0) (xs : List A) (k : ℕ) (d : A) → Each P xs → k < length xs → P (get_or xs k d)
+each_at P [] k d all within = absurd (omega (arith, within))
+each_at P (x ∷ xs) zero d all within = all.0
+each_at P (x ∷ xs) (suc k) d all within = each_at P xs k d all.1 (omega (arith, within))
+
+there : (ts : List Ground) (n : ℕ) → n < length ts → slice_get ts n ≡ Some (at ts n)
+there [] n less = absurd (omega (arith, less))
+there (t ∷ ts) zero less = refl
+there (t ∷ ts) (suc n) less = there ts n (omega (arith, less))
+
+same_number : (ts : List Ground) → AreDistinct ts → (n m : ℕ) → n < length ts → m < length ts → at ts n ≡ at ts m → n ≡ m
+same_number ts distinct n m less small same = distinct n m (at ts m) (there ts n less ∙ ap Some same) (there ts m small)
+
+and_parts : (b c : Bool) → (b && c) ≡ true → (b ≡ true) × (c ≡ true)
+and_parts true c is = (refl, is)
+and_parts false c is = absurd (false≢true is)
+
+both_true : (b c : Bool) → b ≡ true → c ≡ true → (b && c) ≡ true
+both_true b c first second = ap₂ (λ b c. b && c) first second
+
+number_test : (n m : ℕ) → n ≡ m → (n == m) ≡ true
+number_test n m same = grind (arith, nat_tests, same)
+
+module _ (ts : List Ground) (distinct : AreDistinct ts) (name : Label) (number : ℕ) (ty : Ground) (is : IsNumbered ts number ty) where
+  abbrev It : Use
+  It = record { name = name; type = ty }
+
+  -- an instance has that name and number just where it is the one of that name and type
+  pub same_one : (x : TheUse) → IsNumbered ts x.number x.ty → (bytes_eq x.name.now name && (x.number == number)) ≡ true → as_use x ≡ It
+  same_one x own passes =
+      let both = and_parts (bytes_eq x.name.now name) (x.number == number) passes in
+      same_use It x.name.now x.ty ((bytes_decides x.name.now name).0 both.0) (sym own.is ∙ ap (at ts) (eqb-true x.number number both.1) ∙ is.is)
+
+  pub other_one : (x : TheUse) → IsNumbered ts x.number x.ty → (bytes_eq x.name.now name && (x.number == number)) ≡ false → as_use x ≡ It → ⊥
+  other_one x own fails same =
+      let names : x.name.now ≡ name = ap (λ (u : Use). u.name) same in
+      let types : x.ty ≡ ty = ap (λ (u : Use). u.type) same in
+      let numbers : x.number ≡ number = same_number ts distinct x.number number own.within is.within (own.is ∙ types ∙ sym is.is) in
+      false≢true (sym fails ∙ both_true (bytes_eq x.name.now name) (x.number == number) ((bytes_decides x.name.now name).1 names) (number_test x.number number numbers))
+
+  -- what a search for the name and the number answers
+  abbrev Passes : TheUse → Bool → Type 0
+  Passes x b = (bytes_eq x.name.now name && (x.number == number)) ≡ b
+
+  by_number : (xs : List TheUse) → AreUsesNumbered ts xs → (r : Bool) → IsTested name number xs r → IsAnswer as_use It xs r
+  by_number xs all true answer = (answer.0, answer.1, λ d. same_one (get_or xs answer.0 d) (each_at (λ x. IsNumbered ts x.number x.ty) xs answer.0 d all answer.1) (answer.2 d))
+  by_number xs all false answer = λ k d low high. other_one (get_or xs k d) (each_at (λ x. IsNumbered ts x.number x.ty) xs k d all high) (answer k d low high)
+
+  pub numbered_yes : (xs : List TheUse) → AreUsesNumbered ts xs → (r : Bool) → IsTested name number xs r → r ≡ true → OneOf (λ other. other ≡ It) (as_list xs)
+  numbered_yes xs all r answer = yes_there as_use It xs r (by_number xs all r answer)
+
+  pub numbered_no : (xs : List TheUse) → AreUsesNumbered ts xs → (r : Bool) → IsTested name number xs r → r ≡ false → OneOf (λ other. other ≡ It) (as_list xs) → ⊥
+  numbered_no xs all r answer = not_there as_use It xs r (by_number xs all r answer)
+
+pub use_numbered : (ts : List Ground) (xs : List TheUse) (k : ℕ) (x : TheUse) → AreUsesNumbered ts xs → k < length xs → x ≡ get_or xs k x → IsNumbered ts x.number x.ty
+use_numbered ts xs k x all within is = subst (λ (y : TheUse). IsNumbered ts y.number y.ty) (sym is) (each_at (λ (y : TheUse). IsNumbered ts y.number y.ty) xs k x all within)
+
+pub listed_number : (ts : List Ground) (xs : List TheUse) (k : ℕ) (x : TheUse) → AreUsesNumbered ts xs → slice_get xs k ≡ Some x → IsNumbered ts x.number x.ty
+listed_number ts [] k x all is = cc
+listed_number ts (y ∷ xs) zero x all is = subst (λ (y : TheUse). IsNumbered ts y.number y.ty) (same_some is) all.0
+listed_number ts (y ∷ xs) (suc k) x all is = listed_number ts xs k x all.1 is
 
 -- ---- several uses
 
@@ -165,7 +180,7 @@ starts wanted all queue others list us found q = record { so_far = list; rest = 
 
 -- what adding one that is looked for does
 abbrev pub AddsOne : TheFound → Queue → Queue → Bool → Type 0
-AddsOne f before after ok = (others : ℕ) (list : List Use) (u : Use) → f.name ≡ u.name → f.type ≡ made u → IsQueueOf others list before → IsAdded others list (u ∷ []) after ok
+AddsOne f before after ok = (others : ℕ) (list : List Use) (u : Use) → f.name ≡ u.name → f.type ≡ u.type → IsQueueOf others list before → IsAdded others list (u ∷ []) after ok
 
 module _ {others : ℕ} where
   -- these before others, where they could be added

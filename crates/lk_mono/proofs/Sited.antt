@@ -4,7 +4,7 @@ use Rattle.lk_mono.specs.Held.{AreSited}
 use Rattle.lk_mono.specs.Held as held
 use Rattle.lk_mono.specs.Instances.{Wanted, uses_among, with_use}
 use Rattle.lk_mono.specs.Looks.{TheFound}
-use Rattle.lk_mono.specs.Queues.{AreFoundOf, made}
+use Rattle.lk_mono.specs.Queues.{AreFoundOf}
 use Rattle.lk_mono.specs.Queues as queues
 use Rattle.lk_sound.specs.Nodes.{TypedNode, Use}
 
@@ -20,7 +20,7 @@ not_wanted b o rest wanted = ap (λ wants. with_use wants o rest) wanted
 
 module _ (wanted : Wanted) where
   by_test : (b : Bool) (node : TypedNode) (nodes : List TypedNode) (u : Use) (f : TheFound) (found : List TheFound) → wanted node.part.inside ≡ b → node.part.use_of ≡ Some u
-      → f.inside ≡ node.part.inside → f.name ≡ u.name → f.type ≡ made u → AreFoundOf wanted found (uses_among wanted nodes) → AreFoundOf wanted (f ∷ found) (uses_among wanted (node ∷ nodes))
+      → f.inside ≡ node.part.inside → f.name ≡ u.name → f.type ≡ u.type → AreFoundOf wanted found (uses_among wanted nodes) → AreFoundOf wanted (f ∷ found) (uses_among wanted (node ∷ nodes))
   by_test true node nodes u f found wants is inside named typed more =
       subst (AreFoundOf wanted (f ∷ found)) (sym (one_use _ _ u (uses_among wanted nodes) wants is)) (queues.taken (ap wanted inside ∙ wants) named typed more)
   by_test false node nodes u f found wants is inside named typed more =

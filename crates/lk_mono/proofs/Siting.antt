@@ -1,71 +1,33 @@
 -- What is found in an instance is what the nodes before the first whose type is too large use.
-use Rattle.std.proofs.Common.{◌≡◌, ℕ, suc, ◌+◌, Bool, true, false, ◌&&◌, List, [], ◌∷◌, map, take, Option, Some, None, slice_get, if◌then◌else◌, refl, sym, ap, ap₂, subst, ◌∙◌}
+use Rattle.std.proofs.Common.{◌≡◌, ℕ, suc, ◌+◌, Bool, true, false, not, cond, List, [], ◌∷◌, map, take, Some, None, slice_get, if◌then◌else◌, refl, sym, ap, subst, ◌∙◌}
 use native.Mathlib.Omega.{arith}
 use Rattle.std.proofs.lemmas.Option.{none-some}
-use Rattle.std.specs.List.{cons_option, list_all}
+use Rattle.std.specs.List.{cons_option}
 use Rattle.std.specs.Option.{option_map}
-use Rattle.lk_ground_types.specs.Sizes.{within}
-use Rattle.lk_mono.proofs.Fitting.{fitting_made, fitting_within, large_within}
 use Rattle.lk_mono.specs.Held.{AreSited, types_in}
 use Rattle.lk_mono.specs.Held as held
-use Rattle.lk_mono.specs.Instances.{before_large, can_be_made_level, first_large, fits}
-use Rattle.lk_mono.specs.Looks.{IsLooked, TheFound, all_within, as_uses, called, first_beyond, found_in, found_of}
-use Rattle.lk_mono.specs.Queues.{made}
+use Rattle.lk_mono.specs.Instances.{before_large, first_large, fits}
+use Rattle.lk_mono.specs.Looks.{IsLooked, TheFound, as_uses, first_beyond, found_in, found_of}
 use Rattle.lk_mono.specs.declared.look.Looked.{Looked}
 use Rattle.lk_sound.specs.Nodes.{TypedNode}
 use Rattle.lk_outline.specs.Outline.{Kind, Site}
 use Rattle.lk_outline.specs.Outline as outline
-use Rattle.lk_outline.specs.Typed.{effects_around, node_at, type_at, typed_nodes, used}
+use Rattle.lk_outline.specs.Typed.{node_at, type_at, typed_nodes, used}
 use Rattle.lk_typing.proofs.Levels.{map_after}
 use Rattle.lk_types.specs.Each.{Each}
-use Rattle.lk_types.specs.Grounding.{all_of}
-use Rattle.lk_types.specs.Rows.{Label}
 use Rattle.lk_types.specs.declared.ground.Ground.{Ground}
-use Rattle.lk_types.specs.declared.ground.Ground.TheVariants as known
 use Rattle.lk_types.specs.declared.ty.Effect.{Effect}
-
--- ---- types that are made
-
-mapped_if : (b : Bool) (p : Ground) (ps : List Ground) → option_map (λ more. p ∷ more) (if b then Some ps else None) ≡ (if b then Some (p ∷ ps) else None)
-mapped_if true p ps = refl
-mapped_if false p ps = refl
-
-first_within : (p : Ground) (ps : List Ground) (b : Bool) → fits p ≡ b → all_within ps ≡ (if list_all fits ps then Some ps else None)
-    → all_within (p ∷ ps) ≡ (if fits p && list_all fits ps then Some (p ∷ ps) else None)
-first_within p ps true is rest =
-    ap (λ o. all_of (o ∷ map within ps)) (fitting_within p is) ∙ ap (option_map (λ more. p ∷ more)) rest ∙ mapped_if (list_all fits ps) p ps
-    ∙ ap (λ c. if c && list_all fits ps then Some (p ∷ ps) else None) (sym is)
-first_within p ps false is rest =
-    ap (λ o. all_of (o ∷ map within ps)) (large_within p is) ∙ ap (λ c. if c && list_all fits ps then Some (p ∷ ps) else None) (sym is)
-
-all_within_is : (ps : List Ground) → all_within ps ≡ (if list_all fits ps then Some ps else None)
-all_within_is [] = refl
-all_within_is (p ∷ ps) = first_within p ps (fits p) refl (all_within_is ps)
-
-called_if : (es : List Effect) (ps : List Ground) (t : Ground) (b : Bool) → called es (if b then Some ps else None) (Some t) ≡ (if b && true then Some (known.Fun ps es t) else None)
-called_if es ps t true = refl
-called_if es ps t false = refl
-
--- of a use whose node has no too large type that is found which is made
-called_made : (g : Label) (es : List Effect) (ps : List Ground) (t : Ground) → fits t ≡ true → called es (all_within ps) (within t) ≡ made (record { name = g; type = known.Fun ps es t })
-called_made g es ps t fit =
-    ap₂ (λ o p. called es o p) (all_within_is ps) (fitting_within t fit) ∙ called_if es ps t (list_all fits ps)
-    ∙ ap (λ c. if list_all fits ps && c then Some (known.Fun ps es t) else None) (sym fit)
-    ∙ ap (λ l. if can_be_made_level l then Some (known.Fun ps es t) else None) (sym (known.outs-Fun ps es t))
-
-named_made : (g : Label) (t : Ground) → fits t ≡ true → within t ≡ made (record { name = g; type = t })
-named_made g t fit = fitting_within t fit ∙ ap (λ b. if b then Some t else None) (sym (fitting_made t fit))
 
 -- ---- where the first too large one stands
 
 one_more : (n : ℕ) → 1 + n ≡ suc n
 one_more n = omega arith
 
-beyond_fitting : (t : Ground) (os : List (Option Ground)) → fits t ≡ true → first_beyond (within t ∷ os) ≡ suc (first_beyond os)
-beyond_fitting t os fit = ap (λ o. first_beyond (o ∷ os)) (fitting_within t fit) ∙ one_more (first_beyond os)
+beyond_fitting : (t : Ground) (ts : List Ground) → fits t ≡ true → first_beyond (t ∷ ts) ≡ suc (first_beyond ts)
+beyond_fitting t ts fit = ap (λ b. cond (not (not b)) (1 + first_beyond ts) 0) fit ∙ one_more (first_beyond ts)
 
-beyond_large : (t : Ground) (os : List (Option Ground)) → fits t ≡ false → first_beyond (within t ∷ os) ≡ 0
-beyond_large t os large = ap (λ o. first_beyond (o ∷ os)) (large_within t large)
+beyond_large : (t : Ground) (ts : List Ground) → fits t ≡ false → first_beyond (t ∷ ts) ≡ 0
+beyond_large t ts large = ap (λ b. cond (not (not b)) (1 + first_beyond ts) 0) large
 
 -- where there is none, all nodes stand before it, and all types are made
 all_before_by : (b : Bool) (node : TypedNode) (nodes : List TypedNode) → fits node.part.type ≡ b → first_large (node ∷ nodes) ≡ None
@@ -79,12 +41,6 @@ all_before (node ∷ nodes) none =
     let both = all_before_by (fits node.part.type) node nodes refl none in
     ap (λ b. if b then node ∷ before_large nodes else []) both.0 ∙ ap (λ rest. node ∷ rest) (all_before nodes both.1)
 
-pub all_made : (nodes : List TypedNode) → first_large nodes ≡ None → map within (types_in nodes) ≡ map (λ t. Some t) (types_in nodes)
-all_made [] none = refl
-all_made (node ∷ nodes) none =
-    let both = all_before_by (fits node.part.type) node nodes refl none in
-    ap₂ (λ o os. o ∷ os) (fitting_within node.part.type both.0) (all_made nodes both.1)
-
 pub all_fit_at : (nodes : List TypedNode) → first_large nodes ≡ None → Each (λ t. fits t ≡ true) (types_in nodes)
 all_fit_at [] none = tt
 all_fit_at (node ∷ nodes) none = let both = all_before_by (fits node.part.type) node nodes refl none in (both.0, all_fit_at nodes both.1)
@@ -95,18 +51,17 @@ module _ (own : List Effect) (ts : List Ground) where
 
   by_kind : (node : TypedNode) (nodes : List TypedNode) (found : List TheFound) (s : Site) (k : Kind) → node.part.inside ≡ s.inside → node.part.use_of ≡ used own ts s k → fits (type_of s) ≡ true
       → AreSited nodes found → AreSited (node ∷ nodes) (cons_option (found_of own ts s k) found)
-  by_kind node nodes found s (outline.Function g) inside is fit more = held.use_at is (sym inside) refl (named_made g (type_of s) fit) more
-  by_kind node nodes found s (outline.Call g args) inside is fit more =
-      held.use_at is (sym inside) refl (called_made g (effects_around own ts s.around) (map (type_at ts) args) (type_of s) fit) more
+  by_kind node nodes found s (outline.Function g) inside is fit more = held.use_at is (sym inside) refl refl more
+  by_kind node nodes found s (outline.Call g args) inside is fit more = held.use_at is (sym inside) refl refl more
   by_kind node nodes found s _ inside is fit more = held.other is more
 
   module _ (whole : List Site) where
     abbrev nodes_at : List Site → List TypedNode
     nodes_at sites = map (node_at own ts whole) sites
 
-    -- their types, those that are made
-    abbrev pub made_at : List Site → List (Option Ground)
-    made_at sites = map within (map type_of sites)
+    -- their types
+    abbrev pub made_at : List Site → List Ground
+    made_at sites = map type_of sites
 
     sited_by : (b : Bool) (s : Site) (sites : List Site) → fits (type_of s) ≡ b → AreSited (before_large (nodes_at sites)) (found_in own ts (take (first_beyond (made_at sites)) sites))
         → AreSited (before_large (nodes_at (s ∷ sites))) (found_in own ts (take (first_beyond (made_at (s ∷ sites))) (s ∷ sites)))
@@ -137,20 +92,17 @@ module _ (own : List Effect) (ts : List Ground) where
 
   -- ---- what there is in an instance with these types
 
-  module _ (sites : List Site) (looked : Looked) (is : IsLooked own ts sites looked) (nodes : List TypedNode) (are : nodes ≡ typed_nodes own ts sites) (types : types_in nodes ≡ ts) where
+  module _ (table : List Ground) (sites : List Site) (looked : Looked) (is : IsLooked table own ts sites looked) (nodes : List TypedNode) (are : nodes ≡ typed_nodes own ts sites) (types : types_in nodes ≡ ts) where
     types_at : map type_of sites ≡ ts
     types_at = map_after (λ (node : TypedNode). node.part.type) (node_at own ts sites) sites ∙ ap types_in (sym are) ∙ types
 
     pub uses_sited : AreSited (before_large nodes) (as_uses looked.uses)
     uses_sited = subst (λ ns. AreSited (before_large ns) (as_uses looked.uses)) (sym are)
         (subst (AreSited (before_large (typed_nodes own ts sites))) (sym is.uses)
-        (subst (λ left. AreSited (before_large (typed_nodes own ts sites)) (found_in own ts (take (first_beyond (map within left)) sites))) types_at (sited_before sites sites)))
+        (subst (λ left. AreSited (before_large (typed_nodes own ts sites)) (found_in own ts (take (first_beyond left) sites))) types_at (sited_before sites sites)))
 
     pub large_is : first_large nodes ≡ looked.large
-    large_is = ap first_large are ∙ large_at sites sites ∙ ap (λ left. option_map (λ (x : Site). x.span) (slice_get sites (first_beyond (map within left)))) types_at ∙ sym is.large
-
-    pub types_made : first_large nodes ≡ None → looked.types ≡ map (λ t. Some t) ts
-    types_made none = is.made ∙ subst (λ left. map within left ≡ map (λ t. Some t) left) types (all_made nodes none)
+    large_is = ap first_large are ∙ large_at sites sites ∙ ap (λ left. option_map (λ (x : Site). x.span) (slice_get sites (first_beyond left))) types_at ∙ sym is.large
 
     pub all_uses_sited : first_large nodes ≡ None → AreSited nodes (as_uses looked.uses)
     all_uses_sited none = subst (λ ns. AreSited ns (as_uses looked.uses)) (all_before nodes none) uses_sited

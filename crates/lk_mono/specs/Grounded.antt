@@ -1,5 +1,5 @@
 -- Ground programs of typed programs: which instances they have, with the types of their nodes and what their uses call.
-use Rattle.std.specs.Prelude.{◌≡◌, ℕ, Bool, true, false, ◌||◌, List, [], ◌∷◌, Some, None, map, slice_get, if◌then◌else◌}
+use Rattle.std.specs.Prelude.{◌≡◌, ℕ, Bool, true, false, ◌||◌, List, [], ◌∷◌, Some, None, slice_get, if◌then◌else◌}
 use Rattle.lk_ast.specs.Functions.{function_named}
 use Rattle.lk_ast.specs.declared.declaration.Program.{Program}
 use Rattle.lk_ground.specs.Language.{function_of}
@@ -9,7 +9,6 @@ use Rattle.lk_mono.specs.Held.{types_in}
 use Rattle.lk_mono.specs.Instances.{Body, AreInstances, uses_of}
 use Rattle.lk_mono.specs.Shapes.{AreShaped}
 use Rattle.lk_sound.specs.Nodes.{Use, TypedNode}
-use Rattle.lk_types.specs.declared.ground.Ground.{Ground}
 use Rattle.lk_types.specs.declared.scheme.Scheme.{Scheme}
 use Rattle.lk_types.specs.declared.ty.Ty.{Ty}
 

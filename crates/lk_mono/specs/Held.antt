@@ -1,12 +1,11 @@
 -- The instances that the code has, beside those of the definition.
-use Rattle.std.specs.Prelude.{◌≡◌, ℕ, ◌+◌, true, List, [], ◌∷◌, Option, Some, None, length, map}
+use Rattle.std.specs.Prelude.{◌≡◌, ℕ, ◌+◌, List, [], ◌∷◌, Some, None, length, map}
 use Rattle.lk_ast.specs.Functions.{functions_of, function_named}
-use Rattle.lk_ast.specs.declared.declaration.Program.{Program}
 use Rattle.lk_infer.specs.Inferred.{HasTypes}
 use Rattle.lk_mono.specs.Instances.{AreDistinct, Body, IsBody, first_large, most_instances}
 use Rattle.lk_mono.specs.Looks.{TheFound, as_uses}
 use Rattle.lk_mono.specs.Members.{as_member, members_of}
-use Rattle.lk_mono.specs.Queues.{as_list, is_made, made}
+use Rattle.lk_mono.specs.Queues.{as_list}
 use Rattle.lk_mono.specs.declared.body.Body.{Body as TheBody}
 use Rattle.lk_mono.specs.declared.body.Source.{Source}
 use Rattle.lk_mono.specs.declared.queue.Queue.{Queue}
@@ -17,7 +16,6 @@ use Rattle.lk_outline.specs.Typed.{effects_in, typed_nodes}
 use Rattle.lk_principal.specs.Law.{IsInstanceOf}
 use Rattle.lk_types.specs.Each.{Each}
 use Rattle.lk_types.specs.declared.ground.Ground.{Ground, out-Ground}
-use Rattle.lk_types.specs.declared.scheme.Scheme.{Scheme}
 
 abbrev pub types_in : List TypedNode → List Ground
 types_in nodes = map (λ node. node.part.type) nodes
@@ -33,7 +31,7 @@ pub data AreSited : List TypedNode → List TheFound → Type 0 where
   none : AreSited [] []
   other : {node : TypedNode} {nodes : List TypedNode} {found : List TheFound} → node.part.use_of ≡ None → AreSited nodes found → AreSited (node ∷ nodes) found
   use_at : {node : TypedNode} {nodes : List TypedNode} {u : Use} {f : TheFound} {found : List TheFound} → node.part.use_of ≡ Some u
-      → f.inside ≡ node.part.inside → f.name ≡ u.name → f.type ≡ made u
+      → f.inside ≡ node.part.inside → f.name ≡ u.name → f.type ≡ u.type
       → AreSited nodes found → AreSited (node ∷ nodes) (f ∷ found)
 
 -- an instance of the program
@@ -50,9 +48,8 @@ pub data AreHeld (source : Source) : List TheBody → List Body → Type 0 where
   none : AreHeld source [] []
   more : {held : TheBody} {helds : List TheBody} {body : Body} {bodies : List Body} → IsHeld source held body → AreHeld source helds bodies → AreHeld source (held ∷ helds) (body ∷ bodies)
 
--- a list of instances of the program that are made, with its room
+-- a list of instances of the program, with its room
 pub record IsSound (source : Source) (others : ℕ) (queue : Queue) : Type 0 where
   pub room : others + (length queue.listed + queue.room) ≡ most_instances
   pub instances : Each (λ u. IsInstanceOf source.program.now source.typed.now.schemes u.name u.type) (as_list queue.listed)
-  pub made : Each (λ u. is_made u ≡ true) (as_list queue.listed)
   pub distinct : AreDistinct (as_list queue.listed)

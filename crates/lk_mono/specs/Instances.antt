@@ -3,22 +3,19 @@
 -- The first begins with `main`; the uses in each instance of the list in turn that stand outside of queries, updates and
 -- deletions, and that the list lacks, are put behind the others in text order. The second has the helpers: what the
 -- instances of the first list use inside of queries, updates and deletions, and all that helpers use.
-use Rattle.std.specs.Prelude.{◌≡◌, ℕ, ◌+◌, ◌<◌, ◌≤◌, Bool, true, false, ◌&&◌, List, [], ◌∷◌, ◌++◌, Option, Some, None, length, map, slice_get, nat_le, not, if◌then◌else◌}
-use Rattle.std.specs.List.{list_all}
+use Rattle.std.specs.Prelude.{◌≡◌, ℕ, ◌+◌, ◌<◌, ◌≤◌, Bool, true, false, List, [], ◌∷◌, ◌++◌, Option, Some, None, length, map, slice_get, nat_le, not, if◌then◌else◌}
 use Rattle.lk_ast.specs.Functions.{functions_of, function_named, main_of}
 use Rattle.lk_ast.specs.declared.declaration.FunDef.{FunDef}
 use Rattle.lk_ast.specs.declared.declaration.Program.{Program}
 use Rattle.lk_ast.specs.declared.place.Span.{Span}
 use Rattle.lk_ground_types.specs.Least.{least}
 use Rattle.lk_ground_types.specs.Sizes.{ground_nodes}
-use Rattle.lk_sound.specs.Nodes.{Use, Part, TypedNode, nodes_of}
+use Rattle.lk_sound.specs.Nodes.{Use, TypedNode, nodes_of}
 use Rattle.lk_principal.specs.Bodies.{IsTypedLeast, shares}
 use Rattle.lk_types.specs.Each.{Each, OneOf}
 use Rattle.lk_types.specs.Schemes.{IsInstance}
 use Rattle.lk_types.specs.Sizes.{most_nodes}
-use Rattle.lk_types.specs.declared.ground.Ground.{Ground, out-Ground}
-use Rattle.lk_types.specs.declared.ground.Ground.TheOpen.{Ground-F}
-use Rattle.lk_types.specs.declared.ground.GroundField.{GroundField}
+use Rattle.lk_types.specs.declared.ground.Ground.{Ground}
 use Rattle.lk_types.specs.declared.scheme.Scheme.{Scheme}
 use Rattle.lk_types.specs.declared.ty.Ty.{Ty}
 
@@ -100,18 +97,9 @@ uses_among wanted (node ∷ nodes) = with_use (wanted node.part.inside) node.par
 
 -- ---- lists of instances
 
--- whether the types of the parameters and of the result fit
-abbrev pub can_be_made_level : Ground-F Ground GroundField → Bool
-can_be_made_level (Ground-F.Fun params effects answer) = list_all fits params && fits answer
-can_be_made_level other = true
-
-abbrev pub can_be_made : Ground → Bool
-can_be_made t = can_be_made_level (out-Ground t)
-
--- The use is of an instance in the list. One with an argument whose type is too large is taken for a new one, since such a
--- type isn't made.
+-- the use is of an instance in the list
 abbrev pub IsListed : List Use → Use → Type 0
-IsListed list u = OneOf (λ other. other ≡ u) list × (can_be_made u.type ≡ true)
+IsListed list u = OneOf (λ other. other ≡ u) list
 
 -- A list with these uses behind it, each that it lacks, where both lists together, the other one having that many instances,
 -- don't become too long.

@@ -2,15 +2,15 @@
 use Rattle.std.specs.Prelude.{◌≡◌, ◌<◌, ◌≤◌, length, Bool, true, false, ◌||◌, List, Some, if◌then◌else◌}
 use Rattle.lk_mono.specs.Held.{AreHeld}
 use Rattle.lk_mono.specs.Instances.{AreDistinct, AreInstances, Body, most_instances, uses_of}
-use Rattle.lk_mono.specs.Queues.{as_list, is_made}
+use Rattle.lk_mono.specs.Queues.{as_list}
 use Rattle.lk_mono.specs.declared.body.Source.{Source}
 use Rattle.lk_mono.specs.declared.listing.Instances.{Instances}
 use Rattle.lk_sound.specs.Nodes.{Use, TypedNode}
 use Rattle.lk_types.specs.Each.{Each, OneOf}
 
--- what the node uses, if anything, is made and listed where it belongs
+-- what the node uses, if anything, is listed where it belongs
 abbrev pub IsListedAt : List Use → List Use → Bool → TypedNode → Type 0
-IsListedAt mains helpers in_helper node = (u : Use) → node.part.use_of ≡ Some u → OneOf (λ other. other ≡ u) (if in_helper || node.part.inside then helpers else mains) × (is_made u ≡ true)
+IsListedAt mains helpers in_helper node = (u : Use) → node.part.use_of ≡ Some u → OneOf (λ other. other ≡ u) (if in_helper || node.part.inside then helpers else mains)
 
 abbrev pub AreListedIn : List Use → List Use → Bool → Body → Type 0
 AreListedIn mains helpers in_helper body = Each (IsListedAt mains helpers in_helper) body.nodes

@@ -1,8 +1,6 @@
 -- The type of `main`: it takes a text.
-use Rattle.std.specs.Prelude.{◌≡◌, List, [], ◌∷◌, Option, Some}
-use Rattle.std.specs.Option.{option_map}
+use Rattle.std.specs.Prelude.{◌≡◌, List, [], ◌∷◌, Some}
 use Rattle.lk_ground_types.specs.Least.{least}
-use Rattle.lk_ground_types.specs.Sizes.{within}
 use Rattle.lk_types.specs.Grounding.{under}
 use Rattle.lk_types.specs.declared.ground.Ground.{Ground}
 use Rattle.lk_types.specs.declared.ground.Ground.TheVariants as known
@@ -16,7 +14,3 @@ of_text effects answer = known.Fun (known.Text ∷ []) effects answer
 -- it becomes such a type where the least stands for its variables
 abbrev pub IsOfText : Ty → List Effect → Ground → Type 0
 IsOfText body effects answer = under least body ≡ Some (of_text effects answer)
-
--- that type, if the answer isn't too large
-abbrev pub made_of_text : List Effect → Ground → Option Ground
-made_of_text effects answer = option_map (of_text effects) (within answer)

@@ -1,5 +1,5 @@
 -- The functions of a program with what is inferred of them, each with its own.
-use Rattle.std.specs.Prelude.{ℕ, List, [], ◌∷◌, Option, Some, None, bytes_eq, drop, find, map, take}
+use Rattle.std.specs.Prelude.{List, [], ◌∷◌, Option, bytes_eq, drop, find, take}
 use Rattle.lk_ast.specs.declared.declaration.FunDef.{FunDef}
 use Rattle.lk_mono.specs.declared.member.Member.{Member}
 use Rattle.lk_outline.specs.Outline.{Site, body_outline}
@@ -17,7 +17,7 @@ pub record TheMember : Type 0 where
   pub sites : List Site
 
 abbrev pub as_member : Member → TheMember
-as_member m = record { function = m.function.now; scheme = m.scheme.now; types = m.types.now; sites = shown m.sites }
+as_member m = record { function = m.function.now; scheme = m.scheme.now; types = m.types; sites = shown m.sites }
 
 abbrev pub member_of : FunDef → Scheme → List Ty → TheMember
 member_of f scheme types = record { function = f; scheme = scheme; types = types; sites = body_outline f.params f.body }

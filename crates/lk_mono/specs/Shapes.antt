@@ -1,13 +1,13 @@
 -- The shapes that a ground program has, so that sessions can be shown and queries can be run by a database: the answer of
 -- `main` has no function in it, functions aren't compared, only bases are put in order, and queries are flat (Cheney, Lindley
 -- and Wadler, A practical theory of language-integrated query, 2013; Cooper, The script-writer's dream, 2009).
-use Rattle.std.specs.Prelude.{◌≡◌, Bool, true, false, ◌&&◌, List, [], ◌∷◌, Option, Some, None}
+use Rattle.std.specs.Prelude.{◌≡◌, Bool, true, false, ◌&&◌, List, ◌∷◌, Some}
 use Rattle.lk_ast.specs.declared.place.Span.{Span}
 use Rattle.lk_ground_types.specs.Shapes.{has_function, is_base, is_flat, is_query_type}
 use Rattle.lk_mono.specs.Instances.{Body}
 use Rattle.lk_mono.specs.declared.error.ShapeKind.{ShapeKind}
 use Rattle.lk_mono.specs.declared.error.ShapeKind.TheVariants.{MainType, EqualityAtFunction, OrderAtNonBase, QueryNotFlat, QueryCapture}
-use Rattle.lk_sound.specs.Nodes.{Use, Comparison, Equality, Order, Part, Block, TypedNode, may_compare, parts_of}
+use Rattle.lk_sound.specs.Nodes.{Use, Equality, Order, Part, Block, TypedNode, may_compare, parts_of}
 use Rattle.lk_types.specs.Each.{Each, OneOf}
 use Rattle.lk_types.specs.declared.ground.Ground.{Ground, out-Ground}
 use Rattle.lk_types.specs.declared.ground.Ground.TheOpen.{Ground-F}

@@ -4,23 +4,26 @@ ghost use Rattle.lk_ast.specs.declared.place.Span.{Span as TheSpan};
 ghost use Rattle.lk_mono.specs.Held.{IsSource};
 ghost use Rattle.lk_mono.specs.Instances.{AreTooMany, IsMain, IsTooLarge};
 ghost use Rattle.lk_mono.specs.Listed.{AreFound};
-ghost use Rattle.lk_mono.specs.Mains.{IsOfText, made_of_text};
-ghost use Rattle.lk_mono.specs.Queues.{as_use, is_made};
+ghost use Rattle.lk_mono.specs.Looks.{AreNumbered, IsNumbered};
+ghost use Rattle.lk_mono.specs.Queues.{AreUsesNumbered, as_use};
+ghost use Rattle.lk_ground_types.specs.Grounds.{at};
+ghost use Rattle.lk_ground_types.specs.Least.{least};
+ghost use Rattle.lk_types.specs.Each.{Each};
+ghost use Rattle.lk_types.specs.Grounding.{under};
 ghost use Rattle.lk_principal.specs.Law.{IsInstanceOf};
 ghost use Rattle.lk_mono.specs.declared.error.MonoError.TheVariants as errors;
 ghost use Rattle.lk_mono.specs.declared.error.ShapeKind.{ShapeKind};
 ghost use Rattle.lk_types.specs.declared.ground.Ground.{Ground as TheGround};
-ghost use Rattle.lk_types.specs.declared.ty.Effect.{Effect as TheEffect};
-ghost use Rattle.std.specs.Prelude.{◌≡◌, [], ◌∷◌, Err, IfOk, List as TheList, true};
+ghost use Rattle.std.specs.Prelude.{◌≡◌, ◌++◌, ◌<◌, [], ◌∷◌, Err, IfOk, List as TheList, Some, length};
 
 use crate::body::{Body, Source, gather, walk_all};
 use crate::error::MonoError;
 use crate::member::find_member;
 use crate::queue::{Queue, Use, Wanted};
-use lk_ast::{List, NoMemory, Shared, main_of};
-use lk_ground_types::{Bindings, ground_effects, ground_type};
+use lk_ast::{List, NoMemory, main_of};
+use lk_ground_types::{Bindings, Grounds, ground_one, share_type};
 use lk_principal::principal_laws;
-use lk_types::{Ground, Ty};
+use lk_types::Ty;
 use std::alloc::Global;
 
 /// The most instances in both lists together.
@@ -37,34 +40,31 @@ pub struct Instances<'m, 'p> {
     pub helper_bodies: List<Body<'m, 'p>>,
 }
 
-/// What the type of `main` becomes where the least stands for its variables, if its answer isn't too large.
-fn main_type(alloc: Global, body: &Ty) -> Result<Option<Ground>, NoMemory>
-    requires { (effects : TheList TheEffect) × (answer : TheGround) × IsOfText body.now effects answer }
-    ensures { IfOk result (λ found. (effects : TheList TheEffect) (answer : TheGround) → IsOfText body.now effects answer → found ≡ made_of_text effects answer) }
+/// The number of what the type of `main` becomes where the least stands for its variables.
+fn main_type(alloc: Global, grounds: &mut Grounds, body: &Ty) -> Result<u32, NoMemory>
+    ensures made { IfOk result (λ number. (t : TheGround) → under least body.now ≡ Some t → at grounds.new number ≡ t) }
+    ensures within { IfOk result (λ number. number < length grounds.new) }
+    ensures more { (rest : TheList TheGround) × (grounds.new ≡ grounds.old ++ rest) }
 {
-    let Ty::Fun(_, _, answer) = body else {
-        unreachable!();
-    };
     let bindings = Bindings::none(alloc);
-    let Some(answer) = ground_type(alloc, &bindings, answer.get())? else {
-        return Ok(None);
-    };
-    let mut types = List::new(alloc);
-    types.push(Ground::Text)?;
-    let effects = ground_effects(alloc, &bindings, body)?;
-    let params = Shared::new(alloc, types)?;
-    let labels = Shared::new(alloc, effects)?;
-    Ok(Some(Ground::Fun(params, labels, Shared::new(alloc, answer)?)))
+    let number = ground_one(alloc, grounds, &bindings, body)?;
+    Ok(number)
 }
 
-/// Where a session begins, at its least type.
-fn main_use<'p>(alloc: Global, source: Source<'_, 'p>) -> Result<Use<'p>, MonoError>
+/// Where a session begins, at its least type, which may be far too large to be walked.
+fn main_use<'p>(
+    alloc: Global,
+    source: Source<'_, 'p>,
+    grounds: &mut Grounds,
+) -> Result<Use<'p>, MonoError>
     requires source { IsSource source }
     ensures main { IfOk result (λ u. IsMain source.entry.program.now source.entry.typed.now.schemes (as_use u)) }
-    ensures sound { IfOk result (λ u. IsInstanceOf source.entry.program.now source.entry.typed.now.schemes u.name.now u.ty × (is_made (as_use u) ≡ true)) }
+    ensures sound { IfOk result (λ u. IsInstanceOf source.entry.program.now source.entry.typed.now.schemes u.name.now u.ty) }
+    ensures numbered { IfOk result (λ u. IsNumbered grounds.new u.number u.ty) }
     ensures too_many { result ≡ Err errors.TooManyInstances → ⊥ }
-    ensures large { (at : TheSpan) → result ≡ Err (errors.TypeTooLarge at) → IsTooLarge source.entry.program.now source.entry.typed.now.schemes source.entry.typed.now.types at }
+    ensures large { (at : TheSpan) → result ≡ Err (errors.TypeTooLarge at) → ⊥ }
     ensures shape { (kind : ShapeKind) (at : TheSpan) → result ≡ Err (errors.Shape kind at) → ⊥ }
+    ensures more { (rest : TheList TheGround) × (grounds.new ≡ grounds.old ++ rest) }
 {
     principal_laws();
     let Some(main) = main_of(source.program) else {
@@ -73,13 +73,13 @@ fn main_use<'p>(alloc: Global, source: Source<'_, 'p>) -> Result<Use<'p>, MonoEr
     let Some(member) = find_member(source.members, &main.name.text) else {
         unreachable!();
     };
-    match main_type(alloc, &member.scheme.body)? {
-        Some(ty) => Ok(Use {
-            name: &main.name.text,
-            ty,
-        }),
-        None => Err(MonoError::TypeTooLarge(main.body.span)),
-    }
+    let number = main_type(alloc, grounds, &member.scheme.body)?;
+    let ty = share_type(grounds.get(number))?;
+    Ok(Use {
+        name: &main.name.text,
+        ty,
+        number,
+    })
 }
 
 /// The list that has this instance alone.
@@ -97,23 +97,26 @@ fn only<'p>(alloc: Global, main: Use<'p>) -> Result<Queue<'p>, NoMemory>
 pub fn list_instances<'m, 'p>(
     alloc: Global,
     source: Source<'m, 'p>,
+    grounds: &mut Grounds,
 ) -> Result<Instances<'m, 'p>, MonoError>
     requires source { IsSource source }
     ensures found { IfOk result (λ instances. AreFound source.entry instances) }
     ensures too_many { result ≡ Err errors.TooManyInstances → AreTooMany source.entry.program.now source.entry.typed.now.schemes source.entry.typed.now.types }
     ensures large { (at : TheSpan) → result ≡ Err (errors.TypeTooLarge at) → IsTooLarge source.entry.program.now source.entry.typed.now.schemes source.entry.typed.now.types at }
     ensures shape { (kind : ShapeKind) (at : TheSpan) → result ≡ Err (errors.Shape kind at) → ⊥ }
+    ensures mains { IfOk result (λ i. AreUsesNumbered grounds.new i.mains × Each (λ held. AreNumbered grounds.new held.uses) i.main_bodies) }
+    ensures helpers { IfOk result (λ i. AreUsesNumbered grounds.new i.helpers × Each (λ held. AreNumbered grounds.new held.uses) i.helper_bodies) }
 {
-    let mut mains = only(alloc, main_use(alloc, source)?)?;
-    let main_bodies = walk_all(alloc, source, &mut mains, Wanted::Outside)?;
+    let mut mains = only(alloc, main_use(alloc, source, grounds)?)?;
+    let main_bodies = walk_all(alloc, source, grounds, &mut mains, Wanted::Outside)?;
     let mut helpers = Queue {
         listed: List::new(alloc),
         room: mains.room,
     };
-    if !gather(alloc, &mut helpers, main_bodies.as_slice())? {
+    if !gather(grounds, &mut helpers, main_bodies.as_slice())? {
         return Err(MonoError::TooManyInstances);
     }
-    let helper_bodies = walk_all(alloc, source, &mut helpers, Wanted::Everywhere)?;
+    let helper_bodies = walk_all(alloc, source, grounds, &mut helpers, Wanted::Everywhere)?;
     Ok(Instances {
         mains: mains.listed,
         main_bodies,

@@ -1,43 +1,45 @@
 //! What there is in an instance: the types of its nodes, and what it uses.
 
-ghost use Rattle.lk_ground_types.specs.Bound.{grounding_of};
 ghost use Rattle.lk_ground_types.specs.Functions.{effects_in};
+ghost use Rattle.lk_ground_types.specs.Grounds.{at};
 ghost use Rattle.lk_ground_types.specs.Least.{IsLeastBut};
-ghost use Rattle.lk_ground_types.specs.Sizes.{within};
-ghost use Rattle.lk_mono.specs.Looks.{IsLooked, IsSetting, all_within, as_found, as_uses, called, first_beyond, found_at, found_in};
+ghost use Rattle.lk_mono.specs.Instances.{fits};
+ghost use Rattle.lk_mono.specs.Looks.{AreNumbered, IsLooked, IsNumbered, IsSetting, as_found, as_uses, first_beyond, found_at, found_in};
 ghost use Rattle.lk_outline.specs.Shown.{shown, shown_around, shown_site};
 ghost use Rattle.lk_outline.specs.Typed.{effects_around as the_effects_around, type_at as the_type_at};
+ghost use Rattle.lk_types.specs.Each.{Each};
 ghost use Rattle.lk_types.specs.Grounding.{Grounding, under};
 ghost use Rattle.lk_types.specs.Variables.{variables_of};
 ghost use Rattle.lk_types.specs.declared.ground.Ground.{Ground as TheGround};
+ghost use Rattle.lk_types.specs.declared.ground.Ground.TheVariants as known;
 ghost use Rattle.lk_typing.specs.Law.{Become};
 ghost use Rattle.std.specs.Option.{option_map};
-ghost use Rattle.std.specs.Prelude.{◌≡◌, IfOk, List as TheList, Some, drop as the_drop, map, slice_get, take as the_take};
+ghost use Rattle.std.specs.Prelude.{◌≡◌, ◌++◌, ◌<◌, IfOk, IfSome, List as TheList, Some, drop as the_drop, length, map, not, slice_get, take as the_take};
 
 use crate::member::Member;
-use lk_ast::{List, NoMemory, Shared, Span, Text};
+use lk_ast::{List, NoMemory, Span, Text};
 use lk_ground_types::{
-    Bindings, effects_of, ground_effects, ground_type, ground_type_laws, share_type,
+    Bindings, GroundLevel, Grounds, effects_of, ground_all, ground_type_laws, share_type,
 };
 use lk_outline::{Around, Kind, Site};
-use lk_types::{Effect, Ground, Ty};
+use lk_types::{Effect, Ground};
 use std::alloc::Global;
 
-/// A use of a function in a body.
+/// A use of a function in a body, at a type that has this number in the table. The type may be far too large to be walked.
 #[derive(Drop)]
 pub struct Found<'p> {
     /// Whether it stands inside a query, an update or a deletion.
     pub inside: bool,
     pub name: &'p Text,
-    /// The type at which the function is used, but for a call with an argument of too large a type.
-    pub ty: Option<Ground>,
+    pub ty: Ground,
+    pub number: u32,
 }
 
 /// What there is in an instance.
 #[derive(Drop)]
 pub struct Looked<'p> {
-    /// The types of its nodes, but for those that are too large.
-    pub types: List<Option<Ground>>,
+    /// The types of its nodes, by their numbers.
+    pub numbers: List<u32>,
     /// The uses at the nodes before the first whose type is too large.
     pub uses: List<Found<'p>>,
     /// The place of that node.
@@ -46,39 +48,32 @@ pub struct Looked<'p> {
 
 /// The nodes of an instance, as far as their types are concerned.
 #[derive(Clone, Copy)]
-pub struct Setting<'a, 'g> {
-    /// What stands for the variables of the function's type.
-    pub bindings: &'a Bindings<'g>,
-    /// The principal types of the nodes, and what they become.
-    pub principal: &'a [Ty],
-    pub types: &'a [Option<Ground>],
+pub struct Setting<'a> {
+    /// The types of the nodes, by their numbers.
+    pub numbers: &'a [u32],
     /// The effects of the instance.
     pub own: &'a [Effect],
 }
 
-/// What types become, those that aren't too large.
-fn node_types(
-    alloc: Global,
-    bindings: &Bindings,
-    types: &[Ty],
-) -> Result<List<Option<Ground>>, NoMemory>
-    ensures { IfOk result (λ made. (ts : TheList TheGround) → Become (grounding_of bindings.now) types.now ts → made ≡ map within ts) }
+/// Whether the type of that number is too large.
+fn is_large(grounds: &Grounds, number: u32) -> bool
+    requires { number < length grounds.now }
+    ensures { result ≡ not (fits (at grounds.now number)) }
 {
-    let mut made = List::new(alloc);
-    for ty in types {
-        made.push(ground_type(alloc, bindings, ty)?)?;
-    }
-    Ok(made)
+    !grounds.fits(number)
 }
 
-/// The number of the first type that is too large, or how many there are.
-fn first_large(types: &[Option<Ground>]) -> usize
-    ensures { result ≡ first_beyond types.now }
+/// The place of the first type that is too large, or how many there are.
+fn first_large(grounds: &Grounds, numbers: &[u32]) -> usize
+    requires { Each (λ n. n < length grounds.now) numbers.now }
+    ensures { result ≡ first_beyond (map (at grounds.now) numbers.now) }
 {
-    types
-        .iter()
-        .position(|ty| ty.is_none())
-        .unwrap_or(types.len())
+    for place in 0..numbers.len() {
+        if is_large(grounds, numbers[place]) {
+            return place;
+        }
+    }
+    numbers.len()
 }
 
 /// These effects by value.
@@ -89,107 +84,143 @@ fn copy_effects(alloc: Global, effects: &[Effect]) -> Result<List<Effect>, NoMem
 }
 
 /// The effects of what stands round a node.
-fn effects_around(alloc: Global, setting: Setting, around: Around) -> Result<List<Effect>, NoMemory>
-    ensures { IfOk result (λ effects. (ts : TheList TheGround) → IsSetting setting.entry ts → effects ≡ the_effects_around setting.entry.own.now ts (shown_around around)) }
+fn effects_around(
+    alloc: Global,
+    grounds: &Grounds,
+    setting: Setting,
+    around: Around,
+) -> Result<List<Effect>, NoMemory>
+    requires { Each (λ n. n < length grounds.now) setting.numbers.now }
+    ensures { IfOk result (λ effects. (ts : TheList TheGround) → IsSetting grounds.now setting.entry ts → effects ≡ the_effects_around setting.entry.own.now ts (shown_around around)) }
 {
     match around {
-        Around::Function => Ok(copy_effects(alloc, setting.own)?),
-        Around::Lambda(number) => match setting.principal.get(number) {
-            Some(ty) => Ok(ground_effects(alloc, setting.bindings, ty)?),
+        Around::Function => copy_effects(alloc, setting.own),
+        Around::Lambda(number) => match setting.numbers.get(number) {
+            Some(there) => copy_effects(alloc, effects_of(grounds.get(*there))),
             None => Ok(List::new(alloc)),
         },
-        Around::Query => Ok(copy_effects(alloc, &[Effect::Scan])?),
+        Around::Query => copy_effects(alloc, &[Effect::Scan]),
         Around::Change => Ok(List::new(alloc)),
     }
 }
 
-/// The type of a node, if it isn't too large.
-fn type_at(
+/// The number of the type of a node.
+fn number_at(
     alloc: Global,
-    types: &[Option<Ground>],
-    number: usize,
-) -> Result<Option<Ground>, NoMemory>
-    ensures { IfOk result (λ found. (ts : TheList TheGround) → types.now ≡ map within ts → found ≡ within (the_type_at ts number)) }
+    grounds: &mut Grounds,
+    numbers: &[u32],
+    node: usize,
+) -> Result<u32, NoMemory>
+    requires { Each (λ n. n < length grounds.old) numbers.now }
+    ensures is { IfOk result (λ number. at grounds.new number ≡ the_type_at (map (at grounds.old) numbers.now) node) }
+    ensures within { IfOk result (λ number. number < length grounds.new) }
+    ensures more { (rest : TheList TheGround) × (grounds.new ≡ grounds.old ++ rest) }
 {
-    match types.get(number) {
-        Some(Some(ty)) => Ok(Some(share_type(ty)?)),
-        Some(None) => Ok(None),
-        None => {
-            let none = List::new(alloc);
-            Ok(Some(Ground::Fields(Shared::new(alloc, none)?)))
-        }
+    match numbers.get(node) {
+        Some(number) => Ok(*number),
+        None => grounds.add(alloc, GroundLevel::Fields(List::new(alloc))),
     }
 }
 
-/// The types of arguments, if none is too large.
+/// The numbers of the types of arguments.
 fn argument_types(
     alloc: Global,
-    types: &[Option<Ground>],
+    grounds: &mut Grounds,
+    numbers: &[u32],
     args: &[usize],
-) -> Result<Option<List<Ground>>, NoMemory>
-    ensures { IfOk result (λ found. (ts : TheList TheGround) → types.now ≡ map within ts → found ≡ all_within (map (the_type_at ts) args.now)) }
+) -> Result<List<u32>, NoMemory>
+    requires { Each (λ n. n < length grounds.old) numbers.now }
+    ensures are { IfOk result (λ params. map (at grounds.new) params ≡ map (the_type_at (map (at grounds.old) numbers.now)) args.now) }
+    ensures within { IfOk result (Each (λ n. n < length grounds.new)) }
+    ensures more { (rest : TheList TheGround) × (grounds.new ≡ grounds.old ++ rest) }
 {
     let mut params = List::new(alloc);
     for arg in args {
-        match type_at(alloc, types, *arg)? {
-            Some(ty) => params.push(ty)?,
-            None => return Ok(None),
-        }
+        params.push(number_at(alloc, grounds, numbers, *arg)?)?;
     }
-    Ok(Some(params))
+    Ok(params)
 }
 
-/// The type of a function that a node calls with these arguments, if none of the types is too large.
+/// The number of the type of a function that a node calls with these arguments.
 fn call_type(
     alloc: Global,
+    grounds: &mut Grounds,
     setting: Setting,
     site: &Site,
     args: &[usize],
-) -> Result<Option<Ground>, NoMemory>
-    ensures { IfOk result (λ found. (ts : TheList TheGround) → IsSetting setting.entry ts → found ≡ called (the_effects_around setting.entry.own.now ts (shown_around site.now.around)) (all_within (map (the_type_at ts) args.now)) (within (the_type_at ts site.now.number))) }
+) -> Result<u32, NoMemory>
+    requires { Each (λ n. n < length grounds.old) setting.numbers.now }
+    ensures is { IfOk result (λ number. (ts : TheList TheGround) → IsSetting grounds.old setting.entry ts → at grounds.new number ≡ known.Fun (map (the_type_at ts) args.now) (the_effects_around setting.entry.own.now ts (shown_around site.now.around)) (the_type_at ts site.now.number)) }
+    ensures within { IfOk result (λ number. number < length grounds.new) }
+    ensures more { (rest : TheList TheGround) × (grounds.new ≡ grounds.old ++ rest) }
 {
-    let Some(params) = argument_types(alloc, setting.types, args)? else {
-        return Ok(None);
-    };
-    let Some(answer) = type_at(alloc, setting.types, site.number)? else {
-        return Ok(None);
-    };
-    let params = Shared::new(alloc, params)?;
-    let effects = Shared::new(alloc, effects_around(alloc, setting, site.around)?)?;
-    Ok(Some(Ground::Fun(params, effects, Shared::new(alloc, answer)?)))
+    let effects = effects_around(alloc, grounds, setting, site.around)?;
+    let params = argument_types(alloc, grounds, setting.numbers, args)?;
+    let answer = number_at(alloc, grounds, setting.numbers, site.number)?;
+    Ok(grounds.add(alloc, GroundLevel::Fun(params, effects, answer))?)
+}
+
+/// The use of this name at the type of that number.
+fn found_use<'p>(
+    grounds: &Grounds,
+    inside: bool,
+    name: &'p Text,
+    number: u32,
+) -> Result<Found<'p>, NoMemory>
+    requires { number < length grounds.now }
+    ensures found { IfOk result (λ found. as_found found ≡ record { inside = inside; name = name.entry.now; type = at grounds.now number }) }
+    ensures numbered { IfOk result (λ found. IsNumbered grounds.now found.number found.ty) }
+{
+    let ty = share_type(grounds.get(number))?;
+    Ok(Found {
+        inside,
+        name,
+        ty,
+        number,
+    })
 }
 
 /// The use at a node, if it is one.
 fn use_at<'p>(
     alloc: Global,
+    grounds: &mut Grounds,
     setting: Setting,
     site: &Site<'p>,
 ) -> Result<Option<Found<'p>>, NoMemory>
-    ensures { IfOk result (λ found. (ts : TheList TheGround) → IsSetting setting.entry ts → option_map as_found found ≡ found_at setting.entry.own.now ts (shown_site site.now)) }
+    requires { Each (λ n. n < length grounds.old) setting.numbers.now }
+    ensures found { IfOk result (λ found. (ts : TheList TheGround) → IsSetting grounds.old setting.entry ts → option_map as_found found ≡ found_at setting.entry.own.now ts (shown_site site.now)) }
+    ensures numbered { IfOk result (λ found. IfSome found (λ f. IsNumbered grounds.new f.number f.ty)) }
+    ensures more { (rest : TheList TheGround) × (grounds.new ≡ grounds.old ++ rest) }
 {
-    let (name, ty) = match &site.kind {
-        Kind::Function(name) => (*name, type_at(alloc, setting.types, site.number)?),
-        Kind::Call(name, args) => (*name, call_type(alloc, setting, site, args.as_slice())?),
+    let (name, number) = match &site.kind {
+        Kind::Function(name) => (
+            *name,
+            number_at(alloc, grounds, setting.numbers, site.number)?,
+        ),
+        Kind::Call(name, args) => (
+            *name,
+            call_type(alloc, grounds, setting, site, args.as_slice())?,
+        ),
         _ => return Ok(None),
     };
-    Ok(Some(Found {
-        inside: site.inside,
-        name,
-        ty,
-    }))
+    Ok(Some(found_use(grounds, site.inside, name, number)?))
 }
 
 /// The uses at nodes.
 fn uses_at<'p>(
     alloc: Global,
+    grounds: &mut Grounds,
     setting: Setting,
     sites: &[Site<'p>],
 ) -> Result<List<Found<'p>>, NoMemory>
-    ensures { IfOk result (λ uses. (ts : TheList TheGround) → IsSetting setting.entry ts → as_uses uses ≡ found_in setting.entry.own.now ts (shown sites.now)) }
+    requires { Each (λ n. n < length grounds.old) setting.numbers.now }
+    ensures found { IfOk result (λ uses. (ts : TheList TheGround) → IsSetting grounds.old setting.entry ts → as_uses uses ≡ found_in setting.entry.own.now ts (shown sites.now)) }
+    ensures numbered { IfOk result (AreNumbered grounds.new) }
+    ensures more { (rest : TheList TheGround) × (grounds.new ≡ grounds.old ++ rest) }
 {
     let mut uses = List::new(alloc);
     for site in sites {
-        if let Some(found) = use_at(alloc, setting, site)? {
+        if let Some(found) = use_at(alloc, grounds, setting, site)? {
             uses.push(found)?;
         }
     }
@@ -214,28 +245,36 @@ fn first_place(sites: &[Site]) -> Option<Span>
     }
 }
 
-/// What there is in a function at a type.
+/// What there is in a function at the type of that number.
 pub fn look_into<'p>(
     alloc: Global,
+    grounds: &mut Grounds,
     member: &Member<'p>,
-    ty: &Ground,
+    number: u32,
 ) -> Result<Looked<'p>, NoMemory>
-    ensures { IfOk result (λ looked. (τ : Grounding) (ts : TheList TheGround) → IsLeastBut (variables_of member.now.scheme.now.body) τ → under τ member.now.scheme.now.body ≡ Some ty.now → Become τ member.now.types.now ts → IsLooked (effects_in ty.now) ts (shown member.now.sites) looked) }
+    requires { number < length grounds.old }
+    ensures looked { IfOk result (λ looked. (τ : Grounding) (ts : TheList TheGround) → IsLeastBut (variables_of member.now.scheme.now.body) τ → under τ member.now.scheme.now.body ≡ Some (at grounds.old number) → Become τ member.now.types ts → IsLooked grounds.new (effects_in (at grounds.old number)) ts (shown member.now.sites) looked) }
+    ensures within { IfOk result (λ looked. Each (λ n. n < length grounds.new) looked.numbers) }
+    ensures numbered { IfOk result (λ looked. AreNumbered grounds.new looked.uses) }
+    ensures more { (rest : TheList TheGround) × (grounds.new ≡ grounds.old ++ rest) }
 {
     ground_type_laws();
-    let bindings = Bindings::of(alloc, &member.scheme.body, ty)?;
-    let types = node_types(alloc, &bindings, member.types)?;
-    let (before, behind) = split(member.sites.as_slice(), first_large(types.as_slice()));
-    let uses = uses_at(
-        alloc,
-        Setting {
-            bindings: &bindings,
-            principal: member.types,
-            types: types.as_slice(),
-            own: effects_of(ty),
-        },
-        before,
-    )?;
+    let bindings = Bindings::of(alloc, grounds, &member.scheme.body, number)?;
+    let numbers = ground_all(alloc, grounds, &bindings, &member.types)?;
+    let (before, behind) = split(
+        member.sites.as_slice(),
+        first_large(grounds, numbers.as_slice()),
+    );
+    let own = copy_effects(alloc, effects_of(grounds.get(number)))?;
+    let setting = Setting {
+        numbers: numbers.as_slice(),
+        own: own.as_slice(),
+    };
+    let uses = uses_at(alloc, grounds, setting, before)?;
     let large = first_place(behind);
-    Ok(Looked { types, uses, large })
+    Ok(Looked {
+        numbers,
+        uses,
+        large,
+    })
 }

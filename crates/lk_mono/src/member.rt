@@ -3,12 +3,12 @@
 ghost use Rattle.lk_ast.specs.Functions.{functions_of as the_functions_of};
 ghost use Rattle.lk_mono.specs.Members.{as_member, members_of, named_member};
 ghost use Rattle.std.specs.Option.{option_map};
-ghost use Rattle.std.specs.Prelude.{◌≡◌, IfOk, drop, map, take};
+ghost use Rattle.std.specs.Prelude.{◌≡◌, IfOk, drop, map};
 
 use lk_ast::{FunDef, List, NoMemory, Program, Text, functions_of};
 use lk_infer::Typed;
 use lk_outline::{Site, outline};
-use lk_types::{Scheme, Ty};
+use lk_types::{Scheme, Types};
 use std::alloc::Global;
 
 /// A function of the program with its principal scheme, the principal types of its nodes, and the outline of its body.
@@ -16,16 +16,18 @@ use std::alloc::Global;
 pub struct Member<'p> {
     pub function: &'p FunDef,
     pub scheme: &'p Scheme,
-    pub types: &'p [Ty],
+    pub types: Types,
     pub sites: List<Site<'p>>,
 }
 
-/// The first types, as many as this, and those behind them.
-fn share(types: &[Ty], size: usize) -> (&[Ty], &[Ty])
-    ensures first { result.0.now ≡ take size types.now }
-    ensures rest { result.1.now ≡ drop size types.now }
+/// The place behind as many of the types as this, from a place on.
+fn behind(types: &Types, from: usize, size: usize) -> usize
+    ensures { drop result types.now ≡ drop size (drop from types.now) }
 {
-    types.split_at(size.min(types.len()))
+    match from.checked_add(size) {
+        Some(place) => place,
+        None => types.len(),
+    }
 }
 
 /// The functions of a program in text order, each with its own of these schemes and types.
@@ -38,11 +40,12 @@ pub fn members<'p>(
 {
     let functions = functions_of(alloc, program)?;
     let mut members = List::new(alloc);
-    let mut left = typed.types.as_slice();
+    let mut from = 0;
     for (function, scheme) in functions.as_slice().iter().zip(typed.schemes.as_slice()) {
         let sites = outline(alloc, function)?;
-        let (types, rest) = share(left, sites.len());
-        left = rest;
+        let size = sites.len();
+        let types = typed.types.part(alloc, from, size)?;
+        from = behind(&typed.types, from, size);
         members.push(Member {
             function,
             scheme,

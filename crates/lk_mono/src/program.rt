@@ -28,6 +28,7 @@ use crate::queue::Use;
 use crate::shapes::{answers_function, first_refused};
 use lk_ast::{List, NoMemory, Span, main_of};
 use lk_ground::{GroundFun, GroundProgram, ground_laws};
+use lk_ground_types::Grounds;
 use lk_infer::Typed;
 use lk_names::Scoped;
 use lk_principal::principal_laws;
@@ -93,9 +94,11 @@ fn ground_source<'p>(alloc: Global, source: Source<'_, 'p>) -> Result<GroundProg
     let Some(main) = main_of(source.program) else {
         unreachable!();
     };
-    let instances = list_instances(alloc, source)?;
+    let mut grounds = Grounds::new(alloc);
+    let instances = list_instances(alloc, source, &mut grounds)?;
     let main_calls = all_calls(
         alloc,
+        &grounds,
         instances.mains.as_slice(),
         instances.helpers.as_slice(),
         false,
@@ -103,6 +106,7 @@ fn ground_source<'p>(alloc: Global, source: Source<'_, 'p>) -> Result<GroundProg
     )?;
     let helper_calls = all_calls(
         alloc,
+        &grounds,
         instances.mains.as_slice(),
         instances.helpers.as_slice(),
         true,

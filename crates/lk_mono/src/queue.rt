@@ -1,22 +1,22 @@
 //! Lists of instances that grow as these are walked.
 
-ghost use Rattle.lk_mono.specs.Looks.{as_found, as_uses};
-ghost use Rattle.lk_mono.specs.Queues.{AreFoundOf, IsAdded, IsQueueOf, as_list, as_use, as_wanted, made};
+ghost use Rattle.lk_mono.specs.Looks.{AreNumbered, IsNumbered, as_found, as_uses};
+ghost use Rattle.lk_mono.specs.Queues.{AreFoundOf, AreUsesNumbered, IsAdded, IsQueueOf, as_list, as_wanted};
 ghost use Rattle.lk_sound.specs.Nodes.{Use as TheUse};
 ghost use Rattle.lk_types.specs.Each.{OneOf};
-ghost use Rattle.std.specs.Prelude.{◌≡◌, ℕ, [], ◌∷◌, IfOk, List as TheList, false, true};
+ghost use Rattle.std.specs.Prelude.{◌≡◌, ◌==◌, ◌&&◌, ℕ, [], ◌∷◌, IfOk, List as TheList, OnOk, bytes_eq, false, true};
 
 use crate::look::Found;
 use lk_ast::{List, NoMemory, Text};
-use lk_ground_types::{same_type, share_type};
+use lk_ground_types::{Grounds, share_type};
 use lk_types::Ground;
-use std::alloc::Global;
 
-/// A function at a type: an instance.
+/// A function at a type: an instance. The type has this number in the table.
 #[derive(Drop)]
 pub struct Use<'p> {
     pub name: &'p Text,
     pub ty: Ground,
+    pub number: u32,
 }
 
 /// Which uses are looked for, by where they stand.
@@ -49,56 +49,67 @@ pub struct Queue<'p> {
     pub room: usize,
 }
 
-/// Whether it is this function at this type.
-pub fn is_use(listed: &Use, name: &Text, ty: &Ground) -> bool
-    ensures yes { result ≡ true → as_use listed.now ≡ record { name = name.now; type = ty.now } }
-    ensures no { result ≡ false → as_use listed.now ≡ record { name = name.now; type = ty.now } → ⊥ }
+/// Whether it is this function at the type of this number.
+pub fn is_use(listed: &Use, name: &Text, number: u32) -> bool
+    ensures { result ≡ (bytes_eq listed.now.name.now name.now && (listed.now.number == number)) }
 {
-    listed.name.equals(name) && same_type(&listed.ty, ty)
+    listed.name.equals(name) && listed.number == number
 }
 
-/// Whether a function at a type is in the list.
-fn is_listed(listed: &[Use], name: &Text, ty: &Ground) -> bool
-    ensures yes { result ≡ true → OneOf (λ other. other ≡ record { name = name.now; type = ty.now }) (as_list listed.now) }
-    ensures no { result ≡ false → OneOf (λ other. other ≡ record { name = name.now; type = ty.now }) (as_list listed.now) → ⊥ }
+/// Whether a function at the type of a number is in the list.
+fn is_listed(grounds: &Grounds, listed: &[Use], found: &Found) -> bool
+    requires listed { AreUsesNumbered grounds.now listed.now }
+    requires found { IsNumbered grounds.now found.now.number found.now.ty }
+    ensures yes { result ≡ true → OneOf (λ other. other ≡ record { name = found.now.name.now; type = found.now.ty }) (as_list listed.now) }
+    ensures no { result ≡ false → OneOf (λ other. other ≡ record { name = found.now.name.now; type = found.now.ty }) (as_list listed.now) → ⊥ }
 {
-    listed.iter().any(|other| is_use(other, name, ty))
+    grounds.distinct();
+    listed
+        .iter()
+        .any(|other| is_use(other, found.name, found.number))
 }
 
 /// Lists what is used, if the list lacks it. Whether there was room.
-fn add_use<'p>(alloc: Global, queue: &mut Queue<'p>, found: &Found<'p>) -> Result<bool, NoMemory>
-    ensures { IfOk result (λ ok. (others : ℕ) (list : TheList TheUse) (u : TheUse) → (as_found found.now).name ≡ u.name → found.now.ty ≡ made u → IsQueueOf others list queue.old → IsAdded others list (u ∷ []) queue.new ok) }
+fn add_use<'p>(
+    grounds: &Grounds,
+    queue: &mut Queue<'p>,
+    found: &Found<'p>,
+) -> Result<bool, NoMemory>
+    requires listed { AreUsesNumbered grounds.now queue.old.listed }
+    requires found { IsNumbered grounds.now found.now.number found.now.ty }
+    ensures added { IfOk result (λ ok. (others : ℕ) (list : TheList TheUse) (u : TheUse) → (as_found found.now).name ≡ u.name → found.now.ty ≡ u.type → IsQueueOf others list queue.old → IsAdded others list (u ∷ []) queue.new ok) }
+    ensures numbered { OnOk result (AreUsesNumbered grounds.now queue.new.listed) }
 {
-    if let Some(ty) = &found.ty {
-        if is_listed(queue.listed.as_slice(), found.name, ty) {
-            return Ok(true);
-        }
+    if is_listed(grounds, queue.listed.as_slice(), found) {
+        return Ok(true);
     }
     if queue.room == 0 {
         return Ok(false);
     }
     queue.room -= 1;
-    if let Some(ty) = &found.ty {
-        let ty = share_type(ty)?;
-        queue.listed.push(Use {
-            name: found.name,
-            ty,
-        })?;
-    }
+    let ty = share_type(&found.ty)?;
+    queue.listed.push(Use {
+        name: found.name,
+        ty,
+        number: found.number,
+    })?;
     Ok(true)
 }
 
 /// Lists these uses, those that are looked for. Whether there was room.
 pub fn add_uses<'p>(
-    alloc: Global,
+    grounds: &Grounds,
     queue: &mut Queue<'p>,
     wanted: Wanted,
     uses: &[Found<'p>],
 ) -> Result<bool, NoMemory>
-    ensures { IfOk result (λ ok. (others : ℕ) (list us : TheList TheUse) → AreFoundOf (as_wanted wanted) (as_uses uses.now) us → IsQueueOf others list queue.old → IsAdded others list us queue.new ok) }
+    requires listed { AreUsesNumbered grounds.now queue.old.listed }
+    requires uses { AreNumbered grounds.now uses.now }
+    ensures added { IfOk result (λ ok. (others : ℕ) (list us : TheList TheUse) → AreFoundOf (as_wanted wanted) (as_uses uses.now) us → IsQueueOf others list queue.old → IsAdded others list us queue.new ok) }
+    ensures numbered { OnOk result (AreUsesNumbered grounds.now queue.new.listed) }
 {
     for found in uses {
-        if wanted.holds(found.inside) && !add_use(alloc, queue, found)? {
+        if wanted.holds(found.inside) && !add_use(grounds, queue, found)? {
             return Ok(false);
         }
     }

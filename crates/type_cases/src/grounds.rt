@@ -1,9 +1,13 @@
 //! What types become where it is known what stands for their variables.
 
+ghost use Rattle.lk_ground_types.specs.Bound.{AreWithin};
+ghost use Rattle.std.specs.Prelude.{length};
+
 use crate::reader::{read_equation, read_type};
 use lk_ast::NoMemory;
 use lk_ground_types::{
-    Bindings, ground_effects, ground_type, has_function, is_base, is_flat, is_list, is_query_type,
+    Bindings, Grounds, effects_of, ground_one, has_function, is_base, is_flat, is_list,
+    is_query_type,
 };
 use lk_types::{Effect, Equation, Ground, Ty, effect_word, print_ground};
 use std::alloc::Global;
@@ -45,69 +49,55 @@ fn type_answer(
     asked: Asked,
     ty: &Ty,
 ) -> Result<Option<String>, NoMemory> {
+    let mut grounds = Grounds::new(alloc);
     match where_line(case).and_then(|line| read_equation(alloc, line)) {
-        None => answer(alloc, &Bindings::none(alloc), asked, ty),
-        Some(equation) => bound_answer(alloc, &equation, asked, ty),
+        None => answer(alloc, &mut grounds, &Bindings::none(alloc), asked, ty),
+        Some(equation) => bound_answer(alloc, &mut grounds, &equation, asked, ty),
     }
 }
 
 /// The answer where the left side of an equation becomes the right one, which has no variables.
 fn bound_answer(
     alloc: Global,
+    grounds: &mut Grounds,
     equation: &Equation,
     asked: Asked,
     ty: &Ty,
 ) -> Result<Option<String>, NoMemory> {
-    match ground_alone(alloc, &equation.right)? {
-        None => Ok(None),
-        Some(right) => matched_answer(alloc, (&equation.left, &right), asked, ty),
-    }
-}
-
-/// A type as one without variables, none where it is too large.
-fn ground_alone(alloc: Global, ty: &Ty) -> Result<Option<Ground>, NoMemory> {
-    ground_type(alloc, &Bindings::none(alloc), ty)
-}
-
-/// The answer where a type becomes another one.
-fn matched_answer(
-    alloc: Global,
-    stands: (&Ty, &Ground),
-    asked: Asked,
-    ty: &Ty,
-) -> Result<Option<String>, NoMemory> {
-    let (left, right) = stands;
-    let bindings = Bindings::of(alloc, left, right)?;
-    answer(alloc, &bindings, asked, ty)
+    let none = Bindings::none(alloc);
+    let right = ground_one(alloc, grounds, &none, &equation.right)?;
+    let bindings = Bindings::of(alloc, grounds, &equation.left, right)?;
+    answer(alloc, grounds, &bindings, asked, ty)
 }
 
 fn answer(
     alloc: Global,
+    grounds: &mut Grounds,
     bindings: &Bindings,
     asked: Asked,
     ty: &Ty,
-) -> Result<Option<String>, NoMemory> {
+) -> Result<Option<String>, NoMemory>
+    requires { AreWithin (length grounds.old) bindings.now }
+{
+    let number = ground_one(alloc, grounds, bindings, ty)?;
+    let ground = grounds.get(number);
     match asked {
-        Asked::Effects => effects_answer(alloc, bindings, ty),
-        Asked::Type | Asked::Kinds => ground_text(alloc, asked, &ground_type(alloc, bindings, ty)?),
+        Asked::Effects => effects_text(alloc, effects_of(ground)),
+        Asked::Type | Asked::Kinds => ground_text(alloc, asked, grounds.fits(number), ground),
     }
-}
-
-fn effects_answer(alloc: Global, bindings: &Bindings, ty: &Ty) -> Result<Option<String>, NoMemory> {
-    let effects = ground_effects(alloc, bindings, ty)?;
-    effects_text(alloc, effects.as_slice())
 }
 
 /// The text of a type, or of its kinds, if it isn't too large.
 fn ground_text(
     alloc: Global,
     asked: Asked,
-    found: &Option<Ground>,
+    fits: bool,
+    ground: &Ground,
 ) -> Result<Option<String>, NoMemory> {
-    match (found, asked) {
-        (None, _) => Ok(Some(String::from_str(alloc, "too large")?)),
-        (Some(ground), Asked::Kinds) => kinds_text(alloc, ground),
-        (Some(ground), _) => printed(alloc, ground),
+    match (fits, asked) {
+        (false, _) => Ok(Some(String::from_str(alloc, "too large")?)),
+        (true, Asked::Kinds) => kinds_text(alloc, ground),
+        (true, _) => printed(alloc, ground),
     }
 }
 

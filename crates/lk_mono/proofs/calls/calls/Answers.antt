@@ -1,4 +1,4 @@
-use Rattle.std.proofs.Common.{◌+◌, drop, sym, ap, subst, ◌∙◌}
+use Rattle.std.proofs.Common.{◌+◌, drop, sym, subst}
 use Rattle.std.proofs.lemmas.List.{drop_all}
 use Rattle.lk_mono.proofs.Calling.{left_first}
 use Rattle.lk_mono.proofs.CallLists.{Ahead, begins, ends, goes}

@@ -1,4 +1,4 @@
-use Rattle.std.proofs.Common.{◌≡◌, Some}
+use Rattle.std.proofs.Common.{◌≡◌}
 use Rattle.lk_mono.proofs.Calling.{IsLeft}
 use Rattle.lk_mono.specs.Queues.{as_list}
 use Rattle.lk_sound.specs.Nodes.{Use}
@@ -6,4 +6,4 @@ use Rattle.lk_types.specs.Each.{OneOf}
 use Rattle.lk_mono.proofs.calls.place_of.Given as goal
 
 abbrev pub invariant-loop-place : goal.invariant-loop-place
-invariant-loop-place l = (u : Use) → l.found.name.now ≡ u.name → l.found.ty ≡ Some u.type → OneOf (λ other. other ≡ u) (as_list l.listed) → IsLeft u l.listed l.place
+invariant-loop-place l = (u : Use) → l.found.name.now ≡ u.name → l.found.ty ≡ u.type → OneOf (λ other. other ≡ u) (as_list l.listed) → IsLeft u l.listed l.place

@@ -6,6 +6,10 @@ use Rattle.lk_mono.specs.Grounded.{AreAllCalled}
 use Rattle.lk_mono.specs.Instances.{most_instances, uses_of}
 use Rattle.lk_mono.specs.Judged.{Judged}
 use Rattle.lk_mono.specs.Shapes.{IsMisshapen}
+use Rattle.lk_mono.specs.Looks.{AreNumbered}
+use Rattle.lk_mono.specs.Queues.{AreUsesNumbered}
+use Rattle.lk_mono.specs.declared.body.Body.{Body}
+use Rattle.lk_types.specs.Each.{Each}
 use Rattle.lk_mono.proofs.program.ground_source.Goals as goal
 
 pub returns-in_err-instances-clause-too_many : goal.returns-in_err-instances-clause-too_many
@@ -15,16 +19,22 @@ pub returns-in_err-instances-clause-too_large : goal.returns-in_err-instances-cl
 returns-in_err-instances-clause-too_large c at is = c.in_err-instances.ensures.large at (handed_on _ _ _ (err_from_is_err_and c.from_residual.result c.from_residual.ensures.1) is)
 
 pub all_calls-requires-clause-mains : goal.all_calls-requires-clause-mains
-all_calls-requires-clause-mains c = subst (λ xs. length xs ≤ most_instances) (sym c.as_slice.ensures) c.in_ok-instances.ensures.found.few_mains
+all_calls-requires-clause-mains c = subst (λ xs. (length xs ≤ most_instances) × AreUsesNumbered c.list_instances.new.grounds xs) (sym c.as_slice.ensures) (c.in_ok-instances.ensures.found.few_mains, c.in_ok-instances.ensures.mains.0)
 
 pub all_calls-requires-clause-helpers : goal.all_calls-requires-clause-helpers
-all_calls-requires-clause-helpers c = subst (λ xs. length xs ≤ most_instances) (sym c.as_slice-2.ensures) c.in_ok-instances.ensures.found.few_helpers
+all_calls-requires-clause-helpers c = subst (λ xs. (length xs ≤ most_instances) × AreUsesNumbered c.list_instances.new.grounds xs) (sym c.as_slice-2.ensures) (c.in_ok-instances.ensures.found.few_helpers, c.in_ok-instances.ensures.helpers.0)
 
 pub all_calls-requires-2-clause-mains : goal.all_calls-requires-2-clause-mains
-all_calls-requires-2-clause-mains c = subst (λ xs. length xs ≤ most_instances) (sym c.as_slice-4.ensures) c.in_ok-instances.ensures.found.few_mains
+all_calls-requires-2-clause-mains c = subst (λ xs. (length xs ≤ most_instances) × AreUsesNumbered c.list_instances.new.grounds xs) (sym c.as_slice-4.ensures) (c.in_ok-instances.ensures.found.few_mains, c.in_ok-instances.ensures.mains.0)
 
 pub all_calls-requires-2-clause-helpers : goal.all_calls-requires-2-clause-helpers
-all_calls-requires-2-clause-helpers c = subst (λ xs. length xs ≤ most_instances) (sym c.as_slice-5.ensures) c.in_ok-instances.ensures.found.few_helpers
+all_calls-requires-2-clause-helpers c = subst (λ xs. (length xs ≤ most_instances) × AreUsesNumbered c.list_instances.new.grounds xs) (sym c.as_slice-5.ensures) (c.in_ok-instances.ensures.found.few_helpers, c.in_ok-instances.ensures.helpers.0)
+
+pub all_calls-requires-clause-bodies : goal.all_calls-requires-clause-bodies
+all_calls-requires-clause-bodies c = subst (Each (λ (b : Body). AreNumbered c.list_instances.new.grounds b.uses)) (sym c.as_slice-3.ensures) c.in_ok-instances.ensures.mains.1
+
+pub all_calls-requires-2-clause-bodies : goal.all_calls-requires-2-clause-bodies
+all_calls-requires-2-clause-bodies c = subst (Each (λ (b : Body). AreNumbered c.list_instances.new.grounds b.uses)) (sym c.as_slice-6.ensures) c.in_ok-instances.ensures.helpers.1
 
 pub returns-in-Some-fault-clause-shape : goal.returns-in-Some-fault-clause-shape
 returns-in-Some-fault-clause-shape c kind at is =

@@ -1,0 +1,271 @@
+-- A table of ground types that grows by one entry.
+use Rattle.std.proofs.Common.{◌≡◌, ◌⊎◌, inl, inr, ℕ, zero, suc, ◌+◌, ◌<◌, List, [], ◌∷◌, ◌++◌, map, length, take, get_or, refl, sym, ap, subst, ◌∙◌, Some, None, arith}
+use Rattle.std.proofs.lemmas.List.{map-append}
+use Rattle.std.specs.FinMap as fin
+use Rattle.std.specs.Prelude.{slice_get}
+use Rattle.lk_types.proofs.LabelMaps.{Differ, Tied, get_here, get_there, tie_cases}
+use Rattle.lk_types.proofs.Parts.{same_some}
+use Rattle.lk_types.specs.Each.{Each}
+use Rattle.lk_types.specs.declared.ground.Ground.{Ground}
+use Rattle.lk_types.specs.declared.ground.Ground.TheVariants as known
+use Rattle.lk_ground_types.proofs.LevelKeys.{at_there, keys_apart, levels_apart}
+use Rattle.lk_ground_types.specs.Counting.{capped}
+use Rattle.lk_ground_types.specs.Grounds.{AreCounted, AreDistinct, AreGrounds, IsBelow, IsEntry, Numbers, at, ground_made, key, part_made, parts_of, types_of}
+use Rattle.lk_ground_types.specs.Sizes.{ground_nodes}
+use Rattle.lk_ground_types.specs.declared.entries.Entry.{Entry}
+use Rattle.lk_ground_types.specs.declared.ground_level.GroundLevel.{GroundLevel}
+use Rattle.lk_ground_types.specs.declared.ground_level.GroundLevel.TheVariants as level
+use Rattle.lk_ground_types.specs.declared.ground_level.GroundPart.{GroundPart}
+
+-- ---- lists
+
+some_none : {A : Type 0} (x : A) → Some x ≡ None → ⊥
+some_none x e = cc
+
+one_more : (n : ℕ) → n + 1 ≡ suc n
+one_more n = omega arith
+
+module _ {X : Type 0} where
+  pub longer : (xs : List X) (x : X) → length (xs ++ x ∷ []) ≡ length xs + 1
+  longer [] x = omega arith
+  longer (y ∷ xs) x = let h = longer xs x in omega (arith, h)
+
+  pub within : (xs : List X) (n : ℕ) (x : X) → slice_get xs n ≡ Some x → n < length xs
+  within [] n x is = cc
+  within (y ∷ xs) zero x is = omega arith
+  within (y ∷ xs) (suc n) x is = let h = within xs n x is in omega (arith, h)
+
+  pub front_there : (xs ys : List X) (n : ℕ) (x : X) → slice_get xs n ≡ Some x → slice_get (xs ++ ys) n ≡ Some x
+  front_there [] ys n x is = cc
+  front_there (y ∷ xs) ys zero x is = is
+  front_there (y ∷ xs) ys (suc n) x is = front_there xs ys n x is
+
+  pub last_there : (xs : List X) (x : X) → slice_get (xs ++ x ∷ []) (length xs) ≡ Some x
+  last_there [] x = refl
+  last_there (y ∷ xs) x = last_there xs x
+
+  abbrev Before : List X → ℕ → X → Type 0
+  Before xs n y = (slice_get xs n ≡ Some y) × (n < length xs)
+
+  abbrev Last : List X → X → ℕ → X → Type 0
+  Last xs x n y = (n ≡ length xs) × (x ≡ y)
+
+  pub last_or_before : (xs : List X) (x : X) (n : ℕ) (y : X) → slice_get (xs ++ x ∷ []) n ≡ Some y → Before xs n y ⊎ Last xs x n y
+  last_or_before [] x zero y is = inr (refl, same_some is)
+  last_or_before [] x (suc n) y is = cc
+  last_or_before (z ∷ xs) x zero y is = inl (is, omega arith)
+  last_or_before (z ∷ xs) x (suc n) y is = by_case (last_or_before xs x n y is)
+    where
+      by_case : Before xs n y ⊎ Last xs x n y → Before (z ∷ xs) (suc n) y ⊎ Last (z ∷ xs) x (suc n) y
+      by_case (inl (there, less)) = inl (there, omega (arith, less))
+      by_case (inr (n_is, same)) = inr (ap suc n_is, same)
+
+  pub taken_back : (xs : List X) (x : X) → take (length xs) (xs ++ x ∷ []) ≡ xs
+  taken_back [] x = refl
+  taken_back (y ∷ xs) x = ap (λ ys. y ∷ ys) (taken_back xs x)
+
+module _ {X Y : Type 0} (f : X → Y) where
+  pub mapped_there : (xs : List X) (n : ℕ) (x : X) → slice_get xs n ≡ Some x → slice_get (map f xs) n ≡ Some (f x)
+  mapped_there [] n x is = cc
+  mapped_there (y ∷ xs) zero x is = ap Some (ap f (same_some is))
+  mapped_there (y ∷ xs) (suc n) x is = mapped_there xs n x is
+
+  pub mapped_back : (xs : List X) (n : ℕ) (y : Y) → slice_get (map f xs) n ≡ Some y → (x : X) × (slice_get xs n ≡ Some x) × (f x ≡ y)
+  mapped_back [] n y is = cc
+  mapped_back (x ∷ xs) zero y is = (x, refl, same_some is)
+  mapped_back (x ∷ xs) (suc n) y is = mapped_back xs n y is
+
+  pub mapped_long : (xs : List X) → length (map f xs) ≡ length xs
+  mapped_long [] = refl
+  mapped_long (x ∷ xs) = ap suc (mapped_long xs)
+
+-- ---- what levels make stays
+
+pub at_is : (ts : List Ground) (n : ℕ) (t : Ground) → slice_get ts n ≡ Some t → at ts n ≡ t
+at_is [] n t is = cc
+at_is (u ∷ ts) zero t is = same_some is
+at_is (u ∷ ts) (suc n) t is = at_is ts n t is
+
+pub at_front : (ts us : List Ground) (n : ℕ) → n < length ts → at (ts ++ us) n ≡ at ts n
+at_front ts us n less = at_is (ts ++ us) n (at ts n) (front_there ts us n (at ts n) (at_there ts n less))
+
+pub ats_front : (ts us : List Ground) (ns : List ℕ) → Each (λ n. n < length ts) ns → map (at (ts ++ us)) ns ≡ map (at ts) ns
+ats_front ts us [] less = refl
+ats_front ts us (n ∷ ns) less = λ i. at_front ts us n less.0 i ∷ ats_front ts us ns less.1 i
+
+parts_front : (ts us : List Ground) (ps : List GroundPart) → Each (λ n. n < length ts) (map (λ p. p.part) ps) → map (part_made (ts ++ us)) ps ≡ map (part_made ts) ps
+parts_front ts us [] less = refl
+parts_front ts us (p ∷ ps) less = λ i. record { label = p.label; ty = at_front ts us p.part less.0 i } ∷ parts_front ts us ps less.1 i
+
+pub made_front : (ts us : List Ground) (l : GroundLevel) → IsBelow (length ts) l → ground_made (ts ++ us) l ≡ ground_made ts l
+made_front ts us level.Int less = refl
+made_front ts us level.Bool less = refl
+made_front ts us level.Text less = refl
+made_front ts us (level.List n) less = ap (λ t. known.List t) (at_front ts us n less.0)
+made_front ts us (level.Fields ps) less = ap (λ fs. known.Fields fs) (parts_front ts us ps less)
+made_front ts us (level.Tags ps) less = ap (λ fs. known.Tags fs) (parts_front ts us ps less)
+made_front ts us (level.Fun ns es n) less = λ i. known.Fun (ats_front ts us ns less.1 i) es (at_front ts us n less.0 i)
+
+pub each_lower : (k m : ℕ) (ns : List ℕ) → k < m + 1 → Each (λ n. n < k) ns → Each (λ n. n < m) ns
+each_lower k m [] le less = tt
+each_lower k m (n ∷ ns) le less = (let h = less.0 in omega (arith, le, h), each_lower k m ns le less.1)
+
+pub below_more : (k m : ℕ) (l : GroundLevel) → k < m + 1 → IsBelow k l → IsBelow m l
+below_more k m l le less = each_lower k m (parts_of l) le less
+
+-- ---- one more entry
+
+pub counted : {es : List Entry} {ps : Numbers} → AreGrounds es ps → AreCounted es
+counted table n e is = (table.each n e is).nodes
+
+module _ (es : List Entry) (ps : Numbers) (e : Entry) (table : AreGrounds es ps) (below : IsBelow (length es) e.level) (lacks : fin.get ps (key e.level) ≡ None)
+    (made : e.ty ≡ ground_made (types_of es) e.level) (nodes : e.nodes ≡ capped (ground_nodes e.ty)) where
+  abbrev longer_list : List Entry
+  longer_list = es ++ e ∷ []
+
+  types_are : types_of longer_list ≡ types_of es ++ e.ty ∷ []
+  types_are = map-append (λ (e : Entry). e.ty) es (e ∷ [])
+
+  long : length (types_of es) ≡ length es
+  long = mapped_long (λ (e : Entry). e.ty) es
+
+  below_types : (n : ℕ) (l : GroundLevel) → n < length es + 1 → IsBelow n l → IsBelow (length (types_of es)) l
+  below_types n l less is = subst (λ k. IsBelow k l) (sym long) (below_more n (length es) l less is)
+
+  made_still : (n : ℕ) (l : GroundLevel) → n < length es + 1 → IsBelow n l → ground_made (types_of longer_list) l ≡ ground_made (types_of es) l
+  made_still n l less is = ap (λ ts. ground_made ts l) types_are ∙ made_front (types_of es) (e.ty ∷ []) l (below_types n l less is)
+
+  itself : length es < length es + 1
+  itself = omega arith
+
+  each_entry : (n : ℕ) (f : Entry) → slice_get longer_list n ≡ Some f → IsEntry (types_of longer_list) n f
+  each_entry n f is = by_case (last_or_before es e n f is)
+    where
+      by_case : ((slice_get es n ≡ Some f) × (n < length es)) ⊎ ((n ≡ length es) × (e ≡ f)) → IsEntry (types_of longer_list) n f
+      by_case (inl (there, less)) =
+          let old = table.each n f there in
+          record { made = old.made ∙ sym (made_still n f.level (omega (arith, less)) old.below); below = old.below; nodes = old.nodes }
+      by_case (inr (n_is, same)) =
+          subst (λ f. IsEntry (types_of longer_list) n f) same
+          (record { made = made ∙ sym (made_still (length es) e.level itself below); below = subst (λ k. IsBelow k e.level) (sym n_is) below; nodes = nodes })
+
+  is_found : (l : GroundLevel) (n : ℕ) → fin.get (fin.insert ps (key e.level) (length es)) (key l) ≡ Some n → (f : Entry) × (slice_get longer_list n ≡ Some f) × (f.level ≡ l)
+  is_found l n is = by_case (tie_cases (key l) (key e.level))
+    where
+      by_case : Tied (key l) (key e.level) ⊎ Differ (key l) (key e.level) → (f : Entry) × (slice_get longer_list n ≡ Some f) × (f.level ≡ l)
+      by_case (inl tied) =
+          let n_is : length es ≡ n = same_some (sym (get_here ps (key e.level) (length es) (key l) tied.1) ∙ is) in
+          (e, subst (λ n. slice_get longer_list n ≡ Some e) n_is (last_there es e), keys_apart e.level l (sym tied.1))
+      by_case (inr differ) =
+          let old = table.found l n (sym (get_there ps (key e.level) (length es) (key l) differ.1) ∙ is) in
+          (old.0, front_there es (e ∷ []) n old.0 old.1, old.2)
+
+  is_listed : (n : ℕ) (f : Entry) → slice_get longer_list n ≡ Some f → fin.get (fin.insert ps (key e.level) (length es)) (key f.level) ≡ Some n
+  is_listed n f is = by_case (last_or_before es e n f is)
+    where
+      by_case : ((slice_get es n ≡ Some f) × (n < length es)) ⊎ ((n ≡ length es) × (e ≡ f)) → fin.get (fin.insert ps (key e.level) (length es)) (key f.level) ≡ Some n
+      by_case (inl (there, less)) =
+          let old = table.listed n f there in
+          get_there ps (key e.level) (length es) (key f.level) (λ same. some_none n (sym old ∙ ap (fin.get ps) same ∙ lacks)) ∙ old
+      by_case (inr (n_is, same)) = get_here ps (key e.level) (length es) (key f.level) (ap (λ f. key f.level) (sym same)) ∙ ap Some (sym n_is)
+
+  -- no other entry has its type
+  is_new : (n : ℕ) → slice_get (types_of es) n ≡ Some e.ty → ⊥
+  is_new n is =
+      let old = mapped_back (λ (e : Entry). e.ty) es n e.ty is in
+      let entry = table.each n old.0 old.1 in
+      let less = within es n old.0 old.1 in
+      let same : old.0.level ≡ e.level = levels_apart (types_of es) table.distinct old.0.level e.level (below_types n old.0.level (omega (arith, less)) entry.below)
+      (below_types (length es) e.level itself below) (sym entry.made ∙ old.2 ∙ made) in
+      some_none n (sym (table.listed n old.0 old.1) ∙ ap (λ l. fin.get ps (key l)) same ∙ lacks)
+
+  abbrev Case : Ground → ℕ → Type 0
+  Case t n = ((slice_get (types_of es) n ≡ Some t) × (n < length (types_of es))) ⊎ ((n ≡ length (types_of es)) × (e.ty ≡ t))
+
+  are_distinct : AreDistinct (types_of es ++ e.ty ∷ [])
+  are_distinct i j t first second = by_cases (last_or_before (types_of es) e.ty i t first) (last_or_before (types_of es) e.ty j t second)
+    where
+      by_cases : Case t i → Case t j → i ≡ j
+      by_cases (inl a) (inl b) = table.distinct i j t a.0 b.0
+      by_cases (inl a) (inr b) = absurd (is_new i (a.0 ∙ ap Some (sym b.1)))
+      by_cases (inr a) (inl b) = absurd (is_new j (b.0 ∙ ap Some (sym a.1)))
+      by_cases (inr a) (inr b) = a.0 ∙ sym b.0
+
+  pub entered : AreGrounds longer_list (fin.insert ps (key e.level) (length es))
+  entered = record { each = each_entry; found = is_found; listed = is_listed; distinct = subst AreDistinct (sym types_are) are_distinct }
+
+  pub types_entered : types_of longer_list ≡ types_of es ++ ground_made (types_of es) e.level ∷ []
+  types_entered = types_are ∙ ap (λ t. types_of es ++ t ∷ []) made
+
+  pub last_made : at (types_of longer_list) (length es) ≡ ground_made (types_of es) e.level
+  last_made = at_is (types_of longer_list) (length es) e.ty (mapped_there (λ (e : Entry). e.ty) longer_list (length es) e (last_there es e)) ∙ made
+
+  pub last_within : length es < length (types_of longer_list)
+  last_within = subst (λ k. length es < k) (sym (mapped_long (λ (e : Entry). e.ty) longer_list ∙ longer es e)) itself
+
+-- the same of what is put there
+module _ (es before new : List Entry) (ps qs : Numbers) (e : Entry) (l : GroundLevel) (k : List ℕ) (n : ℕ) (table : AreGrounds es ps) (below : IsBelow (length es) l)
+    (lacks : fin.get ps (key l) ≡ None) (k_is : k ≡ key l) (before_is : before ≡ es) (made : e.ty ≡ ground_made (types_of before) l) (level_is : e.level ≡ l)
+    (nodes : e.nodes ≡ capped (ground_nodes (ground_made (types_of before) l))) (n_is : n ≡ length before) (new_is : new ≡ es ++ e ∷ []) (qs_is : qs ≡ fin.insert ps k n) where
+  own_below : IsBelow (length es) e.level
+  own_below = subst (IsBelow (length es)) (sym level_is) below
+
+  own_lacks : fin.get ps (key e.level) ≡ None
+  own_lacks = ap (λ l. fin.get ps (key l)) level_is ∙ lacks
+
+  own_made : e.ty ≡ ground_made (types_of es) e.level
+  own_made = made ∙ (λ i. ground_made (types_of (before_is i)) (sym level_is i))
+
+  own_nodes : e.nodes ≡ capped (ground_nodes e.ty)
+  own_nodes = nodes ∙ ap (λ t. capped (ground_nodes t)) (sym made)
+
+  places_are : fin.insert ps (key e.level) (length es) ≡ qs
+  places_are = (λ i. fin.insert ps (sym (k_is ∙ ap key (sym level_is)) i) (sym (n_is ∙ ap length before_is) i)) ∙ sym qs_is
+
+  pub pushed : AreGrounds new qs
+  pushed = subst (λ new. AreGrounds new qs) (sym new_is) (subst (AreGrounds (es ++ e ∷ [])) places_are (entered es ps e table own_below own_lacks own_made own_nodes))
+
+  pub pushed_more : (rest : List Ground) × (types_of new ≡ types_of es ++ rest)
+  pushed_more = (ground_made (types_of es) e.level ∷ [], ap types_of new_is ∙ types_entered es ps e table own_below own_lacks own_made own_nodes)
+
+  pub pushed_within : n < length (types_of new)
+  pushed_within =
+      subst (λ n. n < length (types_of new)) (sym (n_is ∙ ap length before_is))
+      (subst (λ new. length es < length (types_of new)) (sym new_is) (last_within es ps e table own_below own_lacks own_made own_nodes))
+
+  pub pushed_made : at (types_of new) n ≡ ground_made (types_of es) l
+  pushed_made =
+      (λ i. at (types_of (new_is i)) ((n_is ∙ ap length before_is) i)) ∙ last_made es ps e table own_below own_lacks own_made own_nodes ∙ ap (ground_made (types_of es)) level_is
+
+-- one that is there
+module _ (es : List Entry) (ps : Numbers) (table : AreGrounds es ps) (l : GroundLevel) (n : ℕ) (is : fin.get ps (key l) ≡ Some n) where
+  there : (e : Entry) × (slice_get es n ≡ Some e) × (e.level ≡ l)
+  there = table.found l n is
+
+  pub found_made : at (types_of es) n ≡ ground_made (types_of es) l
+  found_made =
+      at_is (types_of es) n there.0.ty (mapped_there (λ (e : Entry). e.ty) es n there.0 there.1) ∙ (table.each n there.0 there.1).made ∙ ap (ground_made (types_of es)) there.2
+
+  pub found_within : n < length (types_of es)
+  found_within = subst (λ k. n < k) (sym (mapped_long (λ (e : Entry). e.ty) es)) (within es n there.0 there.1)
+
+pub none_entered : (es : List Entry) (ps : Numbers) → es ≡ [] → ps ≡ fin.empty → AreGrounds es ps
+none_entered es ps none empty = subst (λ es. AreGrounds es ps) (sym none) (subst (λ ps. AreGrounds [] ps) (sym empty) (record {
+  each = λ n e is. absurd (some_none e (sym is));
+  found = λ l n is. absurd (some_none n (sym is ∙ fin.get-empty _ (key l)));
+  listed = λ n e is. absurd (some_none e (sym is));
+  distinct = λ i j t is same. absurd (some_none t (sym is));
+}))
+
+-- ---- an entry that is read
+
+pub get_there_or : {X : Type 0} (xs : List X) (n : ℕ) (x : X) → n < length xs → x ≡ get_or xs n x → slice_get xs n ≡ Some x
+get_there_or [] n x less is = absurd (omega (arith, less))
+get_there_or (y ∷ xs) zero x less is = ap Some (sym is)
+get_there_or (y ∷ xs) (suc n) x less is = get_there_or xs n x (omega (arith, less)) is
+
+pub entry_read : (es : List Entry) (ts : List Ground) (n : ℕ) (e : Entry) → types_of es ≡ ts → n < length ts → e ≡ get_or es n e → slice_get es n ≡ Some e
+entry_read es ts n e are less is = get_there_or es n e (subst (λ k. n < k) (ap length (sym are) ∙ mapped_long (λ (e : Entry). e.ty) es) less) is
+
+pub type_read : (es : List Entry) (ts : List Ground) (n : ℕ) (e : Entry) → types_of es ≡ ts → slice_get es n ≡ Some e → e.ty ≡ at ts n
+type_read es ts n e are is = sym (at_is (types_of es) n e.ty (mapped_there (λ (e : Entry). e.ty) es n e is)) ∙ ap (λ ts. at ts n) are
