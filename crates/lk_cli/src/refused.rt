@@ -38,12 +38,12 @@ impl Sources {
     }
 
     /// Keeps the program's file.
-    pub fn keep_program(&mut self, alloc: Global, name: &str, text: Bytes) {
+    pub(crate) fn keep_program(&mut self, alloc: Global, name: &str, text: Bytes) {
         self.program = source_of(alloc, name, text);
     }
 
     /// Keeps the tables file.
-    pub fn keep_tables(&mut self, alloc: Global, name: &str, text: Bytes) {
+    pub(crate) fn keep_tables(&mut self, alloc: Global, name: &str, text: Bytes) {
         self.tables = source_of(alloc, name, text);
     }
 }
