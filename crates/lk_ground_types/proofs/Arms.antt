@@ -2,6 +2,7 @@
 use Rattle.std.proofs.Common.{◌≡◌, ◌⊎◌, inl, inr, ℕ, zero, suc, ◌+◌, ◌<◌, List, [], ◌∷◌, ◌++◌, append-nil, length, take, drop, get_or, map, refl, ap, sym, ◌∙◌, Option, Some, None, arith}
 use Rattle.std.proofs.lemmas.Grind.{flat_map-append}
 use Rattle.std.proofs.lemmas.List.{drop_more, take_more}
+use Rattle.std.proofs.lemmas.Option.{none-some}
 use Rattle.std.specs.FinMap as fin
 use Rattle.std.specs.List.{cons_option}
 use Rattle.std.specs.Prelude.{flat_map}
@@ -35,9 +36,6 @@ use Rattle.lk_ground_types.specs.Matching.{Binds}
 abbrev pub Becomes : Ty → Ground → Grounding → Type 0
 Becomes t g σ = under σ t ≡ Some g
 
-some_none : {A : Type 0} (x : A) → Some x ≡ None → ⊥
-some_none x e = cc
-
 module _ (body : Ty) (g : Ground) (a : Grounding) where
   -- ---- a type without variables
 
@@ -53,7 +51,7 @@ module _ (body : Ty) (g : Ground) (a : Grounding) where
         (x.0, x.1, ap item_in x.2 ∙ ap item_level (known.outs-List x.0))
 
     pub no_list : item_in g ≡ None → Binds (variables_of body) (Becomes body g) a a
-    no_list none = binds_nothing (variables_of body) (Becomes body g) a (λ σ e. (let x = items σ e in some_none x.0 (sym x.2 ∙ none)))
+    no_list none = binds_nothing (variables_of body) (Becomes body g) a (λ σ e. (let x = items σ e in none-some x.0 (sym none ∙ x.2)))
 
     pub at_list : (k : Ground) (b : Grounding) → item_in g ≡ Some k → Binds (variables_of t) (Becomes t k) a b → Binds (variables_of body) (Becomes body g) a b
     at_list k b some binds =
@@ -71,7 +69,7 @@ module _ (body : Ty) (g : Ground) (a : Grounding) where
         (x.0, x.1, ap fields_in x.2 ∙ ap fields_level (known.outs-Fields (fields_of x.0)))
 
     pub no_record : fields_in g ≡ None → Binds (variables_of body) (Becomes body g) a a
-    no_record none = binds_nothing (variables_of body) (Becomes body g) a (λ σ e. (let x = fields_become σ e in some_none (fields_of x.0) (sym x.2 ∙ none)))
+    no_record none = binds_nothing (variables_of body) (Becomes body g) a (λ σ e. (let x = fields_become σ e in none-some (fields_of x.0) (sym none ∙ x.2)))
 
     pub at_record : (fields : List GroundField) (b : Grounding) → fields_in g ≡ Some fields → Binds (variables_of_row r) (IsRow r fields) a b → Binds (variables_of body) (Becomes body g) a b
     at_record fields b some binds =
@@ -84,7 +82,7 @@ module _ (body : Ty) (g : Ground) (a : Grounding) where
         (x.0, x.1, ap tags_in x.2 ∙ ap tags_level (known.outs-Tags (fields_of x.0)))
 
     pub no_variant : tags_in g ≡ None → Binds (variables_of body) (Becomes body g) a a
-    no_variant none = binds_nothing (variables_of body) (Becomes body g) a (λ σ e. (let x = tags_become σ e in some_none (fields_of x.0) (sym x.2 ∙ none)))
+    no_variant none = binds_nothing (variables_of body) (Becomes body g) a (λ σ e. (let x = tags_become σ e in none-some (fields_of x.0) (sym none ∙ x.2)))
 
     pub at_variant : (tags : List GroundField) (b : Grounding) → tags_in g ≡ Some tags → Binds (variables_of_row r) (IsRow r tags) a b → Binds (variables_of body) (Becomes body g) a b
     at_variant tags b some binds =
@@ -114,7 +112,7 @@ module _ (body : Ty) (g : Ground) (a : Grounding) where
         record { knowns = x.0; s = x.1; known = x.2; all = x.3; set = x.4; last = x.5; whole = ap function_in x.6 ∙ ap function_level (known.outs-Fun x.0 (effects_of x.1) x.2) }
 
     pub no_function : function_in g ≡ None → Binds (variables_of body) (Becomes body g) a a
-    no_function none = binds_nothing (variables_of body) (Becomes body g) a (λ σ e. (let x = parts σ e in some_none _ (sym x.whole ∙ none)))
+    no_function none = binds_nothing (variables_of body) (Becomes body g) a (λ σ e. (let x = parts σ e in none-some _ (sym none ∙ x.whole)))
 
     abbrev Three : Type 0
     Three = List Ground × List Effect × Ground
@@ -216,7 +214,7 @@ pub at_field : (f : TyField) (row : Row) (k : Ground) (a b : Grounding) → fin.
 at_field f row k a b some binds = binds_as (variables_field f) binds (λ σ e. e.1 ∙ sym e.2 ∙ some)
 
 pub no_field : (f : TyField) (row : Row) (a : Grounding) → fin.get row f.label ≡ None → Binds (variables_of_field f) (FieldBecomes f row) a a
-no_field f row a none = binds_nothing (variables_of_field f) (FieldBecomes f row) a (λ σ e. some_none e.0 (sym e.2 ∙ none))
+no_field f row a none = binds_nothing (variables_of_field f) (FieldBecomes f row) a (λ σ e. none-some e.0 (sym none ∙ e.2))
 
 -- ---- a row
 

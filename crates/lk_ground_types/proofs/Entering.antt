@@ -1,8 +1,11 @@
 -- A table of ground types that grows by one entry.
-use Rattle.std.proofs.Common.{◌≡◌, ◌⊎◌, inl, inr, ℕ, zero, suc, ◌+◌, ◌<◌, List, [], ◌∷◌, ◌++◌, map, length, take, get_or, refl, sym, ap, subst, ◌∙◌, Some, None, arith}
-use Rattle.std.proofs.lemmas.List.{map-append}
+use Rattle.std.proofs.Common.{◌≡◌, ◌⊎◌, inl, inr, ℕ, zero, suc, ◌+◌, ◌<◌, List, [], ◌∷◌, ◌++◌, map, length, get_or, refl, sym, ap, subst, ◌∙◌, Some, None, arith}
+use Rattle.std.proofs.lemmas.List.{length-append, length-map, map-append}
+use Rattle.std.proofs.lemmas.Option.{none-some, slice_get-map, slice_get_read, slice_get_within}
 use Rattle.std.specs.FinMap as fin
+use Rattle.std.specs.Option.{option_map}
 use Rattle.std.specs.Prelude.{slice_get}
+use Rattle.lk_types.proofs.Members.{each_weaker}
 use Rattle.lk_types.proofs.LabelMaps.{Differ, Tied, get_here, get_there, tie_cases}
 use Rattle.lk_types.proofs.Parts.{same_some}
 use Rattle.lk_types.specs.Each.{Each}
@@ -19,22 +22,7 @@ use Rattle.lk_ground_types.specs.declared.ground_level.GroundPart.{GroundPart}
 
 -- ---- lists
 
-some_none : {A : Type 0} (x : A) → Some x ≡ None → ⊥
-some_none x e = cc
-
-one_more : (n : ℕ) → n + 1 ≡ suc n
-one_more n = omega arith
-
 module _ {X : Type 0} where
-  pub longer : (xs : List X) (x : X) → length (xs ++ x ∷ []) ≡ length xs + 1
-  longer [] x = omega arith
-  longer (y ∷ xs) x = let h = longer xs x in omega (arith, h)
-
-  pub within : (xs : List X) (n : ℕ) (x : X) → slice_get xs n ≡ Some x → n < length xs
-  within [] n x is = cc
-  within (y ∷ xs) zero x is = omega arith
-  within (y ∷ xs) (suc n) x is = let h = within xs n x is in omega (arith, h)
-
   pub front_there : (xs ys : List X) (n : ℕ) (x : X) → slice_get xs n ≡ Some x → slice_get (xs ++ ys) n ≡ Some x
   front_there [] ys n x is = cc
   front_there (y ∷ xs) ys zero x is = is
@@ -60,24 +48,11 @@ module _ {X : Type 0} where
       by_case (inl (there, less)) = inl (there, omega (arith, less))
       by_case (inr (n_is, same)) = inr (ap suc n_is, same)
 
-  pub taken_back : (xs : List X) (x : X) → take (length xs) (xs ++ x ∷ []) ≡ xs
-  taken_back [] x = refl
-  taken_back (y ∷ xs) x = ap (λ ys. y ∷ ys) (taken_back xs x)
-
 module _ {X Y : Type 0} (f : X → Y) where
-  pub mapped_there : (xs : List X) (n : ℕ) (x : X) → slice_get xs n ≡ Some x → slice_get (map f xs) n ≡ Some (f x)
-  mapped_there [] n x is = cc
-  mapped_there (y ∷ xs) zero x is = ap Some (ap f (same_some is))
-  mapped_there (y ∷ xs) (suc n) x is = mapped_there xs n x is
-
   pub mapped_back : (xs : List X) (n : ℕ) (y : Y) → slice_get (map f xs) n ≡ Some y → (x : X) × (slice_get xs n ≡ Some x) × (f x ≡ y)
   mapped_back [] n y is = cc
   mapped_back (x ∷ xs) zero y is = (x, refl, same_some is)
   mapped_back (x ∷ xs) (suc n) y is = mapped_back xs n y is
-
-  pub mapped_long : (xs : List X) → length (map f xs) ≡ length xs
-  mapped_long [] = refl
-  mapped_long (x ∷ xs) = ap suc (mapped_long xs)
 
 -- ---- what levels make stays
 
@@ -106,14 +81,16 @@ made_front ts us (level.Fields ps) less = ap (λ fs. known.Fields fs) (parts_fro
 made_front ts us (level.Tags ps) less = ap (λ fs. known.Tags fs) (parts_front ts us ps less)
 made_front ts us (level.Fun ns es n) less = λ i. known.Fun (ats_front ts us ns less.1 i) es (at_front ts us n less.0 i)
 
-pub each_lower : (k m : ℕ) (ns : List ℕ) → k < m + 1 → Each (λ n. n < k) ns → Each (λ n. n < m) ns
-each_lower k m [] le less = tt
-each_lower k m (n ∷ ns) le less = (let h = less.0 in omega (arith, le, h), each_lower k m ns le less.1)
-
 pub below_more : (k m : ℕ) (l : GroundLevel) → k < m + 1 → IsBelow k l → IsBelow m l
-below_more k m l le less = each_lower k m (parts_of l) le less
+below_more k m l le less = each_weaker (λ n. n < k) (λ n. n < m) (λ n h. omega (arith, le, h)) (parts_of l) less
 
 -- ---- one more entry
+
+type_there : (es : List Entry) (n : ℕ) (e : Entry) → slice_get es n ≡ Some e → slice_get (types_of es) n ≡ Some e.ty
+type_there es n e is = slice_get-map (λ (e : Entry). e.ty) es n ∙ ap (option_map (λ (e : Entry). e.ty)) is
+
+pub types_long : (es : List Entry) → length (types_of es) ≡ length es
+types_long es = length-map es (λ (e : Entry). e.ty)
 
 pub counted : {es : List Entry} {ps : Numbers} → AreGrounds es ps → AreCounted es
 counted table n e is = (table.each n e is).nodes
@@ -127,7 +104,7 @@ module _ (es : List Entry) (ps : Numbers) (e : Entry) (table : AreGrounds es ps)
   types_are = map-append (λ (e : Entry). e.ty) es (e ∷ [])
 
   long : length (types_of es) ≡ length es
-  long = mapped_long (λ (e : Entry). e.ty) es
+  long = types_long es
 
   below_types : (n : ℕ) (l : GroundLevel) → n < length es + 1 → IsBelow n l → IsBelow (length (types_of es)) l
   below_types n l less is = subst (λ k. IsBelow k l) (sym long) (below_more n (length es) l less is)
@@ -166,7 +143,7 @@ module _ (es : List Entry) (ps : Numbers) (e : Entry) (table : AreGrounds es ps)
       by_case : ((slice_get es n ≡ Some f) × (n < length es)) ⊎ ((n ≡ length es) × (e ≡ f)) → fin.get (fin.insert ps (key e.level) (length es)) (key f.level) ≡ Some n
       by_case (inl (there, less)) =
           let old = table.listed n f there in
-          get_there ps (key e.level) (length es) (key f.level) (λ same. some_none n (sym old ∙ ap (fin.get ps) same ∙ lacks)) ∙ old
+          get_there ps (key e.level) (length es) (key f.level) (λ same. none-some n (sym lacks ∙ ap (fin.get ps) (sym same) ∙ old)) ∙ old
       by_case (inr (n_is, same)) = get_here ps (key e.level) (length es) (key f.level) (ap (λ f. key f.level) (sym same)) ∙ ap Some (sym n_is)
 
   -- no other entry has its type
@@ -174,10 +151,10 @@ module _ (es : List Entry) (ps : Numbers) (e : Entry) (table : AreGrounds es ps)
   is_new n is =
       let old = mapped_back (λ (e : Entry). e.ty) es n e.ty is in
       let entry = table.each n old.0 old.1 in
-      let less = within es n old.0 old.1 in
+      let less = slice_get_within es n old.0 old.1 in
       let same : old.0.level ≡ e.level = levels_apart (types_of es) table.distinct old.0.level e.level (below_types n old.0.level (omega (arith, less)) entry.below)
       (below_types (length es) e.level itself below) (sym entry.made ∙ old.2 ∙ made) in
-      some_none n (sym (table.listed n old.0 old.1) ∙ ap (λ l. fin.get ps (key l)) same ∙ lacks)
+      none-some n (sym lacks ∙ ap (λ l. fin.get ps (key l)) (sym same) ∙ table.listed n old.0 old.1)
 
   abbrev Case : Ground → ℕ → Type 0
   Case t n = ((slice_get (types_of es) n ≡ Some t) × (n < length (types_of es))) ⊎ ((n ≡ length (types_of es)) × (e.ty ≡ t))
@@ -198,10 +175,10 @@ module _ (es : List Entry) (ps : Numbers) (e : Entry) (table : AreGrounds es ps)
   types_entered = types_are ∙ ap (λ t. types_of es ++ t ∷ []) made
 
   pub last_made : at (types_of longer_list) (length es) ≡ ground_made (types_of es) e.level
-  last_made = at_is (types_of longer_list) (length es) e.ty (mapped_there (λ (e : Entry). e.ty) longer_list (length es) e (last_there es e)) ∙ made
+  last_made = at_is (types_of longer_list) (length es) e.ty (type_there longer_list (length es) e (last_there es e)) ∙ made
 
   pub last_within : length es < length (types_of longer_list)
-  last_within = subst (λ k. length es < k) (sym (mapped_long (λ (e : Entry). e.ty) longer_list ∙ longer es e)) itself
+  last_within = subst (λ k. length es < k) (sym (types_long longer_list ∙ length-append es (e ∷ []))) itself
 
 -- the same of what is put there
 module _ (es before new : List Entry) (ps qs : Numbers) (e : Entry) (l : GroundLevel) (k : List ℕ) (n : ℕ) (table : AreGrounds es ps) (below : IsBelow (length es) l)
@@ -225,8 +202,8 @@ module _ (es before new : List Entry) (ps qs : Numbers) (e : Entry) (l : GroundL
   pub pushed : AreGrounds new qs
   pushed = subst (λ new. AreGrounds new qs) (sym new_is) (subst (AreGrounds (es ++ e ∷ [])) places_are (entered es ps e table own_below own_lacks own_made own_nodes))
 
-  pub pushed_more : (rest : List Ground) × (types_of new ≡ types_of es ++ rest)
-  pushed_more = (ground_made (types_of es) e.level ∷ [], ap types_of new_is ∙ types_entered es ps e table own_below own_lacks own_made own_nodes)
+  pub pushed_types : types_of new ≡ types_of es ++ ground_made (types_of es) l ∷ []
+  pushed_types = ap types_of new_is ∙ types_entered es ps e table own_below own_lacks own_made own_nodes ∙ ap (λ l. types_of es ++ ground_made (types_of es) l ∷ []) level_is
 
   pub pushed_within : n < length (types_of new)
   pushed_within =
@@ -244,28 +221,23 @@ module _ (es : List Entry) (ps : Numbers) (table : AreGrounds es ps) (l : Ground
 
   pub found_made : at (types_of es) n ≡ ground_made (types_of es) l
   found_made =
-      at_is (types_of es) n there.0.ty (mapped_there (λ (e : Entry). e.ty) es n there.0 there.1) ∙ (table.each n there.0 there.1).made ∙ ap (ground_made (types_of es)) there.2
+      at_is (types_of es) n there.0.ty (type_there es n there.0 there.1) ∙ (table.each n there.0 there.1).made ∙ ap (ground_made (types_of es)) there.2
 
   pub found_within : n < length (types_of es)
-  found_within = subst (λ k. n < k) (sym (mapped_long (λ (e : Entry). e.ty) es)) (within es n there.0 there.1)
+  found_within = subst (λ k. n < k) (sym (types_long es)) (slice_get_within es n there.0 there.1)
 
 pub none_entered : (es : List Entry) (ps : Numbers) → es ≡ [] → ps ≡ fin.empty → AreGrounds es ps
 none_entered es ps none empty = subst (λ es. AreGrounds es ps) (sym none) (subst (λ ps. AreGrounds [] ps) (sym empty) (record {
-  each = λ n e is. absurd (some_none e (sym is));
-  found = λ l n is. absurd (some_none n (sym is ∙ fin.get-empty _ (key l)));
-  listed = λ n e is. absurd (some_none e (sym is));
-  distinct = λ i j t is same. absurd (some_none t (sym is));
+  each = λ n e is. absurd (none-some e is);
+  found = λ l n is. absurd (none-some n (sym (fin.get-empty _ (key l)) ∙ is));
+  listed = λ n e is. absurd (none-some e is);
+  distinct = λ i j t is same. absurd (none-some t is);
 }))
 
 -- ---- an entry that is read
 
-pub get_there_or : {X : Type 0} (xs : List X) (n : ℕ) (x : X) → n < length xs → x ≡ get_or xs n x → slice_get xs n ≡ Some x
-get_there_or [] n x less is = absurd (omega (arith, less))
-get_there_or (y ∷ xs) zero x less is = ap Some (sym is)
-get_there_or (y ∷ xs) (suc n) x less is = get_there_or xs n x (omega (arith, less)) is
-
 pub entry_read : (es : List Entry) (ts : List Ground) (n : ℕ) (e : Entry) → types_of es ≡ ts → n < length ts → e ≡ get_or es n e → slice_get es n ≡ Some e
-entry_read es ts n e are less is = get_there_or es n e (subst (λ k. n < k) (ap length (sym are) ∙ mapped_long (λ (e : Entry). e.ty) es) less) is
+entry_read es ts n e are less is = slice_get_read es (length es) n e refl (subst (λ k. n < k) (ap length (sym are) ∙ types_long es) less) is
 
 pub type_read : (es : List Entry) (ts : List Ground) (n : ℕ) (e : Entry) → types_of es ≡ ts → slice_get es n ≡ Some e → e.ty ≡ at ts n
-type_read es ts n e are is = sym (at_is (types_of es) n e.ty (mapped_there (λ (e : Entry). e.ty) es n e is)) ∙ ap (λ ts. at ts n) are
+type_read es ts n e are is = sym (at_is (types_of es) n e.ty (type_there es n e is)) ∙ ap (λ ts. at ts n) are

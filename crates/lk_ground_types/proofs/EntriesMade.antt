@@ -1,12 +1,13 @@
 -- What is made and counted of the parts of a level.
-use Rattle.std.proofs.Common.{◌≡◌, ℕ, zero, suc, ◌+◌, ◌<◌, ◌≤◌, nat_le, List, [], ◌∷◌, ◌++◌, length, take, get_or, map, refl, sym, ap, ◌∙◌, append_assoc, arith}
+use Rattle.std.proofs.Common.{◌≡◌, ℕ, ◌+◌, ◌<◌, ◌≤◌, nat_le, List, [], ◌∷◌, ◌++◌, length, take, get_or, map, refl, sym, ap, ◌∙◌, append_assoc, arith}
 use Rattle.std.proofs.lemmas.Bool.Decides.{nat_tests}
 use Rattle.std.proofs.lemmas.Grind.{flat_map-append}
-use Rattle.std.proofs.lemmas.List.{map-append, take_all, take_more}
+use Rattle.std.proofs.lemmas.List.{append-nil, map-append, take_all, take_more}
 use Rattle.std.specs.Prelude.{flat_map, sum}
 use Rattle.lk_types.specs.declared.ground.Ground.{Ground}
-use Rattle.lk_types.specs.declared.ground.Ground.TheVariants as known
+use Rattle.lk_ground_types.proofs.Entering.{types_long}
 use Rattle.lk_ground_types.proofs.GroundNodes.{field_is, ground_int}
+use Rattle.lk_ground_types.proofs.LevelForms.{at_beyond}
 use Rattle.lk_ground_types.specs.Counting.{capped}
 use Rattle.lk_ground_types.specs.Grounds.{at, part_made, types_of}
 use Rattle.lk_ground_types.specs.Sizes.{field_nodes, fits, ground_nodes}
@@ -21,12 +22,8 @@ pub behind_more : {X Y : Type 0} (f : X → List Y) (old new : List Y) (first : 
 behind_more f old new first xs i x d below x_is before now =
     now ∙ (λ j. before j ++ f (x_is j)) ∙ append_assoc first (flat_map f (take i xs)) (f (get_or xs i d)) ∙ ap (λ ys. first ++ ys) (sym more)
   where
-    nothing : {Z : Type 0} (zs : List Z) → zs ++ [] ≡ zs
-    nothing [] = refl
-    nothing (z ∷ zs) = ap (λ zs. z ∷ zs) (nothing zs)
-
     more : flat_map f (take (i + 1) xs) ≡ flat_map f (take i xs) ++ f (get_or xs i d)
-    more = ap (flat_map f) (take_more xs i d below) ∙ flat_map-append f (take i xs) (get_or xs i d ∷ []) ∙ ap (λ ys. flat_map f (take i xs) ++ ys) (nothing (f (get_or xs i d)))
+    more = ap (flat_map f) (take_more xs i d below) ∙ flat_map-append f (take i xs) (get_or xs i d ∷ []) ∙ ap (λ ys. flat_map f (take i xs) ++ ys) (append-nil (f (get_or xs i d)))
 
 pub mapped_more : {X Y : Type 0} (f : X → Y) (old new : List Y) (first : List Y) (xs : List X) (i : ℕ) (x d : X) → i < length xs → x ≡ get_or xs i d
     → old ≡ first ++ map f (take i xs) → new ≡ old ++ f x ∷ [] → new ≡ first ++ map f (take (i + 1) xs)
@@ -39,27 +36,14 @@ pub taken_more : {X : Type 0} (old new : List X) (first : List X) (xs : List X) 
 taken_more old new first xs i x d below x_is before now =
     now ∙ (λ j. before j ++ x_is j ∷ []) ∙ append_assoc first (take i xs) (get_or xs i d ∷ []) ∙ ap (λ ys. first ++ ys) (sym (take_more xs i d below))
 
-pub nothing_behind : {X : Type 0} (xs : List X) → xs ≡ xs ++ []
-nothing_behind [] = refl
-nothing_behind (x ∷ xs) = ap (λ xs. x ∷ xs) (nothing_behind xs)
-
 -- ---- nodes
 
 pub one_capped : 1 ≡ capped 1
 unfolding capped
 one_capped = omega arith
 
-at_none : (ts : List Ground) (n : ℕ) → length ts ≤ n → at ts n ≡ known.Int
-at_none [] n le = refl
-at_none (t ∷ ts) zero le = absurd (omega (arith, le))
-at_none (t ∷ ts) (suc n) le = at_none ts n (omega (arith, le))
-
-long : (es : List Entry) → length (types_of es) ≡ length es
-long [] = refl
-long (e ∷ es) = ap suc (long es)
-
 pub none_nodes : (es : List Entry) (n : ℕ) → length es ≤ n → 1 ≡ capped (ground_nodes (at (types_of es) n))
-none_nodes es n le = one_capped ∙ ap capped (sym (ap ground_nodes (at_none (types_of es) n (let h = long es in omega (arith, le, h))) ∙ ground_int))
+none_nodes es n le = one_capped ∙ ap capped (sym (ap ground_nodes (at_beyond (types_of es) n (let h = types_long es in omega (arith, le, h))) ∙ ground_int))
 
 capped_inside : (q x : ℕ) → capped (q + capped x) ≡ capped (q + x)
 unfolding capped

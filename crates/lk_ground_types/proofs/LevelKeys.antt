@@ -232,7 +232,7 @@ tail_of [] = []
 tail_of (x ∷ xs) = xs
 
 module _ (ts : List Ground) (distinct : AreDistinct ts) where
-  same_number : (n m : ℕ) → n < length ts → m < length ts → at ts n ≡ at ts m → n ≡ m
+  pub same_number : (n m : ℕ) → n < length ts → m < length ts → at ts n ≡ at ts m → n ≡ m
   same_number n m less small same = distinct n m (at ts m) (at_there ts n less ∙ ap Some same) (at_there ts m small)
 
   same_numbers : (ns ms : List ℕ) → Each (λ n. n < length ts) ns → Each (λ n. n < length ts) ms → map (at ts) ns ≡ map (at ts) ms → ns ≡ ms

@@ -1,18 +1,21 @@
 -- What levels of types become, one after another.
 use Rattle.std.proofs.Common.{◌≡◌, ◌⊎◌, inl, inr, ℕ, zero, suc, ◌+◌, ◌<◌, get_or, take, List, [], ◌∷◌, ◌++◌, length, map, refl, sym, ap, subst, ◌∙◌, Some, None, arith}
-use Rattle.std.proofs.lemmas.List.{take_more}
+use Rattle.std.proofs.lemmas.List.{append-nil, append_assoc, length-append, length-map, length-take-le, take_more}
+use Rattle.std.proofs.lemmas.Option.{none-some, slice_get-get_or}
+use Rattle.std.specs.Option.{option_map}
 use Rattle.std.specs.Prelude.{slice_get}
 use Rattle.lk_ground_types.proofs.LastLevel.{built_last}
 use Rattle.lk_types.proofs.Built.{built_front}
+use Rattle.lk_types.proofs.Members.{each_both, each_weaker}
 use Rattle.lk_types.proofs.Parts.{all_some, same_some}
 use Rattle.lk_types.specs.Each.{Each}
 use Rattle.lk_types.specs.Grounding.{all_of, under}
-use Rattle.lk_types.specs.Levels.{built, field_made, row_made, made}
+use Rattle.lk_types.specs.Levels.{built, made}
 use Rattle.lk_types.specs.Levels as levels
 use Rattle.lk_types.specs.declared.ground.Ground.{Ground}
 use Rattle.lk_types.specs.declared.levels.Level.{Level}
 use Rattle.lk_types.specs.declared.ty.Ty.{Ty}
-use Rattle.lk_ground_types.proofs.Entering.{at_front, each_lower}
+use Rattle.lk_ground_types.proofs.Entering.{at_front}
 use Rattle.lk_ground_types.proofs.Tables.{grown}
 use Rattle.lk_ground_types.specs.Becoming.{AreGround, Stand, bound_number, level_of, number_at}
 use Rattle.lk_ground_types.specs.Bound.{AreWithin, grounding_in}
@@ -25,18 +28,10 @@ use Rattle.lk_ground_types.specs.declared.ground_level.GroundLevel.{GroundLevel}
 -- ---- one after another
 
 pub none_ground : (b : Bindings) (ts : List Ground) → AreGround b ts ts [] []
-none_ground b ts = record { grown = ([], sym (nothing ts)); count = refl; within = tt; stand = λ i less. absurd (none_less i less) }
+none_ground b ts = record { grown = ([], sym (append-nil ts)); count = refl; within = tt; stand = λ i less. absurd (none_less i less) }
   where
     none_less : (i : ℕ) → i < 0 → ⊥
     none_less i less = omega (arith, less)
-
-    nothing : (ts : List Ground) → ts ++ [] ≡ ts
-    nothing [] = refl
-    nothing (t ∷ ts) = ap (λ ts. t ∷ ts) (nothing ts)
-
-together : (xs ys zs : List Ground) → (xs ++ ys) ++ zs ≡ xs ++ (ys ++ zs)
-together [] ys zs = refl
-together (x ∷ xs) ys zs = ap (λ xs. x ∷ xs) (together xs ys zs)
 
 number_front : (ns : List ℕ) (n i : ℕ) → i < length ns → number_at (ns ++ n ∷ []) i ≡ number_at ns i
 number_front [] n i less = absurd (omega (arith, less))
@@ -47,20 +42,8 @@ number_last : (ns : List ℕ) (n : ℕ) → number_at (ns ++ n ∷ []) (length n
 number_last [] n = refl
 number_last (m ∷ ns) n = number_last ns n
 
-one_longer : {X : Type 0} (xs : List X) (x : X) → length (xs ++ x ∷ []) ≡ length xs + 1
-one_longer [] x = omega arith
-one_longer (y ∷ xs) x = let h = one_longer xs x in omega (arith, h)
-
 each_grown : (ts us : List Ground) (ns : List ℕ) → Each (λ n. n < length ts) ns → Each (λ n. n < length (ts ++ us)) ns
-each_grown ts us ns all = each_lower (length ts) (length (ts ++ us)) ns (let h = both ts us in omega (arith, h)) all
-  where
-    both : (ts us : List Ground) → length ts < length (ts ++ us) + 1
-    both [] us = omega arith
-    both (t ∷ ts) us = let h = both ts us in omega (arith, h)
-
-each_last : (P : ℕ → Type 0) (ns : List ℕ) (n : ℕ) → Each P ns → P n → Each P (ns ++ n ∷ [])
-each_last P [] n all one = (one, tt)
-each_last P (m ∷ ns) n all one = (all.0, each_last P ns n all.1 one)
+each_grown ts us ns all = each_weaker (λ n. n < length ts) (λ n. n < length (ts ++ us)) (λ n less. (let h = length-append ts us in omega (arith, h, less))) ns all
 
 less_cases : (i n : ℕ) → i < n + 1 → (i < n) ⊎ (i ≡ n)
 less_cases zero zero less = inr refl
@@ -85,10 +68,10 @@ module _ (b : Bindings) (first ts us : List Ground) (xs : List Level) (ns : List
   one_made = subst (λ σ. IsIfThere (under σ (made (built xs) l)) (at us n)) same (made_it stood)
 
   long : length (ns ++ n ∷ []) ≡ length (xs ++ l ∷ [])
-  long = one_longer ns n ∙ ap (λ k. k + 1) before.count ∙ sym (one_longer xs l)
+  long = length-append ns (n ∷ []) ∙ ap (λ k. k + 1) before.count ∙ sym (length-append xs (l ∷ []))
 
   stands_still : Stand (grounding_in first b) us (built (xs ++ l ∷ [])) (ns ++ n ∷ [])
-  stands_still i below = by_case (less_cases i (length ns) (subst (λ k. i < k) (one_longer ns n) below))
+  stands_still i below = by_case (less_cases i (length ns) (subst (λ k. i < k) (length-append ns (n ∷ [])) below))
     where
       by_case : (i < length ns) ⊎ (i ≡ length ns) → IsIfThere (under (grounding_in first b) (levels.at (built (xs ++ l ∷ [])) i)) (at us (number_at (ns ++ n ∷ []) i))
       by_case (inl lower) t is =
@@ -102,9 +85,9 @@ module _ (b : Bindings) (first ts us : List Ground) (xs : List Level) (ns : List
 
   pub one_more_ground : AreGround b first us (xs ++ l ∷ []) (ns ++ n ∷ [])
   one_more_ground = record {
-    grown = (before.grown.0 ++ more.0, more.1 ∙ ap (λ ts. ts ++ more.0) before.grown.1 ∙ together first before.grown.0 more.0);
+    grown = (before.grown.0 ++ more.0, more.1 ∙ ap (λ ts. ts ++ more.0) before.grown.1 ∙ append_assoc first before.grown.0 more.0);
     count = long;
-    within = each_last (λ n. n < length us) ns n (subst (λ us. Each (λ n. n < length us) ns) (sym more.1) (each_grown ts more.0 ns before.within)) less;
+    within = each_both (λ n. n < length us) ns (n ∷ []) (subst (λ us. Each (λ n. n < length us) ns) (sym more.1) (each_grown ts more.0 ns before.within)) (less, tt);
     stand = stands_still;
   }
 
@@ -124,6 +107,20 @@ module _ (b : Bindings) (first ts : List Ground) (xs : List Level) (ns : List �
       let x = all_some (under (grounding_in first b) (levels.at (built xs) r)) (map (under (grounding_in first b)) (map (levels.at (built xs)) roots)) found is in
       (λ i. are.stand r (subst (λ k. r < k) (sym are.count) below.0) x.0 x.2 i ∷ roots_become roots below.1 x.1 x.3 i) ∙ sym x.4
 
+  -- each that becomes something becomes the type of its number
+  pub roots_stand : (roots : List ℕ) → Each (λ n. n < length xs) roots → (i : ℕ) (ty : Ty) (t : Ground) → slice_get (map (levels.at (built xs)) roots) i ≡ Some ty → under (grounding_in first b) ty ≡ Some t
+      → option_map (at ts) (slice_get (map (number_at ns) roots) i) ≡ Some t
+  roots_stand [] below i ty t there is = absurd (none-some ty there)
+  roots_stand (r ∷ roots) below zero ty t there is =
+      ap Some (are.stand r (subst (λ k. r < k) (sym are.count) below.0) t (ap (under (grounding_in first b)) (same_some there) ∙ is))
+  roots_stand (r ∷ roots) below (suc i) ty t there is = roots_stand roots below.1 i ty t there is
+
+  pub roots_each : (roots : List ℕ) → Each (λ n. n < length xs) roots → (tys : List Ty) → map (levels.at (built xs)) roots ≡ tys → (ms : List ℕ) → ms ≡ ns → (made : List ℕ) → made ≡ map (number_at ms) roots
+      → (i : ℕ) (ty : Ty) (t : Ground) → slice_get tys i ≡ Some ty → under (grounding_in first b) ty ≡ Some t → option_map (at ts) (slice_get made i) ≡ Some t
+  roots_each roots below tys tys_are ms ms_are made made_are i ty t there is =
+      ap (λ made. option_map (at ts) (slice_get made i)) (made_are ∙ ap (λ ns. map (number_at ns) roots) ms_are)
+      ∙ roots_stand roots below i ty t (ap (λ tys. slice_get tys i) tys_are ∙ there) is
+
   pub roots_within : (roots : List ℕ) → Each (λ n. n < length xs) roots → Each (λ n. n < length ts) (map (number_at ns) roots)
   roots_within roots below = numbers_within (length ts) ns roots are.within (subst (λ k. Each (λ r. r < k) roots) (sym are.count) below)
 
@@ -139,36 +136,20 @@ module _ (b : Bindings) (first ts : List Ground) (xs : List Level) (ns : List �
   -- ---- while the levels are gone through
 
   pub within_still : AreWithin (length first) b → AreWithin (length ts) b
-  within_still within = subst (λ ts. AreWithin (length ts) b) (sym are.grown.1) (more_within (length first) (length (first ++ are.grown.0)) b (longer first are.grown.0) within)
-    where
-      longer : (ts us : List Ground) → length ts < length (ts ++ us) + 1
-      longer [] us = omega arith
-      longer (t ∷ ts) us = let h = longer ts us in omega (arith, h)
+  within_still within =
+      let h = length-append first are.grown.0 in
+      subst (λ ts. AreWithin (length ts) b) (sym are.grown.1) (more_within (length first) (length (first ++ are.grown.0)) b (omega (arith, h)) within)
 
   pub numbers_so_far : (ms : List ℕ) → ms ≡ ns → Each (λ n. n < length ts) ms
   numbers_so_far ms ms_are = subst (Each (λ n. n < length ts)) (sym ms_are) are.within
 
 pub nothing_more : (ts : List Ground) → (rest : List Ground) × (ts ≡ ts ++ rest)
-nothing_more ts = ([], sym (nothing ts))
-  where
-    nothing : (ts : List Ground) → ts ++ [] ≡ ts
-    nothing [] = refl
-    nothing (t ∷ ts) = ap (λ ts. t ∷ ts) (nothing ts)
-
-taken_long : {X : Type 0} (xs : List X) (i : ℕ) → i < length xs → length (take i xs) ≡ i
-taken_long [] i less = absurd (omega (arith, less))
-taken_long (x ∷ xs) zero less = refl
-taken_long (x ∷ xs) (suc i) less = ap suc (taken_long xs i (omega (arith, less)))
-
-there_at : {X : Type 0} (xs : List X) (i : ℕ) (x d : X) → i < length xs → x ≡ get_or xs i d → slice_get xs i ≡ Some x
-there_at [] i x d less is = absurd (omega (arith, less))
-there_at (y ∷ xs) zero x d less is = ap Some (sym is)
-there_at (y ∷ xs) (suc i) x d less is = there_at xs i x d (omega (arith, less)) is
+nothing_more ts = ([], sym (append-nil ts))
 
 module _ (b : Bindings) (first ts : List Ground) (xs : List Level) (i : ℕ) (d l : Level) (ns : List ℕ) (are : AreGround b first ts (take i xs) ns) where
   pub place_below : (ms : List ℕ) → ms ≡ ns → levels.AreBelow xs → i < length xs → l ≡ get_or xs i d → levels.IsBelow (length ms) l
   place_below ms ms_are below less is =
-      subst (λ k. levels.IsBelow k l) (sym (ap length ms_are ∙ are.count ∙ taken_long xs i less)) (below i l (there_at xs i l d less is))
+      subst (λ k. levels.IsBelow k l) (sym (ap length ms_are ∙ are.count ∙ length-take-le i xs (omega (arith, less)))) (below i l (slice_get-get_or xs i d less ∙ ap Some (sym is)))
 
 pub levels_ground : (b : Bindings) (first ts us : List Ground) (xs : List Level) (i : ℕ) (d l : Level) (ns ms more_ns : List ℕ) (n : ℕ) → AreGround b first ts (take i xs) ns → AreWithin (length first) b
     → i < length xs → l ≡ get_or xs i d → ms ≡ ns → ((rest : List Ground) × (us ≡ ts ++ rest)) → n < length us
@@ -184,10 +165,6 @@ pub added_stands : (b : Bindings) (ts us : List Ground) (tys : List Ty) (ns : Li
 added_stands b ts us tys ns stand l g n below none g_is made_it t is =
     made_it ∙ ap (ground_made ts) g_is ∙ level_stands b ts tys ns stand l below none t is
 
-mapped_long : {X Y : Type 0} (f : X → Y) (xs : List X) → length (map f xs) ≡ length xs
-mapped_long f [] = refl
-mapped_long f (x ∷ xs) = ap suc (mapped_long f xs)
-
 pub roots_counted : (xs : List Level) (roots : List ℕ) (tys : List Ty) → map (levels.at (built xs)) roots ≡ tys → (ms made : List ℕ) → made ≡ map (number_at ms) roots → length made ≡ length tys
 roots_counted xs roots tys tys_are ms made made_are =
-    ap length made_are ∙ mapped_long (number_at ms) roots ∙ sym (mapped_long (levels.at (built xs)) roots) ∙ ap length tys_are
+    ap length made_are ∙ length-map roots (number_at ms) ∙ sym (length-map roots (levels.at (built xs))) ∙ ap length tys_are

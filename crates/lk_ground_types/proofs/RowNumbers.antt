@@ -1,6 +1,7 @@
 -- Rows of types by their numbers.
 use Rattle.std.proofs.Common.{◌≡◌, ◌⊎◌, inl, inr, ℕ, ◌<◌, ◌++◌, List, [], ◌∷◌, length, map, refl, sym, ap, ◌∙◌, Option, Some, None, cond, subst, T}
 use Rattle.std.specs.Cmp.Lexicographic.{nat_list_cmp_total}
+use Rattle.std.proofs.lemmas.Option.{none-some}
 use Rattle.std.specs.FinMap as fin
 use Rattle.std.specs.Option.{option_map}
 use Rattle.lk_types.proofs.LabelMaps.{Differ, Tied, entries_back, find_here, find_mapped, find_rest, find_there, get_here, get_there, removed_here, removed_there, same_maps, sorted_mapped, sorted_rest, tie_cases, with_value}
@@ -70,12 +71,9 @@ module _ (ts : List Ground) where
 
 -- ---- numbers within a table
 
-some_none : {A : Type 0} (x : A) → Some x ≡ None → ⊥
-some_none x e = cc
-
 module _ (k : ℕ) where
   pub within_empty : IsRowWithin k fin.empty
-  within_empty l m is = absurd (some_none m (sym is ∙ fin.get-empty label_order l))
+  within_empty l m is = absurd (none-some m (sym (fin.get-empty label_order l) ∙ is))
 
   pub within_put : (row : Parts) (l : Label) (n : ℕ) → n < k → IsRowWithin k row → IsRowWithin k (fin.insert row l n)
   within_put row l n less within q m is = by_case (tie_cases q l)
@@ -88,7 +86,7 @@ module _ (k : ℕ) where
   within_removed row l within q m is = by_case (tie_cases q l)
     where
       by_case : Tied q l ⊎ Differ q l → m < k
-      by_case (inl tied) = absurd (some_none m (sym is ∙ removed_here row l q tied.1))
+      by_case (inl tied) = absurd (none-some m (sym (removed_here row l q tied.1) ∙ is))
       by_case (inr differ) = within q m (sym (removed_there row l q differ.1) ∙ is)
 
   found_within : (ps : List GroundPart) → ArePartsBelow k ps → (q : Label) (m : ℕ) → fin.find label_order q (map (λ p. (p.label, p.part)) ps) ≡ Some m → m < k
@@ -107,7 +105,7 @@ module _ (k : ℕ) where
   each_within (e ∷ es) all sorted = (all e.0 e.1 (find_here e.0 e es refl), each_within es (λ l m is. by_case l m is (tie_cases l e.0)) (sorted_rest e es sorted))
     where
       by_case : (l : Label) (m : ℕ) → fin.find label_order l es ≡ Some m → Tied l e.0 ⊎ Differ l e.0 → m < k
-      by_case l m is (inl tied) = absurd (some_none m (sym is ∙ ap (λ l. fin.find label_order l es) tied.1 ∙ find_rest e.0 e.1 es sorted))
+      by_case l m is (inl tied) = absurd (none-some m (sym (ap (λ l. fin.find label_order l es) tied.1 ∙ find_rest e.0 e.1 es sorted) ∙ is))
       by_case l m is (inr differ) = all l m (find_there l e es differ.1 ∙ is)
 
   -- the parts of a row

@@ -8,7 +8,7 @@ use Rattle.lk_types.proofs.Parts.{all_some, mapped, row_rolled, same_some, with_
 use Rattle.lk_types.proofs.Unfold.{under_bool, under_int, under_text}
 use Rattle.lk_types.specs.Each.{Each}
 use Rattle.lk_types.specs.Grounding.{all_of, before_row, effect_tail, row_tail, row_under, under}
-use Rattle.lk_types.specs.Levels.{built, field_made, row_made, made}
+use Rattle.lk_types.specs.Levels.{field_made, row_made, made}
 use Rattle.lk_types.specs.Levels as levels
 use Rattle.lk_types.specs.Rows.{Label, Row, fields_of, no_fields}
 use Rattle.lk_types.specs.declared.ground.Ground.{Ground}
@@ -21,10 +21,10 @@ use Rattle.lk_types.specs.declared.ty.RowTail.{RowTail}
 use Rattle.lk_types.specs.declared.ty.RowTail.TheVariants.{Closed, Var}
 use Rattle.lk_types.specs.declared.ty.Ty.{Ty}
 use Rattle.lk_types.specs.declared.ty.Ty.TheVariants as ty
-use Rattle.lk_ground_types.proofs.Building.{build_base, build_function, build_list, build_record, build_variable, build_variant, effects_made as effects_built}
+use Rattle.lk_ground_types.proofs.FormsBecome.{base_becomes, effects_made as effects_become, function_becomes, list_becomes, record_becomes, variable_becomes, variant_becomes}
 use Rattle.lk_ground_types.proofs.RowNumbers.{empty_row, fields_row, parts_within, put_row, within_empty, within_put}
 use Rattle.lk_ground_types.proofs.Tables.{effects_are, plain_none, plain_some, rows_are}
-use Rattle.lk_ground_types.specs.Becoming.{AreGround, Stand, bound_effects, bound_number, bound_row, fields_put, level_of, number_at}
+use Rattle.lk_ground_types.specs.Becoming.{Stand, bound_effects, bound_number, bound_row, fields_put, level_of, number_at}
 use Rattle.lk_ground_types.specs.Becoming as becoming
 use Rattle.lk_ground_types.specs.Bound.{AreWithin, IsRowWithin, grounding_in, is_listed}
 use Rattle.lk_ground_types.specs.Grounds.{IsBelow, Parts, at, ground_made, part_made, parts_in, row_in}
@@ -76,16 +76,16 @@ module _ (b : Bindings) (ts : List Ground) (tys : List Ty) (ns : List ℕ) (stan
       ∙ sym x.2
 
   pub level_stands : (l : Level) → levels.IsBelow (length ns) l → bound_number b l ≡ None → IsIfThere (under (grounding_in ts b) (made tys l)) (ground_made ts (level_of b ns l))
-  level_stands level.Int below none = build_base (grounding_in ts b) ty.Int ty.Int known.Int (under_int (grounding_in ts b)) refl
-  level_stands level.Bool below none = build_base (grounding_in ts b) ty.Bool ty.Bool known.Bool (under_bool (grounding_in ts b)) refl
-  level_stands level.Text below none = build_base (grounding_in ts b) ty.Text ty.Text known.Text (under_text (grounding_in ts b)) refl
-  level_stands (level.List n) below none = build_list (grounding_in ts b) (ty.List (levels.at tys n)) (levels.at tys n) (at ts (number_at ns n)) refl (stand n below.0)
-  level_stands (level.Fields row) below none = build_record (grounding_in ts b) (ty.Fields (row_made tys row)) (row_made tys row) _ refl (row_becomes row below)
-  level_stands (level.Tags row) below none = build_variant (grounding_in ts b) (ty.Tags (row_made tys row)) (row_made tys row) _ refl (row_becomes row below)
+  level_stands level.Int below none = base_becomes (grounding_in ts b) ty.Int ty.Int known.Int (under_int (grounding_in ts b)) refl
+  level_stands level.Bool below none = base_becomes (grounding_in ts b) ty.Bool ty.Bool known.Bool (under_bool (grounding_in ts b)) refl
+  level_stands level.Text below none = base_becomes (grounding_in ts b) ty.Text ty.Text known.Text (under_text (grounding_in ts b)) refl
+  level_stands (level.List n) below none = list_becomes (grounding_in ts b) (ty.List (levels.at tys n)) (levels.at tys n) (at ts (number_at ns n)) refl (stand n below.0)
+  level_stands (level.Fields row) below none = record_becomes (grounding_in ts b) (ty.Fields (row_made tys row)) (row_made tys row) _ refl (row_becomes row below)
+  level_stands (level.Tags row) below none = variant_becomes (grounding_in ts b) (ty.Tags (row_made tys row)) (row_made tys row) _ refl (row_becomes row below)
   level_stands (level.Fun params es n) below none =
-      build_function (grounding_in ts b) (ty.Fun (map (levels.at tys) params) es (levels.at tys n)) (map (levels.at tys) params) es (levels.at tys n) _ (becoming.effects_made b es) (at ts (number_at ns n)) refl
-      (all_stand params below.1) (effects_built (grounding_in ts b) es es.labels (bound_effects b es.tail) _ refl (effects_stand b ts es.tail) refl) (stand n below.0)
-  level_stands (level.Var n) below none = build_variable (grounding_in ts b) (ty.Var n) n (known.Fields []) refl (sym (plain_none ts b n none))
+      function_becomes (grounding_in ts b) (ty.Fun (map (levels.at tys) params) es (levels.at tys n)) (map (levels.at tys) params) es (levels.at tys n) _ (becoming.effects_made b es) (at ts (number_at ns n)) refl
+      (all_stand params below.1) (effects_become (grounding_in ts b) es es.labels (bound_effects b es.tail) _ refl (effects_stand b ts es.tail) refl) (stand n below.0)
+  level_stands (level.Var n) below none = variable_becomes (grounding_in ts b) (ty.Var n) n (known.Fields []) refl (sym (plain_none ts b n none))
 
   pub variable_stands : (l : Level) (m : ℕ) → bound_number b l ≡ Some m → IsIfThere (under (grounding_in ts b) (made tys l)) (at ts m)
   variable_stands level.Int m is = cc
@@ -95,7 +95,7 @@ module _ (b : Bindings) (ts : List Ground) (tys : List Ty) (ns : List ℕ) (stan
   variable_stands (level.Fields row) m is = cc
   variable_stands (level.Tags row) m is = cc
   variable_stands (level.Fun params es n) m is = cc
-  variable_stands (level.Var n) m is = build_variable (grounding_in ts b) (ty.Var n) n (at ts m) refl (sym (plain_some ts b n m is))
+  variable_stands (level.Var n) m is = variable_becomes (grounding_in ts b) (ty.Var n) n (at ts m) refl (sym (plain_some ts b n m is))
 
 -- ---- numbers within the table
 

@@ -1,6 +1,7 @@
 -- What bindings say after one more is among them.
 use Rattle.std.proofs.Common.{◌≡◌, ℕ, ◌<◌, ◌==◌, ◌++◌, length, subst, Bool, true, false, cond, List, [], refl, sym, ap, ◌⊎◌, inl, inr, ◌∙◌, Option, Some, None, arith, if◌then◌else◌}
 use Rattle.std.proofs.lemmas.Bool.Decides.{nat_tests}
+use Rattle.std.proofs.lemmas.Option.{none-some}
 use Rattle.std.specs.BTreeMap.{BTreeMap, IsEmpty, get, is_at}
 use Rattle.std.specs.Map.{lookup}
 use Rattle.std.specs.Option.{option_map, unwrap_or}
@@ -73,9 +74,6 @@ bound_none b p q r ts = λ i. record {
 
 -- ---- numbers within the table
 
-some_none : {A : Type 0} (x : A) → Some x ≡ None → ⊥
-some_none x e = cc
-
 -- what is found is the new one, or was there
 found_in : {V : Type 0} (c : Bool) (v w : V) (o : Option V) → cond c (Some v) o ≡ Some w → (v ≡ w) ⊎ (o ≡ Some w)
 found_in true v w o is = inl (same_some is)
@@ -98,8 +96,8 @@ module _ (k : ℕ) (b : Bindings) where
 
   pub within_none : IsEmpty b.plain → IsEmpty b.rows → AreWithin k b
   within_none p q = record {
-    plain = λ n m is. absurd (some_none m (sym is ∙ none_in (λ o. o) b.plain p n));
-    rows = λ n row is. absurd (some_none row (sym is ∙ none_in (λ o. o) b.rows q n));
+    plain = λ n m is. absurd (none-some m (sym (none_in (λ o. o) b.plain p n) ∙ is));
+    rows = λ n row is. absurd (none-some row (sym (none_in (λ o. o) b.rows q n) ∙ is));
   }
 
 -- a table that grows leaves what stands for variables as it is

@@ -129,10 +129,10 @@ pub record IsEntry (ts : List Ground) (n : ℕ) (e : Entry) : Type 0 where
   pub below : IsBelow n e.level
   pub nodes : e.nodes ≡ capped (ground_nodes e.ty)
 
-pub record AreGrounds (entries : List Entry) (places : Numbers) : Type 0 where
+pub record AreGrounds (entries : List Entry) (numbers : Numbers) : Type 0 where
   pub each : (n : ℕ) (e : Entry) → slice_get entries n ≡ Some e → IsEntry (types_of entries) n e
-  pub found : (l : GroundLevel) (n : ℕ) → fin.get places (key l) ≡ Some n → (e : Entry) × (slice_get entries n ≡ Some e) × (e.level ≡ l)
-  pub listed : (n : ℕ) (e : Entry) → slice_get entries n ≡ Some e → fin.get places (key e.level) ≡ Some n
+  pub found : (l : GroundLevel) (n : ℕ) → fin.get numbers (key l) ≡ Some n → (e : Entry) × (slice_get entries n ≡ Some e) × (e.level ≡ l)
+  pub listed : (n : ℕ) (e : Entry) → slice_get entries n ≡ Some e → fin.get numbers (key e.level) ≡ Some n
   pub distinct : AreDistinct (types_of entries)
 
 -- each type has as many nodes as is noted

@@ -9,7 +9,8 @@ ghost use Rattle.lk_types.specs.Grounding.{all_of, under};
 ghost use Rattle.lk_types.specs.Levels.{AreBelow, IsBelow, made as the_made};
 ghost use Rattle.lk_types.specs.declared.ground.Ground.{Ground as TheGround};
 ghost use Rattle.lk_types.specs.declared.ty.Ty.{Ty as TheTy};
-ghost use Rattle.std.specs.Prelude.{◌≡◌, ◌++◌, ◌<◌, IfOk, List as TheList, OnOk, Some, length, map};
+ghost use Rattle.std.specs.Option.{option_map};
+ghost use Rattle.std.specs.Prelude.{◌≡◌, ◌++◌, ◌<◌, ℕ, IfOk, List as TheList, OnOk, Some, length, map, slice_get};
 
 use crate::bindings::Bindings;
 use crate::effect_lists::in_order;
@@ -20,8 +21,8 @@ use lk_ast::{List, NoMemory};
 use lk_types::{Effect, Effects, Level, LevelField, LevelRow, RowTail, Ty, Types};
 use std::alloc::Global;
 
-/// The numbers of what the types of a table become with these bindings. Nothing is said where one becomes nothing, since a row in it
-/// gets a label twice. `NoMemory` where memory runs out.
+/// The numbers of what the types of a table become with these bindings. Nothing is said of the number of one that becomes nothing,
+/// since a row in it gets a label twice. `NoMemory` where memory runs out.
 pub fn ground_all(
     alloc: Global,
     grounds: &mut Grounds,
@@ -30,14 +31,14 @@ pub fn ground_all(
 ) -> Result<List<u32>, NoMemory>
     requires { AreWithin (length grounds.old) bindings.now }
     ensures made { IfOk result (λ numbers. (ts : TheList TheGround) → all_of (map (under (grounding_in grounds.old bindings.now)) types.now) ≡ Some ts → map (at grounds.new) numbers ≡ ts) }
+    ensures each { IfOk result (λ numbers. (i : ℕ) (ty : TheTy) (t : TheGround) → slice_get types.now i ≡ Some ty → under (grounding_in grounds.old bindings.now) ty ≡ Some t → option_map (at grounds.new) (slice_get numbers i) ≡ Some t) }
     ensures count { IfOk result (λ numbers. length numbers ≡ length types.now) }
     ensures within { IfOk result (Each (λ n. n < length grounds.new)) }
     ensures more { (rest : TheList TheGround) × (grounds.new ≡ grounds.old ++ rest) }
 {
-    let table = types.parts();
-    let numbers = ground_levels(alloc, grounds, bindings, table.0)?;
-    let found = numbers_at(alloc, numbers.as_slice(), table.1)?;
-    Ok(found)
+    let (levels, roots) = types.parts();
+    let numbers = ground_levels(alloc, grounds, bindings, levels)?;
+    numbers_at(alloc, numbers.as_slice(), roots)
 }
 
 /// The number of what a type becomes with these bindings. Nothing is said where it becomes nothing. `NoMemory` where memory runs out.
@@ -96,7 +97,7 @@ fn number_made(
         Some(number) => Ok(number),
         None => {
             let made = level_made(alloc, bindings, numbers, level)?;
-            Ok(grounds.add(alloc, made)?)
+            grounds.add(alloc, made)
         }
     }
 }

@@ -1,7 +1,7 @@
 //! What stands for the variables of a type.
 
 ghost use Rattle.lk_ground_types.specs.Bound.{AreWithin, IsRowWithin, grounding_in, is_listed, with_effects, with_plain, with_row};
-ghost use Rattle.lk_ground_types.specs.Grounds.{Parts, at, row_in};
+ghost use Rattle.lk_ground_types.specs.Grounds.{at, row_in};
 ghost use Rattle.lk_ground_types.specs.Least.{AreSameAt, IsLeastBut, least};
 ghost use Rattle.lk_types.specs.Grounding.{Grounding, under};
 ghost use Rattle.lk_types.specs.Variables.{variables_of};

@@ -6,7 +6,7 @@ ghost use Rattle.std.specs.Prelude.{◌≡◌, ◌+◌};
 use lk_types::MOST_NODES;
 
 /// One more than a type may have.
-pub const MOST: usize = MOST_NODES + 1;
+const MOST: usize = MOST_NODES + 1;
 
 /// So many more.
 #[tactic(auto, unfolding(crate::specs::Counting::capped))]

@@ -43,7 +43,7 @@ fn nodes_at(entries: &[Entry], number: u32) -> usize
 }
 
 /// The type that a level makes of these.
-pub fn type_made(alloc: Global, entries: &[Entry], level: &GroundLevel) -> Result<Ground, NoMemory>
+fn type_made(alloc: Global, entries: &[Entry], level: &GroundLevel) -> Result<Ground, NoMemory>
     ensures { IfOk result (λ ty. ty ≡ ground_made (types_of entries.now) level.now) }
 {
     match level {
@@ -120,7 +120,7 @@ fn types_made(
 
 /// Counts the nodes of the type that a level makes.
 #[tactic(auto, using(crate::proofs::GroundNodes::ground_int, crate::proofs::GroundNodes::ground_bool, crate::proofs::GroundNodes::ground_text, crate::proofs::GroundNodes::ground_list, crate::proofs::GroundNodes::ground_fields, crate::proofs::GroundNodes::ground_tags, crate::proofs::GroundNodes::ground_function, crate::proofs::EntriesMade::one_capped))]
-pub fn nodes_made(entries: &[Entry], level: &GroundLevel) -> usize
+fn nodes_made(entries: &[Entry], level: &GroundLevel) -> usize
     requires { AreCounted entries.now }
     ensures { result ≡ capped (ground_nodes (ground_made (types_of entries.now) level.now)) }
 {

@@ -87,8 +87,7 @@ fn push_part(key: &mut List<u32>, part: &GroundPart) -> Result<(), NoMemory>
     ensures { OnOk result (key.new ≡ key.old ++ part_key part.now) }
 {
     key.push(part.part)?;
-    push_label(key, part.label.as_str().as_bytes())?;
-    Ok(())
+    push_label(key, part.label.as_str().as_bytes())
 }
 
 fn push_label(key: &mut List<u32>, label: &[u8]) -> Result<(), NoMemory>
@@ -97,8 +96,7 @@ fn push_label(key: &mut List<u32>, label: &[u8]) -> Result<(), NoMemory>
     for byte in label {
         key.push(*byte as u32 + 1)?;
     }
-    key.push(0)?;
-    Ok(())
+    key.push(0)
 }
 
 fn function_key(
@@ -123,8 +121,7 @@ fn push_effects(key: &mut List<u32>, effects: &[Effect]) -> Result<(), NoMemory>
     for effect in effects {
         key.push(effect_number(*effect))?;
     }
-    key.push(7)?;
-    Ok(())
+    key.push(7)
 }
 
 fn effect_number(effect: Effect) -> u32

@@ -4,21 +4,34 @@ ghost use Rattle.lk_ground_types.specs.Grounds.{AreDistinct, AreGrounds, IsBelow
 ghost use Rattle.lk_ground_types.specs.Sizes.{fits as the_fits};
 ghost use Rattle.lk_types.specs.declared.ground.Ground.{Ground as TheGround};
 ghost use Rattle.std.specs.FinMap as finite;
-ghost use Rattle.std.specs.Prelude.{◌≡◌, ◌++◌, ◌<◌, [], ◌≤◌, IfNone, IfOk, IfSome, List as TheList, None, length};
+ghost use Rattle.std.specs.Prelude.{◌≡◌, ◌⊎◌, ◌++◌, ◌∷◌, ◌<◌, [], ◌≤◌, IfNone, IfOk, IfSome, List as TheList, None, OnErr, length};
 
 use crate::entries::{Entry, entry_of};
 use crate::ground_level::{GroundLevel, key_of};
-use crate::places::Places;
+use crate::numbers_by_key::NumbersByKey;
 use lk_ast::{List, NoMemory};
 use lk_types::{Ground, MOST_NODES};
 use std::alloc::Global;
 use std::marker::Model;
 
 /// Ground types, each of which stands once and is named by its number. Contracts see the list of them.
-#[derive(Drop)]
 pub struct Grounds {
     entries: Vec<Entry>,
-    places: Places,
+    numbers: NumbersByKey,
+}
+
+impl Drop for Grounds {
+    /// Types own their parts, one inside another, thousands deep. From the last one on each is dropped while its parts, which have
+    /// lower numbers, are still owned by the table, so that dropping goes no deeper than a level.
+    fn drop(self) {
+        let Grounds {
+            mut entries,
+            numbers: _,
+        } = self;
+        while let Some(entry) = entries.pop() {
+            drop(entry);
+        }
+    }
 }
 
 impl Model for Grounds {
@@ -34,7 +47,7 @@ impl Model for Grounds {
 
     ghost view = { λ grounds. types_of grounds.entries.items };
 
-    ghost invariant = { λ grounds. AreGrounds grounds.entries.items grounds.places };
+    ghost invariant = { λ grounds. AreGrounds grounds.entries.items grounds.numbers };
 }
 
 impl Grounds {
@@ -44,15 +57,8 @@ impl Grounds {
     {
         Grounds {
             entries: Vec::new(alloc),
-            places: Places::new(alloc),
+            numbers: NumbersByKey::new(alloc),
         }
-    }
-
-    /// How many types there are.
-    pub fn len(&self) -> usize
-        ensures { result ≡ length self.now }
-    {
-        self.entries.len()
     }
 
     /// The type of that number. It may be far too large to be walked: `fits` says whether it isn't.
@@ -64,7 +70,7 @@ impl Grounds {
     }
 
     /// The level of the type of that number, if there is one.
-    pub fn level(&self, number: u32) -> Option<&GroundLevel>
+    pub(crate) fn level(&self, number: u32) -> Option<&GroundLevel>
         ensures made { IfSome result (λ level. ground_made self.now level.now ≡ at self.now number) }
         ensures below { IfSome result (λ level. IsBelow number level.now) }
         ensures within { IfSome result (λ level. number < length self.now) }
@@ -88,18 +94,21 @@ impl Grounds {
     pub fn distinct(&self)
         ensures { AreDistinct self.now }
     {
+        // this lets the check see what holds of the entries
         let _ = &self.entries;
     }
 
-    /// The number of the type that this level makes, which is put into the table where it isn't there. `NoMemory` where memory runs
-    /// out.
+    /// The number of the type that this level makes, which is put behind the others where it isn't there. `NoMemory` where memory
+    /// runs out, and where there are 2^32 types: the table is left as it is.
     pub fn add(&mut self, alloc: Global, level: GroundLevel) -> Result<u32, NoMemory>
         requires { IsBelow (length self.old) level }
         ensures within { IfOk result (λ number. number < length self.new) }
         ensures made { IfOk result (λ number. at self.new number ≡ ground_made self.old level) }
+        ensures added { IfOk result (λ number. (self.new ≡ self.old) ⊎ (self.new ≡ self.old ++ ground_made self.old level ∷ [])) }
+        ensures kept { OnErr result (self.new ≡ self.old) }
         ensures more { (rest : TheList TheGround) × (self.new ≡ self.old ++ rest) }
     {
-        enter(alloc, &mut self.entries, &mut self.places, level)
+        enter(alloc, &mut self.entries, &mut self.numbers, level)
     }
 }
 
@@ -107,20 +116,21 @@ impl Grounds {
 fn enter(
     alloc: Global,
     entries: &mut Vec<Entry>,
-    places: &mut Places,
+    numbers: &mut NumbersByKey,
     level: GroundLevel,
 ) -> Result<u32, NoMemory>
-    requires table { AreGrounds entries.old.items places.old }
+    requires table { AreGrounds entries.old.items numbers.old }
     requires below { IsBelow (length entries.old.items) level }
-    ensures table { AreGrounds entries.new.items places.new }
+    ensures table { AreGrounds entries.new.items numbers.new }
     ensures within { IfOk result (λ number. number < length (types_of entries.new.items)) }
     ensures made { IfOk result (λ number. at (types_of entries.new.items) number ≡ ground_made (types_of entries.old.items) level) }
-    ensures more { (rest : TheList TheGround) × (types_of entries.new.items ≡ types_of entries.old.items ++ rest) }
+    ensures added { IfOk result (λ number. (types_of entries.new.items ≡ types_of entries.old.items) ⊎ (types_of entries.new.items ≡ types_of entries.old.items ++ ground_made (types_of entries.old.items) level ∷ [])) }
+    ensures kept { OnErr result (entries.new.items ≡ entries.old.items) }
 {
     let key = key_of(alloc, &level)?;
-    match places.get(key.as_slice()) {
+    match numbers.get(key.as_slice()) {
         Some(number) => Ok(number),
-        None => push(alloc, entries, places, key, level),
+        None => push(alloc, entries, numbers, key, level),
     }
 }
 
@@ -128,24 +138,25 @@ fn enter(
 fn push(
     alloc: Global,
     entries: &mut Vec<Entry>,
-    places: &mut Places,
+    numbers: &mut NumbersByKey,
     key: List<u32>,
     level: GroundLevel,
 ) -> Result<u32, NoMemory>
-    requires table { AreGrounds entries.old.items places.old }
+    requires table { AreGrounds entries.old.items numbers.old }
     requires below { IsBelow (length entries.old.items) level }
     requires key { key ≡ the_key level }
-    requires lacks { finite.get places.old (the_key level) ≡ None }
-    ensures table { AreGrounds entries.new.items places.new }
+    requires lacks { finite.get numbers.old (the_key level) ≡ None }
+    ensures table { AreGrounds entries.new.items numbers.new }
     ensures within { IfOk result (λ number. number < length (types_of entries.new.items)) }
     ensures made { IfOk result (λ number. at (types_of entries.new.items) number ≡ ground_made (types_of entries.old.items) level) }
-    ensures more { (rest : TheList TheGround) × (types_of entries.new.items ≡ types_of entries.old.items ++ rest) }
+    ensures added { IfOk result (λ number. types_of entries.new.items ≡ types_of entries.old.items ++ ground_made (types_of entries.old.items) level ∷ []) }
+    ensures kept { OnErr result (entries.new.items ≡ entries.old.items) }
 {
     let before = entries.as_slice();
     let number = number_of(before.len())?;
     let entry = entry_of(alloc, before, level)?;
     entries.push(entry)?;
-    match places.put(key, number) {
+    match numbers.put(key, number) {
         Ok(()) => Ok(number),
         Err(error) => {
             entries.truncate(number as usize);
@@ -158,8 +169,5 @@ fn push(
 fn number_of(count: usize) -> Result<u32, NoMemory>
     ensures { IfOk result (λ number. number ≡ count) }
 {
-    if count > u32::MAX as usize {
-        return Err(NoMemory);
-    }
-    Ok(count as u32)
+    u32::try_from(count).map_err(|_| NoMemory)
 }

@@ -53,10 +53,7 @@ pub fn list_item(grounds: &Grounds, number: u32) -> Option<u32>
     ensures item { option_map (at grounds.now) result ≡ item_in (at grounds.now number) }
     ensures within { IfSome result (λ part. part < length grounds.now) }
 {
-    match grounds.level(number) {
-        Some(level) => level_item(level),
-        None => None,
-    }
+    level_item(grounds.level(number)?)
 }
 
 /// The fields, of a record.
@@ -64,10 +61,7 @@ pub fn record_fields(grounds: &Grounds, number: u32) -> Option<&[GroundPart]>
     ensures fields { option_map (λ parts. map (part_made grounds.now) parts.now) result ≡ fields_in (at grounds.now number) }
     ensures within { IfSome result (λ parts. ArePartsBelow (length grounds.now) parts.now) }
 {
-    match grounds.level(number) {
-        Some(level) => level_record(level),
-        None => None,
-    }
+    level_record(grounds.level(number)?)
 }
 
 /// The tags, of a variant.
@@ -75,10 +69,7 @@ pub fn variant_tags(grounds: &Grounds, number: u32) -> Option<&[GroundPart]>
     ensures tags { option_map (λ parts. map (part_made grounds.now) parts.now) result ≡ tags_in (at grounds.now number) }
     ensures within { IfSome result (λ parts. ArePartsBelow (length grounds.now) parts.now) }
 {
-    match grounds.level(number) {
-        Some(level) => level_variant(level),
-        None => None,
-    }
+    level_variant(grounds.level(number)?)
 }
 
 /// The parameters, effects and result, of a function.
@@ -86,8 +77,5 @@ pub fn function_parts(grounds: &Grounds, number: u32) -> Option<(&[u32], &[Effec
     ensures function { option_map (λ parts. (map (at grounds.now) parts.0.now, parts.1.now, at grounds.now parts.2)) result ≡ function_in (at grounds.now number) }
     ensures within { IfSome result (λ parts. Each (λ n. n < length grounds.now) parts.0.now × (parts.2 < length grounds.now)) }
 {
-    match grounds.level(number) {
-        Some(level) => level_function(level),
-        None => None,
-    }
+    level_function(grounds.level(number)?)
 }

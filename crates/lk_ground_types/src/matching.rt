@@ -37,33 +37,27 @@ pub fn match_type(
         Ty::Int => Ok(()),
         Ty::Bool => Ok(()),
         Ty::Text => Ok(()),
-        Ty::List(item) => {
-            let Some(part) = list_item(grounds, number) else {
-                return Ok(());
-            };
-            Ok(match_type(alloc, found, grounds, item.get(), part)?)
-        }
-        Ty::Fields(row) => {
-            let Some(parts) = record_fields(grounds, number) else {
-                return Ok(());
-            };
-            Ok(match_row(alloc, found, grounds, row, parts)?)
-        }
-        Ty::Tags(row) => {
-            let Some(parts) = variant_tags(grounds, number) else {
-                return Ok(());
-            };
-            Ok(match_row(alloc, found, grounds, row, parts)?)
-        }
+        Ty::List(item) => match list_item(grounds, number) {
+            Some(part) => match_type(alloc, found, grounds, item.get(), part),
+            None => Ok(()),
+        },
+        Ty::Fields(row) => match record_fields(grounds, number) {
+            Some(parts) => match_row(alloc, found, grounds, row, parts),
+            None => Ok(()),
+        },
+        Ty::Tags(row) => match variant_tags(grounds, number) {
+            Some(parts) => match_row(alloc, found, grounds, row, parts),
+            None => Ok(()),
+        },
         Ty::Fun(params, effects, answer) => {
             let Some((knowns, labels, known)) = function_parts(grounds, number) else {
                 return Ok(());
             };
             match_all(alloc, found, grounds, params.as_slice(), knowns)?;
             match_effects(alloc, found, grounds, effects, labels)?;
-            Ok(match_type(alloc, found, grounds, answer.get(), known)?)
+            match_type(alloc, found, grounds, answer.get(), known)
         }
-        Ty::Var(variable) => Ok(found.bind_plain(*variable, number)?),
+        Ty::Var(variable) => found.bind_plain(*variable, number),
     }
 }
 
@@ -101,7 +95,7 @@ fn match_row(
     match_fields(alloc, found, grounds, &mut rest, row.fields.as_slice())?;
     match row.tail {
         RowTail::Closed => Ok(()),
-        RowTail::Var(variable) => Ok(found.bind_row(variable, rest)?),
+        RowTail::Var(variable) => found.bind_row(variable, rest),
     }
 }
 
@@ -137,7 +131,7 @@ fn match_field(
 {
     match rest.take(field.label.as_str()) {
         None => Ok(()),
-        Some(part) => Ok(match_type(alloc, found, grounds, &field.ty, part)?),
+        Some(part) => match_type(alloc, found, grounds, &field.ty, part),
     }
 }
 
@@ -155,7 +149,7 @@ fn match_effects(
         RowTail::Closed => Ok(()),
         RowTail::Var(variable) => {
             let left = those_without(alloc, labels, effects.labels.as_slice())?;
-            Ok(found.bind_effects(variable, left)?)
+            found.bind_effects(variable, left)
         }
     }
 }

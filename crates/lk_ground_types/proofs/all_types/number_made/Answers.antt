@@ -1,4 +1,5 @@
 use Rattle.std.proofs.Common.{length, sym, subst}
+use Rattle.std.proofs.lemmas.Result.{IfOk-weaker}
 use Rattle.lk_ground_types.proofs.LevelLoops.{added_stands, nothing_more}
 use Rattle.lk_ground_types.proofs.Standing.{level_below, variable_below, variable_stands}
 use Rattle.lk_ground_types.specs.Grounds.{IsBelow}
@@ -17,6 +18,8 @@ returns-in-Some-clause-within c = variable_below (length c.args.grounds.now) c.a
 pub returns-in-Some-clause-more : goal.returns-in-Some-clause-more
 returns-in-Some-clause-more c = nothing_more c.args.grounds.now
 
-pub returns-in_ok-add-in-None-clause-stands : goal.returns-in_ok-add-in-None-clause-stands
-returns-in_ok-add-in-None-clause-stands c types stand =
-    added_stands c.args.bindings.now c.args.grounds.now c.add.new.self types c.args.numbers.now stand c.args.level.now _ _ c.requires.below (sym c.in-None.ensures) c.in_ok-made-in-None.ensures c.in_ok-add-in-None.ensures.made
+pub returns-in_ok-made-in-None-clause-stands : goal.returns-in_ok-made-in-None-clause-stands
+returns-in_ok-made-in-None-clause-stands c =
+    IfOk-weaker c.add.result _ _
+    (λ number made types stand. added_stands c.args.bindings.now c.args.grounds.now c.add.new.self types c.args.numbers.now stand c.args.level.now _ number c.requires.below (sym c.in-None.ensures) c.in_ok-made-in-None.ensures made)
+    c.add.ensures.made

@@ -1,5 +1,5 @@
 use Rattle.std.proofs.Common.{subst, sym}
-use Rattle.lk_ground_types.proofs.Entering.{counted, pushed, pushed_more}
+use Rattle.lk_ground_types.proofs.Entering.{counted, pushed, pushed_types}
 use Rattle.lk_ground_types.specs.Grounds.{AreCounted}
 use Rattle.lk_ground_types.proofs.grounds.push.Goals as goal
 
@@ -8,12 +8,12 @@ entry_of-requires c = subst AreCounted (sym c.as_slice-before.ensures.value) (co
 
 pub returns-in-Ok-clause-table : goal.returns-in-Ok-clause-table
 returns-in-Ok-clause-table c =
-    pushed c.args.entries.now.items c.as_slice-before.result.now c.push.new.self.items c.args.places.now c.put.new.self c.in_ok-entry.entry c.args.level c.args.key c.in_ok-number.number
+    pushed c.args.entries.now.items c.as_slice-before.result.now c.push.new.self.items c.args.numbers.now c.put.new.self c.in_ok-entry.entry c.args.level c.args.key c.in_ok-number.number
     c.requires.table c.requires.below c.requires.lacks c.requires.key c.as_slice-before.ensures.value c.in_ok-entry.ensures.ty c.in_ok-entry.ensures.level c.in_ok-entry.ensures.nodes
     c.in_ok-number.ensures c.in_ok-push.ensures.items c.in-Ok.ensures.put
 
-pub returns-in-Ok-clause-more : goal.returns-in-Ok-clause-more
-returns-in-Ok-clause-more c =
-    pushed_more c.args.entries.now.items c.as_slice-before.result.now c.push.new.self.items c.args.places.now c.put.new.self c.in_ok-entry.entry c.args.level c.args.key c.in_ok-number.number
+pub returns-in-Ok-clause-added : goal.returns-in-Ok-clause-added
+returns-in-Ok-clause-added c =
+    pushed_types c.args.entries.now.items c.as_slice-before.result.now c.push.new.self.items c.args.numbers.now c.put.new.self c.in_ok-entry.entry c.args.level c.args.key c.in_ok-number.number
     c.requires.table c.requires.below c.requires.lacks c.requires.key c.as_slice-before.ensures.value c.in_ok-entry.ensures.ty c.in_ok-entry.ensures.level c.in_ok-entry.ensures.nodes
     c.in_ok-number.ensures c.in_ok-push.ensures.items c.in-Ok.ensures.put

@@ -11,11 +11,11 @@ use std::marker::Model;
 
 /// Numbers under keys that are numbers, too.
 #[derive(Drop)]
-pub struct Places {
+pub struct NumbersByKey {
     numbers: BTreeMap<Vec<u32>, u32>,
 }
 
-impl Model for Places {
+impl Model for NumbersByKey {
     ghost use Rattle.lk_ground_types.specs.Grounds.{Numbers};
     ghost use Rattle.std.specs.Coded.{coded_list, coded_ℕ};
     ghost use Rattle.std.specs.FinMap as finite;
@@ -25,15 +25,15 @@ impl Model for Places {
 
     ghost coded = { finite.code (coded_list coded_ℕ) coded_ℕ };
 
-    ghost view = { λ places. finite.from_entries (map (λ e. (e.0.items, e.1)) places.numbers.entries) };
+    ghost view = { λ by_key. finite.from_entries (map (λ e. (e.0.items, e.1)) by_key.numbers.entries) };
 }
 
-impl Places {
+impl NumbersByKey {
     /// No number yet.
-    pub fn new(alloc: Global) -> Places
+    pub fn new(alloc: Global) -> NumbersByKey
         ensures { result ≡ finite.empty }
     {
-        Places {
+        NumbersByKey {
             numbers: BTreeMap::new(alloc),
         }
     }

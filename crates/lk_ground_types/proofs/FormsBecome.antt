@@ -1,4 +1,4 @@
--- What is built of each form of type.
+-- What each form of type becomes.
 use Rattle.std.proofs.Common.{◌≡◌, ℕ, ◌||◌, List, map, ap, sym, ◌∙◌, Option, Some}
 use Rattle.std.specs.Option.{option_map}
 use Rattle.lk_types.proofs.Unfold.{under_fields, under_function, under_list, under_tags, under_variable}
@@ -21,32 +21,32 @@ pub is_made : {A : Type 0} (o : Option A) (a : A) → o ≡ Some a → IsIfThere
 is_made o a is b e = same_some (sym is ∙ e)
 
 module _ (σ : Grounding) (body : Ty) where
-  pub build_base : (base : Ty) (g : Ground) → under σ base ≡ Some g → body ≡ base → IsIfThere (under σ body) g
-  build_base base g becomes is = is_made (under σ body) g (ap (under σ) is ∙ becomes)
+  pub base_becomes : (base : Ty) (g : Ground) → under σ base ≡ Some g → body ≡ base → IsIfThere (under σ body) g
+  base_becomes base g becomes is = is_made (under σ body) g (ap (under σ) is ∙ becomes)
 
-  pub build_list : (t : Ty) (g : Ground) → body ≡ ty.List t → IsIfThere (under σ t) g → IsIfThere (under σ body) (known.List g)
-  build_list t g is made a e =
+  pub list_becomes : (t : Ty) (g : Ground) → body ≡ ty.List t → IsIfThere (under σ t) g → IsIfThere (under σ body) (known.List g)
+  list_becomes t g is made a e =
       let x = mapped known.List (under σ t) a (sym (ap (under σ) is ∙ under_list σ t) ∙ e) in
       ap known.List (made x.0 x.1) ∙ sym x.2
 
-  pub build_record : (r : TyRow) (fs : List GroundField) → body ≡ ty.Fields r → IsIfThere (option_map fields_of (row_under σ r)) fs → IsIfThere (under σ body) (known.Fields fs)
-  build_record r fs is made a e =
+  pub record_becomes : (r : TyRow) (fs : List GroundField) → body ≡ ty.Fields r → IsIfThere (option_map fields_of (row_under σ r)) fs → IsIfThere (under σ body) (known.Fields fs)
+  record_becomes r fs is made a e =
       let x = mapped (λ (m : Row). known.Fields (fields_of m)) (row_under σ r) a (sym (ap (under σ) is ∙ under_fields σ r) ∙ e) in
       ap known.Fields (made (fields_of x.0) (ap (option_map fields_of) x.1)) ∙ sym x.2
 
-  pub build_variant : (r : TyRow) (fs : List GroundField) → body ≡ ty.Tags r → IsIfThere (option_map fields_of (row_under σ r)) fs → IsIfThere (under σ body) (known.Tags fs)
-  build_variant r fs is made a e =
+  pub variant_becomes : (r : TyRow) (fs : List GroundField) → body ≡ ty.Tags r → IsIfThere (option_map fields_of (row_under σ r)) fs → IsIfThere (under σ body) (known.Tags fs)
+  variant_becomes r fs is made a e =
       let x = mapped (λ (m : Row). known.Tags (fields_of m)) (row_under σ r) a (sym (ap (under σ) is ∙ under_tags σ r) ∙ e) in
       ap known.Tags (made (fields_of x.0) (ap (option_map fields_of) x.1)) ∙ sym x.2
 
-  pub build_function : (ps : List Ty) (es : Effects) (t : Ty) (qs : List Ground) (labels : List Effect) (g : Ground) → body ≡ ty.Fun ps es t
+  pub function_becomes : (ps : List Ty) (es : Effects) (t : Ty) (qs : List Ground) (labels : List Effect) (g : Ground) → body ≡ ty.Fun ps es t
       → IsIfThere (all_of (map (under σ) ps)) qs → IsIfThere (option_map effects_of (effects_under σ es)) labels → IsIfThere (under σ t) g → IsIfThere (under σ body) (known.Fun qs labels g)
-  build_function ps es t qs labels g is first second third a e =
+  function_becomes ps es t qs labels g is first second third a e =
       let x = function_some (all_of (map (under σ) ps)) (effects_under σ es) (under σ t) a (sym (ap (under σ) is ∙ under_function σ ps es t) ∙ e) in
       (λ i. known.Fun (first x.0 x.3 i) (second (effects_of x.1) (ap (option_map effects_of) x.4) i) (third x.2 x.5 i)) ∙ sym x.6
 
-  pub build_variable : (n : ℕ) (g : Ground) → body ≡ ty.Var n → g ≡ σ.plain n → IsIfThere (under σ body) g
-  build_variable n g is made = is_made (under σ body) g (ap (under σ) is ∙ under_variable σ n ∙ ap Some (sym made))
+  pub variable_becomes : (n : ℕ) (g : Ground) → body ≡ ty.Var n → g ≡ σ.plain n → IsIfThere (under σ body) g
+  variable_becomes n g is made = is_made (under σ body) g (ap (under σ) is ∙ under_variable σ n ∙ ap Some (sym made))
 
 -- ---- effects
 

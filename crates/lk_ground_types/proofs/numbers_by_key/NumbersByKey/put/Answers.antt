@@ -1,7 +1,7 @@
 use Rattle.std.proofs.Common.{◌∙◌, ap₂}
 use Rattle.std.specs.FinMap as fin
-use Rattle.lk_ground_types.proofs.PlacesMade.{put_is}
-use Rattle.lk_ground_types.proofs.places.Places.put.Goals as goal
+use Rattle.lk_ground_types.proofs.KeysMade.{put_is}
+use Rattle.lk_ground_types.proofs.numbers_by_key.NumbersByKey.put.Goals as goal
 
 pub returns-clause-put : goal.returns-clause-put
 returns-clause-put c =
