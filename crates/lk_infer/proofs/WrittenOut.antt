@@ -1,5 +1,5 @@
--- Types that are taken out of a table one by one.
-use Rattle.std.proofs.Common.{◌≡◌, ℕ, zero, suc, ◌+◌, List, [], ◌∷◌, ◌++◌, take, drop, ap, sym, ◌∙◌, Some, arith}
+-- The first two types of a table.
+use Rattle.std.proofs.Common.{◌≡◌, List, [], ◌∷◌, drop, ap, ◌∙◌, Some}
 use Rattle.std.proofs.lemmas.Option.{none-some}
 use Rattle.std.specs.Prelude.{slice_get}
 use Rattle.lk_types.proofs.Parts.{same_some}

@@ -102,8 +102,7 @@ pub fn add_group<'p>(
     so_far.large |= large;
     declare(alloc, &mut so_far.earlier, decl, group.schemes.as_slice())?;
     append_schemes(&mut so_far.schemes, group.schemes)?;
-    so_far.types.append(group.types)?;
-    Ok(())
+    so_far.types.append(group.types)
 }
 
 /// The principal schemes of a program's functions and the principal types of its nodes, or the first place in the walk at

@@ -14,6 +14,7 @@ use Rattle.lk_types.specs.declared.ty.Variable.{Variable}
 use Rattle.lk_types.specs.declared.ty.Variable.TheVariants as variable
 use Rattle.lk_unify.proofs.Grounded.{open_solves}
 use Rattle.lk_unify.proofs.GroundValues.{ground_in, ground_row_in, ground_effects_in, ground_in-is, ground_row_in-is, ground_effects_in-is}
+use Rattle.lk_unify.proofs.LoadSteps.{weak}
 use Rattle.lk_unify.proofs.OpenReads.{Reads}
 use Rattle.lk_unify.proofs.OpenReadsAll.{reads_all}
 use Rattle.lk_unify.proofs.OpenRows.{only_tail-under}
@@ -24,7 +25,7 @@ use Rattle.lk_unify.specs.Models.{IsOwn}
 use Rattle.lk_arena.specs.Openings.{OpensTo, as_opening, only_tail, only_effects_tail, row_type, effects_type}
 use Rattle.lk_arena.specs.Order.{IsRanked}
 use Rattle.lk_unify.specs.Reading.{type_in, row_in, effects_in, value_or, opening_by, IsNaming}
-use Rattle.lk_arena.specs.Shapes.{shape_at, is_loose_shape, FitsNodes, WeakNodes}
+use Rattle.lk_arena.specs.Shapes.{shape_at, is_loose_shape, FitsNodes}
 use Rattle.lk_unify.specs.Solving.{Says}
 use Rattle.lk_arena.specs.Values.{Value, Plain, OfRow}
 use Rattle.lk_unify.specs.declared.loader.Loader.{Loader}
@@ -67,9 +68,6 @@ module _ (owner : ℕ → ℕ) (v : ℕ → Value) (kind : ℕ → Kind) (i n : 
 
 -- ---- at all variables
 
-weak : (shapes : List Shape) (classes : List ℕ) (v : ℕ → Value) → FitsNodes shapes classes v → WeakNodes shapes classes v
-weak shapes classes v fits = record { builds = λ i b named. fits.builds i b; respects = fits.respects }
-
 module _ (l : Loader) (kind : ℕ → Kind) (kinded : IsKinded l kind) (rank : ℕ → ℕ) (ranked : IsRanked l.arena.shapes l.arena.classes rank)
     (name owner : ℕ → ℕ) (naming : IsNaming l kind name owner) (u : ℕ → Value) (own : IsOwn l.arena.shapes l.arena.classes name u) (es : List Equation) (says : Says l es) where
   module _ (σ : Grounding) (solves : Solves σ es) where
@@ -85,7 +83,7 @@ module _ (l : Loader) (kind : ℕ → Kind) (kinded : IsKinded l kind) (rank : �
 
     reads : (i : ℕ) → i < length l.arena.shapes → Reads instance_by (kind i) (u i) (values.0 i)
     reads = reads_all l.arena.shapes l.arena.classes kind rank instance_by u values.0 says.whole.arena kinded.nodes ranked own.fits
-        (weak l.arena.shapes l.arena.classes values.0 values.1) loose
+        (weak l values.0 values.1) loose
 
     some_of : (o : Option ℕ) → IsSome o → (n : ℕ) × (o ≡ Some n)
     some_of None h = absurd (grind arith)

@@ -9,13 +9,13 @@ use Rattle.lk_types.specs.declared.ty.Ty.TheVariants as ty
 use Rattle.lk_types.specs.declared.ty.Variable.{Variable}
 use Rattle.lk_unify.proofs.EffectSets.{same_set}
 use Rattle.lk_unify.proofs.LoadKinds.{put, kinded_nodes, new_kind, old_kind}
-use Rattle.lk_unify.proofs.LoadSteps.{some_once, added_arena, added_back, added_below, added_built, added_made, added_node, one_longer, same_names}
+use Rattle.lk_unify.proofs.LoadSteps.{some_once, added_arena, added_back, added_below, added_built, added_made, added_node, one_longer, same_names, weak}
 use Rattle.lk_unify.proofs.LoadTypes.{plains_once}
 use Rattle.lk_unify.proofs.RowsBefore.{before_once}
 use Rattle.lk_arena.proofs.RowAlgebra.{bool_cases, row_same}
 use Rattle.lk_arena.specs.Kinds.{Kind, HasKind}
 use Rattle.lk_arena.specs.Openings.{OpenRow, effects_type}
-use Rattle.lk_arena.specs.Shapes.{is_loose_shape, FitsNodes, IsBuilt, IsRowOf, WeakNodes}
+use Rattle.lk_arena.specs.Shapes.{is_loose_shape, IsBuilt, IsRowOf}
 use Rattle.lk_arena.specs.Values.{Value, Plain, OfRow, IsMadeOf}
 use Rattle.lk_arena.specs.declared.node.Field.{Field}
 use Rattle.lk_arena.specs.declared.node.Head.{Head}
@@ -62,9 +62,6 @@ built_value (shape.Row fs t) w x y known a b = row_value fs w (w t) x y a b
 
 -- ---- one that is there
 
-weak : (l : Loader) (v : ℕ → Value) → FitsNodes l.arena.shapes l.arena.classes v → WeakNodes l.arena.shapes l.arena.classes v
-weak l v fits = record { builds = λ i b n. fits.builds i b; respects = fits.respects }
-
 pub makes_found : (l : Loader) (kind : NodeKind) (s : Shape) (n : ℕ) → IsLoader l → IsFound l kind s n → Makes l l (kind_for kind) s n
 makes_found l kind s n whole found =
     let made : IsMade l.arena.shapes l.arena.classes (record { kind = kind; shape = s; node = n }) = whole.made found.0 (record { kind = kind; shape = s; node = n }) found.1 in
@@ -88,7 +85,7 @@ module _ (b c d : Loader) (kind : NodeKind) (s : Shape) (k : ℕ) (can : CanMake
 
   -- the nodes are those with the new one
   abbrev e : Loader
-  e = record { arena = c.arena; names = d.names; made = d.made; kept = d.kept }
+  e = record { arena = c.arena; names = d.names; made = d.made; closed = d.closed }
 
   all_made : (q : ℕ) (m : MadeNode) → made_at d q ≡ Some m → IsMade c.arena.shapes c.arena.classes m
   all_made q m is =
@@ -145,7 +142,7 @@ module _ (b c d : Loader) (kind : NodeKind) (s : Shape) (k : ℕ) (can : CanMake
   }
 
   makes_by_cases : Makes b d (kind_for kind) s k
-  makes_by_cases = subst (λ a. Makes b (record { arena = a; names = d.names; made = d.made; kept = d.kept }) (kind_for kind) s k) (sym arena) makes
+  makes_by_cases = subst (λ a. Makes b (record { arena = a; names = d.names; made = d.made; closed = d.closed }) (kind_for kind) s k) (sym arena) makes
 
 -- that isn't kept
 pub makes_new : (b c : Loader) (kind : NodeKind) (s : Shape) (k : ℕ) → CanMake b s → Adds b c s k → Makes b c (kind_for kind) s k

@@ -4,6 +4,7 @@ use Rattle.std.specs.BTreeMap.{get}
 use Rattle.std.specs.Map.{lookup}
 use Rattle.std.specs.Option.{option_map}
 use Rattle.std.specs.Ordering.{nat_cmp}
+use Rattle.std.specs.Prelude.{Err, IfOk, IsOkAnd, MatchResult, Ok, Result}
 use Rattle.lk_types.proofs.Parts.{mapped}
 use Rattle.lk_types.specs.Each.{Each}
 use Rattle.lk_arena.specs.Openings.{Opening}
@@ -93,15 +94,29 @@ loads_as old new m r f n q l meaning read = record {
       (p.0, p.1, p.2, p.3, read p.0 ∙ ap f p.4 ∙ sym s.2);
 }
 
+-- ---- what a call answers, and something is made of it
+
+pub if_mapped : {A B E : Type 0} (f : A → B) (r : Result A E) (s : Result B E) (P : A → Type 0) (Q : B → Type 0) → MatchResult r (λ x. IsOkAnd s (λ y. y ≡ f x)) (λ e. s ≡ Err e) → ((x : A) → P x → Q (f x)) → IfOk r P → IfOk s Q
+if_mapped f (Ok x) (Ok y) P Q is each p = subst Q (sym is) (each x p)
+if_mapped f (Ok x) (Err e) P Q is each p = absurd is
+if_mapped f (Err e) (Ok y) P Q is each p = let no : Ok y ≡ Err e = is in cc
+if_mapped f (Err e) (Err d) P Q is each p = tt
+
 -- ---- a node more
 
-pub made_still : (shapes : List Shape) (classes : List ℕ) (more : List Shape) (names : List ℕ) (m : MadeNode) → length shapes ≤ length more → ((v : ℕ → Value) → WeakNodes more names v → WeakNodes shapes classes v) →
-    IsMade shapes classes m → IsMade more names m
-made_still shapes classes more names m longer back made = record {
-  below = (let h = made.below in omega arith);
-  known = made.known;
-  built = λ v fits. made.built v (back v fits);
-}
+pub weak : (l : Loader) (v : ℕ → Value) → FitsNodes l.arena.shapes l.arena.classes v → WeakNodes l.arena.shapes l.arena.classes v
+weak l v fits = record { builds = λ i b named. fits.builds i b; respects = fits.respects }
+
+-- what was made is there still
+pub made_still : (b c : Loader) → IsLoader b → length b.arena.shapes ≤ length c.arena.shapes → ((v : ℕ → Value) → WeakNodes c.arena.shapes c.arena.classes v → WeakNodes b.arena.shapes b.arena.classes v) → c.made ≡ b.made →
+    (key : ℕ) (m : MadeNode) → made_at c key ≡ Some m → IsMade c.arena.shapes c.arena.classes m
+made_still b c whole longer back same key m is =
+    let made : IsMade b.arena.shapes b.arena.classes m = whole.made key m (sym (ap (λ made. get nat_cmp made key) same) ∙ is) in
+    record {
+      below = (let h = made.below in omega arith);
+      known = made.known;
+      built = λ v fits. made.built v (back v fits);
+    }
 
 module _ (b c : Loader) (s : Shape) (k : ℕ) (whole : IsLoader b) (add : Adds b c s k) (parts : Each (λ p. p < length b.arena.shapes) (parts_of s)) where
   -- the new node's class
@@ -129,10 +144,8 @@ module _ (b c : Loader) (s : Shape) (k : ℕ) (whole : IsLoader b) (add : Adds b
   pub added_arena : IsDistinct (fields_in s) → HasFields s → IsArena c.arena.shapes c.arena.classes
   added_arena distinct filled = IsArena-push b.arena.shapes b.arena.classes s c.arena.shapes c.arena.classes whole.arena parts distinct filled add.shapes added_classes
 
-  -- what was made is there still
   pub added_made : (key : ℕ) (m : MadeNode) → made_at c key ≡ Some m → IsMade c.arena.shapes c.arena.classes m
-  added_made key m e =
-      made_still b.arena.shapes b.arena.classes c.arena.shapes c.arena.classes m (omega (arith, one_longer)) added_back (whole.made key m (sym (ap (λ made. get nat_cmp made key) add.made) ∙ e))
+  added_made = made_still b c whole (omega (arith, one_longer)) added_back add.made
 
 -- a node on what was loaded
 module _ {A : Type 0} (a b c : Loader) (m : Opening → Option A) (r : (ℕ → Value) → A) (x : Kind) (s : Shape) (k : ℕ) (n : Opening → Option Value) (l : LoadsTo a b m r) (makes : Makes b c x s k) where

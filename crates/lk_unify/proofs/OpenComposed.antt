@@ -27,7 +27,7 @@ use Rattle.lk_types.specs.declared.ty.Variable.{Variable}
 use Rattle.lk_types.specs.declared.ty.Variable.TheVariants as variable
 use Rattle.lk_unify.proofs.OpenAsGround.{type_as}
 use Rattle.lk_unify.proofs.OpenEffectSets as sets
-use Rattle.lk_unify.proofs.OpenEffectSets.{with_more, effect-under, only_effects-under}
+use Rattle.lk_unify.proofs.OpenEffectSets.{effect-under, only_effects-under}
 use Rattle.lk_unify.proofs.OpenGround.{get-as_row}
 use Rattle.lk_unify.proofs.OpenRows.{only_tail-under, insert-under, IsReadAt, row_read}
 use Rattle.lk_unify.proofs.OpenUnfold.{opened_int, opened_bool, opened_text, opened_list, opened_fields, opened_tags, opened_function, opened_variable, opened_rolled}

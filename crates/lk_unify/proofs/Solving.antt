@@ -9,9 +9,9 @@ use Rattle.lk_types.specs.Variables.{same_variable}
 use Rattle.lk_types.specs.declared.equation.Equation.{Equation}
 use Rattle.lk_types.specs.declared.ty.Variable.{Variable}
 use Rattle.lk_arena.proofs.Ranks.{some_of}
-use Rattle.lk_unify.proofs.LoadSteps.{made_still as still}
+use Rattle.lk_unify.proofs.LoadSteps.{made_still}
 use Rattle.lk_arena.specs.Kinds.{Kind, OfTypes}
-use Rattle.lk_unify.specs.Loading.{node_for, kind_of, end_value, made_at, Agrees, IsLoader, IsKinded, IsMade, Loads, LoadsEquation}
+use Rattle.lk_unify.specs.Loading.{node_for, kind_of, end_value, made_at, Agrees, IsLoader, IsKinded, Loads, LoadsEquation}
 use Rattle.lk_arena.specs.Openings.{Opening, only_tail}
 use Rattle.lk_arena.specs.Shapes.{WeakNodes, NeverSame}
 use Rattle.lk_unify.specs.Solving.{AddsEquation, AreBound, IsStart, NeverMeets}
@@ -44,13 +44,9 @@ module _ (b m : Loader) (e : Equation) (p : Pair) (loads : LoadsEquation b m e p
     made_before : (key : ℕ) (n : MadeNode) → made_at c key ≡ Some n → made_at m key ≡ Some n
     made_before key n is = sym (ap (λ made. get nat_cmp made key) made) ∙ is
 
-    made_still : (key : ℕ) (n : MadeNode) → made_at c key ≡ Some n → IsMade c.arena.shapes c.arena.classes n
-    made_still key n is =
-        still m.arena.shapes m.arena.classes c.arena.shapes c.arena.classes n leads.longer (λ v fits. (leads.back v (record { nodes = fits; equates = tt })).0) (loads.whole.made key n (made_before key n is))
-
     pub adds_equation : AddsEquation b c e p.left
     adds_equation = record {
-      whole = record { arena = leads.arena; named = λ x n is. let under = below x n is in omega (arith, leads.longer); made = made_still };
+      whole = record { arena = leads.arena; named = λ x n is. let under = below x n is in omega (arith, leads.longer); made = made_still m c loads.whole leads.longer (λ v fits. (leads.back v (record { nodes = fits; equates = tt })).0) made };
       longer = omega (arith, loads.longer, leads.longer);
       below = omega (arith, loads.left_below, leads.longer);
       kept = λ x n is. ap (λ names. lookup (same_variable x) names.entries) same ∙ loads.kept x n is;

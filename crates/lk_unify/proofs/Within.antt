@@ -20,6 +20,7 @@ use Rattle.lk_unify.proofs.EffectRows.{its_effects}
 use Rattle.lk_unify.proofs.Grounded.{open_solves}
 use Rattle.lk_unify.proofs.Firsts.{first_of_first}
 use Rattle.lk_unify.proofs.Loadeds.{each_first, sides_below, variables_first}
+use Rattle.lk_unify.proofs.LoadSteps.{weak}
 use Rattle.lk_unify.proofs.OwnModel.{own_exists, ranks_exist}
 use Rattle.lk_unify.proofs.Shaping.{HasValue}
 use Rattle.lk_unify.proofs.ValueKinds.{own_kinds}
@@ -33,7 +34,7 @@ use Rattle.lk_unify.specs.Nodes.{count, value_count}
 use Rattle.lk_arena.specs.Openings.{IsOpenMet, as_opening, only_tail, opened}
 use Rattle.lk_arena.specs.Order.{IsRanked}
 use Rattle.lk_unify.specs.Reading.{type_in, row_in, effects_in, value_or, opening_by, own_variable, number_of, IsNaming}
-use Rattle.lk_arena.specs.Shapes.{FitsNodes, WeakNodes}
+use Rattle.lk_arena.specs.Shapes.{WeakNodes}
 use Rattle.lk_unify.specs.Small.{OwnNodes}
 use Rattle.lk_unify.specs.Solving.{Says, HasNodes, HasValues, AreBound, AreLoaded, AreSides, IsSide}
 use Rattle.lk_arena.specs.Values.{Value, Plain, OfRow, effect_row}
@@ -101,9 +102,6 @@ named_above l kind = record {
 }
 
 -- ---- values of one's own
-
-weak : (l : Loader) (v : ℕ → Value) → FitsNodes l.arena.shapes l.arena.classes v → WeakNodes l.arena.shapes l.arena.classes v
-weak l v fits = record { builds = λ i b n. fits.builds i b; respects = fits.respects }
 
 -- values that fit
 module _ (l : Loader) (es : List Equation) (says : Says l es) (solution : HasSolution es) where

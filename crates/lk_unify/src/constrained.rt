@@ -52,14 +52,13 @@ fn side_types(alloc: Global, equations: &[Equation], count: usize) -> Result<Typ
     let loader = &nodes.all.loader;
     let numbers = numbers_for(alloc, loader)?;
     let sides = nodes.all.sides.as_slice();
-    let types = read_levels(
+    read_levels(
         alloc,
         &loader.arena,
         numbers.as_slice(),
         nodes.order.as_slice(),
         &sides[..count],
-    )?;
-    Ok(types)
+    )
 }
 
 /// The types that a most general solution makes of the sides of the first of these constraints, whose equations and sizings are

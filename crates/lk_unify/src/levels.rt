@@ -173,8 +173,7 @@ fn level_of(
 {
     match arena.shape_of(class) {
         Shape::Made(head, parts) => {
-            let level = made_level(alloc, arena, numbers, places, fuel, *head, parts.as_slice())?;
-            Ok(Some(level))
+            made_level(alloc, arena, numbers, places, fuel, *head, parts.as_slice()).map(Some)
         }
         Shape::Free => Ok(Some(Level::Var(numbers[class]))),
         Shape::Open => Ok(None),

@@ -38,8 +38,7 @@ fn add_row(
     ensures { IfOk result (λ answer. AddsRow loader.old loader.new (kind_for kind) fields tail answer) }
 {
     if are_distinct(alloc, fields.as_slice())? {
-        let node = make_node(alloc, loader, kind, Shape::Row(fields, tail))?;
-        return Ok(Some(node));
+        return make_node(alloc, loader, kind, Shape::Row(fields, tail)).map(Some);
     }
     Ok(None)
 }
@@ -71,8 +70,8 @@ fn load_end(
     ensures { IfOk result (λ n. LoadsEnd loader.old loader.new (kind_for kind) tail n) }
 {
     match tail {
-        None => Ok(make_node(alloc, loader, kind, Shape::Empty)?),
-        Some(variable) => Ok(load_variable(loader, variable)?),
+        None => make_node(alloc, loader, kind, Shape::Empty),
+        Some(variable) => load_variable(loader, variable),
     }
 }
 
@@ -131,13 +130,12 @@ fn load_unit(alloc: Global, loader: &mut Loader) -> Result<usize, NoMemory>
 {
     let nothing = make_node(alloc, loader, NodeKind::Nothing, Shape::Empty)?;
     let parts = one(alloc, nothing)?;
-    let unit = make_node(
+    make_node(
         alloc,
         loader,
         NodeKind::Unit,
         Shape::Made(Head::Fields, parts),
-    )?;
-    Ok(unit)
+    )
 }
 
 /// A node for what a function may do.
@@ -155,7 +153,7 @@ fn load_effects(
     }
     let unit = load_unit(alloc, loader)?;
     let fields = effect_fields(alloc, effects.labels.as_slice(), unit)?;
-    Ok(add_row(alloc, loader, NodeKind::Effects, fields, tail)?)
+    add_row(alloc, loader, NodeKind::Effects, fields, tail)
 }
 
 /// A node for a constructor without parts.
@@ -164,8 +162,7 @@ fn load_base(alloc: Global, loader: &mut Loader, head: Head) -> Result<usize, No
     ensures { IfOk result (λ n. Makes loader.old loader.new OfTypes (Shape.Made head []) n) }
 {
     let parts = List::new(alloc);
-    let node = make_node(alloc, loader, NodeKind::Types, Shape::Made(head, parts))?;
-    Ok(node)
+    make_node(alloc, loader, NodeKind::Types, Shape::Made(head, parts))
 }
 
 /// A node for a constructor with one part.
@@ -175,8 +172,7 @@ fn load_one(alloc: Global, loader: &mut Loader, head: Head, part: usize) -> Resu
     ensures { IfOk result (λ n. Makes loader.old loader.new OfTypes (Shape.Made head (part ∷ [])) n) }
 {
     let parts = one(alloc, part)?;
-    let node = make_node(alloc, loader, NodeKind::Types, Shape::Made(head, parts))?;
-    Ok(node)
+    make_node(alloc, loader, NodeKind::Types, Shape::Made(head, parts))
 }
 
 /// A node for a function with this result and these parameters.
@@ -196,13 +192,13 @@ fn load_function(
         return Ok(None);
     };
     let parts = function_parts(alloc, first, answer, params)?;
-    let node = make_node(
+    make_node(
         alloc,
         loader,
         NodeKind::Types,
         Shape::Made(Head::Fun, parts),
-    )?;
-    Ok(Some(node))
+    )
+    .map(Some)
 }
 
 /// Makes nodes for a type. The answer is its node, or none where a row in it has a label twice.
@@ -212,9 +208,9 @@ pub fn load_type(alloc: Global, loader: &mut Loader, ty: &Ty) -> Result<Option<u
     ensures { IfOk result (λ answer. Loaded loader.old loader.new OfTypes (type_meaning ty.now) answer) }
 {
     match ty {
-        Ty::Int => Ok(Some(load_base(alloc, loader, Head::Int)?)),
-        Ty::Bool => Ok(Some(load_base(alloc, loader, Head::Bool)?)),
-        Ty::Text => Ok(Some(load_base(alloc, loader, Head::Text)?)),
+        Ty::Int => load_base(alloc, loader, Head::Int).map(Some),
+        Ty::Bool => load_base(alloc, loader, Head::Bool).map(Some),
+        Ty::Text => load_base(alloc, loader, Head::Text).map(Some),
         Ty::List(item) => load_list(alloc, loader, item.get()),
         Ty::Fields(row) => load_record(alloc, loader, row),
         Ty::Tags(row) => load_variant(alloc, loader, row),
@@ -225,9 +221,9 @@ pub fn load_type(alloc: Global, loader: &mut Loader, ty: &Ty) -> Result<Option<u
             let Some(others) = load_types(alloc, loader, params.as_slice())? else {
                 return Ok(None);
             };
-            Ok(load_function(alloc, loader, effects, second, others.as_slice())?)
+            load_function(alloc, loader, effects, second, others.as_slice())
         }
-        Ty::Var(number) => Ok(Some(load_variable(loader, Variable::Plain(*number))?)),
+        Ty::Var(number) => load_variable(loader, Variable::Plain(*number)).map(Some),
     }
 }
 
@@ -239,7 +235,7 @@ fn load_list(alloc: Global, loader: &mut Loader, item: &Ty) -> Result<Option<usi
     let Some(part) = load_type(alloc, loader, item)? else {
         return Ok(None);
     };
-    Ok(Some(load_one(alloc, loader, Head::List, part)?))
+    load_one(alloc, loader, Head::List, part).map(Some)
 }
 
 #[cycle(loading)]
@@ -250,7 +246,7 @@ fn load_record(alloc: Global, loader: &mut Loader, row: &TyRow) -> Result<Option
     let Some(part) = load_row(alloc, loader, row)? else {
         return Ok(None);
     };
-    Ok(Some(load_one(alloc, loader, Head::Fields, part)?))
+    load_one(alloc, loader, Head::Fields, part).map(Some)
 }
 
 #[cycle(loading)]
@@ -261,7 +257,7 @@ fn load_variant(alloc: Global, loader: &mut Loader, row: &TyRow) -> Result<Optio
     let Some(part) = load_row(alloc, loader, row)? else {
         return Ok(None);
     };
-    Ok(Some(load_one(alloc, loader, Head::Tags, part)?))
+    load_one(alloc, loader, Head::Tags, part).map(Some)
 }
 
 #[cycle(loading)]
@@ -296,7 +292,7 @@ fn load_row(alloc: Global, loader: &mut Loader, row: &TyRow) -> Result<Option<us
     if fields.is_empty() {
         return Ok(Some(tail));
     }
-    Ok(add_row(alloc, loader, NodeKind::Fields, fields, tail)?)
+    add_row(alloc, loader, NodeKind::Fields, fields, tail)
 }
 
 #[cycle(loading)]

@@ -25,13 +25,14 @@ pub struct MadeNode {
 }
 
 /// Nodes, which of them stands for which variable, and nodes that are used again, by a number of what they were made for. Where two
-/// have one number the later one is kept. Which of the nodes were kept is noted at their numbers.
+/// have one number the later one is kept. Which of the nodes are closed, so that no variable stands in them, is noted at their
+/// numbers.
 #[derive(Drop)]
 pub struct Loader {
     pub arena: Arena,
     pub names: BTreeMap<Variable, usize>,
     pub made: BTreeMap<u64, MadeNode>,
-    pub kept: List<bool>,
+    pub closed: List<bool>,
 }
 
 impl Loader {
@@ -52,7 +53,7 @@ impl Loader {
             arena: Arena::new(alloc),
             names: BTreeMap::new(alloc),
             made: BTreeMap::new(alloc),
-            kept: List::new(alloc),
+            closed: List::new(alloc),
         }
     }
 

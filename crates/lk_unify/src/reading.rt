@@ -33,8 +33,7 @@ pub fn read_type(
     let class = arena.class_of(node);
     match arena.shape_of(class) {
         Shape::Made(head, parts) => {
-            let ty = read_made(alloc, arena, numbers, fuel - 1, *head, parts.as_slice())?;
-            Ok(ty)
+            read_made(alloc, arena, numbers, fuel - 1, *head, parts.as_slice())
         }
         _ => Ok(Ty::Var(numbers[class])),
     }
@@ -111,7 +110,7 @@ pub fn read_row(
     ensures { IfOk result (λ row. (u : ℕ → Value) → IsOwn arena.now.shapes arena.now.classes (name_in numbers.now) u → row ≡ row_type (row_in (u node))) }
 {
     let made = make_row(alloc, arena, numbers, fuel, node)?;
-    Ok(into_row(alloc, made)?)
+    into_row(alloc, made)
 }
 
 /// The row of a node, field by field.
@@ -131,8 +130,7 @@ fn make_row(
         Shape::Open => Ok(only_end(alloc, RowTail::Var(numbers[class]))),
         Shape::Row(own, tail) => {
             let below = make_row(alloc, arena, numbers, fuel - 1, *tail)?;
-            let row = read_fields(alloc, arena, numbers, fuel - 1, own.as_slice(), below)?;
-            Ok(row)
+            read_fields(alloc, arena, numbers, fuel - 1, own.as_slice(), below)
         }
         _ => Ok(only_end(alloc, RowTail::Closed)),
     }

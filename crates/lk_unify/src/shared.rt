@@ -16,9 +16,15 @@ pub fn add_node(loader: &mut Loader, shape: Shape) -> Result<usize, NoMemory>
     loader.arena.push(shape)
 }
 
-/// One number more is mixed in.
+/// The number that FNV-1a of Fowler, Noll and Vo begins with, where it has 64 bits.
+const START: u64 = 0xcbf2_9ce4_8422_2325;
+
+/// The number that it multiplies by.
+const FACTOR: u64 = 0x0000_0100_0000_01b3;
+
+/// One number more is mixed in, as FNV-1a does with a byte.
 fn mixed(number: u64, more: u64) -> u64 {
-    (number ^ more).wrapping_mul(0x0000_0100_0000_01b3)
+    (number ^ more).wrapping_mul(FACTOR)
 }
 
 /// A number for a constructor.
@@ -68,7 +74,7 @@ fn with_parts(number: u64, parts: &[usize]) -> u64 {
 
 /// The number under which a node of this kind and shape is looked for.
 fn key_of(kind: NodeKind, shape: &Shape) -> u64 {
-    let start = mixed(0xcbf2_9ce4_8422_2325, number_of_kind(kind));
+    let start = mixed(START, number_of_kind(kind));
     match shape {
         Shape::Made(head, parts) => {
             with_parts(mixed(start, number_of_head(*head)), parts.as_slice())
@@ -107,23 +113,14 @@ fn same_fields(left: &[Field], right: &[Field]) -> bool
 fn same_shape(left: &Shape, right: &Shape) -> bool
     ensures { IsTrue result → left.now ≡ right.now }
 {
-    match left {
-        Shape::Empty => match right {
-            Shape::Empty => true,
-            _ => false,
-        },
-        Shape::Made(head, parts) => match right {
-            Shape::Made(other, others) => {
-                *head == *other && same_parts(parts.as_slice(), others.as_slice())
-            }
-            _ => false,
-        },
-        Shape::Row(fields, tail) => match right {
-            Shape::Row(others, other) => {
-                *tail == *other && same_fields(fields.as_slice(), others.as_slice())
-            }
-            _ => false,
-        },
+    match (left, right) {
+        (Shape::Empty, Shape::Empty) => true,
+        (Shape::Made(head, parts), Shape::Made(other, others)) => {
+            *head == *other && same_parts(parts.as_slice(), others.as_slice())
+        }
+        (Shape::Row(fields, tail), Shape::Row(others, other)) => {
+            *tail == *other && same_fields(fields.as_slice(), others.as_slice())
+        }
         _ => false,
     }
 }
@@ -170,61 +167,48 @@ fn copy_shape(alloc: Global, shape: &Shape) -> Result<Shape, NoMemory>
 fn find_node(loader: &Loader, key: u64, kind: NodeKind, shape: &Shape) -> Option<usize>
     ensures { IfSome result (λ n. IsFound loader.now kind shape.now n) }
 {
-    let Some(made) = loader.made.get(&key) else {
-        return None;
-    };
+    let made = loader.made.get(&key)?;
     if made.kind == kind && same_shape(&made.shape, shape) {
         return Some(made.node);
     }
     None
 }
 
-/// Whether the node was kept.
-fn is_kept(loader: &Loader, node: usize) -> bool {
-    match loader.kept.get(node) {
-        Some(kept) => *kept,
-        None => false,
-    }
+/// Whether the node is closed: no variable stands in it.
+fn is_closed_node(loader: &Loader, node: usize) -> bool {
+    loader.closed.get(node).copied().unwrap_or(false)
 }
 
-/// Whether all parts were kept.
-fn are_kept(loader: &Loader, parts: &[usize]) -> bool {
-    for part in parts {
-        if !is_kept(loader, *part) {
-            return false;
-        }
-    }
-    true
+/// Whether all parts are closed.
+fn are_closed(loader: &Loader, parts: &[usize]) -> bool {
+    parts.iter().all(|part| is_closed_node(loader, *part))
 }
 
-/// Whether the nodes of all fields were kept.
-fn fields_kept(loader: &Loader, fields: &[Field]) -> bool {
-    for field in fields {
-        if !is_kept(loader, field.node) {
-            return false;
-        }
-    }
-    true
+/// Whether the nodes of all fields are closed.
+fn fields_closed(loader: &Loader, fields: &[Field]) -> bool {
+    fields
+        .iter()
+        .all(|field| is_closed_node(loader, field.node))
 }
 
-/// Whether a node of this shape is to be kept: no variable stands in it.
+/// Whether a node of this shape is closed.
 fn is_closed(loader: &Loader, shape: &Shape) -> bool {
     match shape {
         Shape::Empty => true,
-        Shape::Made(_, parts) => are_kept(loader, parts.as_slice()),
+        Shape::Made(_, parts) => are_closed(loader, parts.as_slice()),
         Shape::Row(fields, tail) => {
-            is_kept(loader, *tail) && fields_kept(loader, fields.as_slice())
+            is_closed_node(loader, *tail) && fields_closed(loader, fields.as_slice())
         }
         _ => false,
     }
 }
 
-/// Notes that a node was kept.
-fn note_kept(kept: &mut List<bool>, node: usize) -> Result<(), NoMemory> {
-    for _ in kept.len()..node {
-        kept.push(false)?;
+/// Notes that a node is closed.
+fn note_closed(closed: &mut List<bool>, node: usize) -> Result<(), NoMemory> {
+    for _ in closed.len()..node {
+        closed.push(false)?;
     }
-    kept.push(true)
+    closed.push(true)
 }
 
 /// Adds a node and keeps it under this number.
@@ -240,7 +224,7 @@ fn keep_node(
 {
     let copy = copy_shape(alloc, &shape)?;
     let node = add_node(loader, shape)?;
-    note_kept(&mut loader.kept, node)?;
+    note_closed(&mut loader.closed, node)?;
     let made = MadeNode {
         kind,
         shape: copy,
@@ -261,7 +245,7 @@ pub fn make_node(
     ensures { IfOk result (λ n. Makes loader.old loader.new (kind_for kind) shape n) }
 {
     if !is_closed(loader, &shape) {
-        return Ok(add_node(loader, shape)?);
+        return add_node(loader, shape);
     }
     let key = key_of(kind, &shape);
     if let Some(node) = find_node(loader, key, kind, &shape) {

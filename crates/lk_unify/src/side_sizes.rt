@@ -118,8 +118,7 @@ fn is_surely_few(
     ensures few { IfOk result (λ few. IsTrue few → AllMakeFew (joined equations.now sizings.now)) }
 {
     let all = load_solvable(alloc, equations, equations.len())?;
-    let few = sizes_within(alloc, &all, sizings, true, 1)?;
-    Ok(few)
+    sizes_within(alloc, &all, sizings, true, 1)
 }
 
 /// A number of constraints of which no first part needs a test by itself. It is searched for by halves.
@@ -185,6 +184,5 @@ pub fn first_large(
     ensures fine { IfOk result (λ found. IfNone found (AllFine (joined equations.now sizings.now))) }
     ensures first { IfOk result (λ found. IfSome found (λ k. IsFirstLarge (joined equations.now sizings.now) k)) }
 {
-    let found = first_beyond(alloc, equations, sizings)?;
-    Ok(found)
+    first_beyond(alloc, equations, sizings)
 }

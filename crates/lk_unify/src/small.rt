@@ -38,6 +38,5 @@ pub fn first_too_large(alloc: Global, equations: &[Equation]) -> Result<Option<u
     ensures first { IfOk result (λ found. IfSome found (λ k. IsFirstTooLarge equations.now k)) }
 {
     let sizings = vec![in alloc; Sizing::Always; equations.len()]?;
-    let found = first_beyond(alloc, equations, sizings.as_slice())?;
-    Ok(found)
+    first_beyond(alloc, equations, sizings.as_slice())
 }

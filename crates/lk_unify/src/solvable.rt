@@ -140,12 +140,11 @@ pub fn is_solvable(alloc: Global, equations: &[Equation]) -> Result<bool, NoMemo
     if !is_clean(alloc, &all.loader.arena)? {
         return Ok(false);
     }
-    let ordered = is_ordered(
+    is_ordered(
         alloc,
         all.loader.arena.shapes.as_slice(),
         &all.loader.arena.classes,
-    )?;
-    Ok(ordered)
+    )
 }
 
 /// A number of first equations that have no solution, of equations that have none: those up to the first that can't be merged

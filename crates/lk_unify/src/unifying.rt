@@ -52,14 +52,13 @@ fn solution(alloc: Global, equations: &[Equation]) -> Result<Subst, NoMemory>
     let nodes = load_ordered(alloc, equations)?;
     let loader = &nodes.all.loader;
     let numbers = numbers_for(alloc, loader)?;
-    let subst = read_all(
+    read_all(
         alloc,
         loader,
         variables.as_slice(),
         numbers.as_slice(),
         nodes.order.len(),
-    )?;
-    Ok(subst)
+    )
 }
 
 /// Solves equations in a most general way, where each first part of them is small. Something is put for variables of the equations

@@ -45,6 +45,5 @@ pub fn distinct_variables(alloc: Global, equations: &[Equation]) -> Result<List<
 {
     let variables = variables_in(alloc, equations)?;
     let set = set_of(alloc, variables.as_slice())?;
-    let items = items_of(alloc, &set)?;
-    Ok(items)
+    items_of(alloc, &set)
 }

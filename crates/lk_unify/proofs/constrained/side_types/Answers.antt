@@ -1,5 +1,6 @@
 use Rattle.std.proofs.Common.{◌≡◌, length, ap, sym, arith}
 use Rattle.std.proofs.lemmas.List.{length-take-le}
+use Rattle.std.proofs.lemmas.Result.{IfOk-weaker}
 use Rattle.lk_unify.proofs.SideTypes.{first_can, first_in_order, read_first, sides_as_many}
 use Rattle.lk_unify.proofs.constrained.side_types.Goals as goal
 use Rattle.lk_unify.specs.Reading.{name_in}
@@ -20,10 +21,14 @@ slice_bounds-read_levels-end c =
 
 pub returns-clause-sides : goal.returns-clause-sides
 returns-clause-sides c =
-    read_first c.in_ok-nodes.nodes.all.loader c.in_ok-nodes.nodes.all.sides c.args.equations.now c.in_ok-nodes.ensures.loaded c.args.count (name_in c.in_ok-numbers.numbers.items)
-    c.in_ok-types.types c.requires.solution c.in_ok-numbers.ensures.naming (rw (c.as_slice.ensures.value, c.as_slice-sides.ensures) at c.in_ok-types.ensures)
+    IfOk-weaker c.read_levels.result _ _
+    (λ types. read_first c.in_ok-nodes.nodes.all.loader c.in_ok-nodes.nodes.all.sides c.args.equations.now c.in_ok-nodes.ensures.loaded c.args.count (name_in c.in_ok-numbers.numbers.items)
+    types c.requires.solution c.in_ok-numbers.ensures.naming)
+    (rw (c.as_slice.ensures.value, c.as_slice-sides.ensures) at c.read_levels.ensures)
 
 pub returns-clause-in_order : goal.returns-clause-in_order
 returns-clause-in_order c =
-    first_in_order c.in_ok-nodes.nodes.all.loader c.in_ok-nodes.nodes.all.sides c.args.equations.now c.in_ok-nodes.ensures.loaded c.args.count (name_in c.in_ok-numbers.numbers.items)
-    c.in_ok-types.types c.requires.solution c.in_ok-numbers.ensures.naming (rw (c.as_slice.ensures.value, c.as_slice-sides.ensures) at c.in_ok-types.ensures)
+    IfOk-weaker c.read_levels.result _ _
+    (λ types. first_in_order c.in_ok-nodes.nodes.all.loader c.in_ok-nodes.nodes.all.sides c.args.equations.now c.in_ok-nodes.ensures.loaded c.args.count (name_in c.in_ok-numbers.numbers.items)
+    types c.requires.solution c.in_ok-numbers.ensures.naming)
+    (rw (c.as_slice.ensures.value, c.as_slice-sides.ensures) at c.read_levels.ensures)

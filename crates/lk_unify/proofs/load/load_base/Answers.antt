@@ -1,4 +1,5 @@
 use Rattle.std.proofs.Common.{length, refl, sym, subst}
+use Rattle.std.specs.Prelude.{IfOk}
 use Rattle.lk_arena.specs.Kinds.{OfTypes}
 use Rattle.lk_arena.specs.Shapes.{AllBelow}
 use Rattle.lk_arena.specs.declared.node.Shape.TheVariants.{Made}
@@ -15,4 +16,4 @@ make_node-requires c = record {
 }
 
 pub returns : goal.returns
-returns c = subst (λ ps. Makes c.args.loader.now c.make_node.new.loader OfTypes (Made c.args.head ps) c.in_ok-node.node) c.new-parts.ensures c.in_ok-node.ensures
+returns c = subst (λ ps. IfOk c.make_node.result (Makes c.args.loader.now c.make_node.new.loader OfTypes (Made c.args.head ps))) c.new-parts.ensures c.make_node.ensures

@@ -1,4 +1,5 @@
 use Rattle.std.proofs.Common.{◌≡◌, ◌<◌, true, false, length, refl, sym, ◌∙◌, ap, subst, arith}
+use Rattle.std.proofs.lemmas.Result.{IfOk-weaker}
 use Rattle.lk_types.specs.Each.{Each}
 use Rattle.lk_unify.proofs.LoadRows.{effects_below, effects_end_as, loads_effects_end, loaded_effects, some_effects}
 use Rattle.lk_unify.proofs.load.load_effects.Goals as goal
@@ -28,9 +29,10 @@ returns-then-is_empty c =
 
 pub returns : goal.returns
 returns c =
-    loaded_effects c.args.effects.now c.args.loader.now c.load_end.new.loader c.load_unit.new.loader c.add_row.new.loader c.in_ok-tail.tail c.in_ok-unit.unit c.in_ok-fields.fields
-    c.in_ok-add_row.field-0
+    IfOk-weaker c.add_row.result _ _
+    (λ answer. loaded_effects c.args.effects.now c.args.loader.now c.load_end.new.loader c.load_unit.new.loader c.add_row.new.loader c.in_ok-tail.tail c.in_ok-unit.unit c.in_ok-fields.fields
+    answer
     (effects_end_as c.args.loader.now c.load_end.new.loader c.in_ok-tail.tail c.of_effects.result c.args.effects.now.tail c.of_effects.ensures c.in_ok-tail.ensures)
     c.in_ok-unit.ensures
-    (c.in_ok-fields.ensures ∙ ap (effect_fields c.in_ok-unit.unit) c.as_slice.ensures)
-    c.in_ok-add_row.ensures
+    (c.in_ok-fields.ensures ∙ ap (effect_fields c.in_ok-unit.unit) c.as_slice.ensures))
+    c.add_row.ensures

@@ -1,10 +1,10 @@
-use Rattle.std.proofs.Common.{◌<◌, length, refl, sym, subst, arith}
+use Rattle.std.proofs.Common.{◌<◌, Some, length, refl, sym, subst, arith}
 use Rattle.lk_types.proofs.Members.{each_weaker}
 use Rattle.lk_arena.specs.Kinds.{OfEffects, OfTypes}
 use Rattle.lk_arena.specs.Shapes.{AllBelow}
 use Rattle.lk_arena.specs.declared.node.Head.TheVariants as head
 use Rattle.lk_arena.specs.declared.node.Shape.TheVariants.{Made}
-use Rattle.lk_unify.proofs.LoadSteps.{loaded_some}
+use Rattle.lk_unify.proofs.LoadSteps.{if_mapped, loaded_some}
 use Rattle.lk_unify.proofs.load.load_function.Goals as goal
 use Rattle.lk_unify.specs.Loading.{effects_meaning, Makes}
 
@@ -28,9 +28,12 @@ make_node-requires c =
     }
 
 pub returns : goal.returns
-returns c = (
-  c.load_effects.new.loader,
-  c.in-Some.first,
-  loaded_some c.args.loader.now c.load_effects.new.loader OfEffects (effects_meaning c.args.effects.now) c.in_ok-first.field-0 c.in-Some.first c.in-Some.is c.in_ok-first.ensures,
-  subst (λ ps. Makes c.load_effects.new.loader c.make_node.new.loader OfTypes (Made head.Fun ps) c.in_ok-node.node) c.in_ok-parts.ensures c.in_ok-node.ensures,
-)
+returns c =
+    if_mapped Some c.make_node.result c.map.result _ _ c.map.ensures.cases
+    (λ n made. (
+      c.load_effects.new.loader,
+      c.in-Some.first,
+      loaded_some c.args.loader.now c.load_effects.new.loader OfEffects (effects_meaning c.args.effects.now) c.in_ok-first.field-0 c.in-Some.first c.in-Some.is c.in_ok-first.ensures,
+      subst (λ ps. Makes c.load_effects.new.loader c.make_node.new.loader OfTypes (Made head.Fun ps) n) c.in_ok-parts.ensures made,
+    ))
+    c.make_node.ensures

@@ -1,4 +1,6 @@
 use Rattle.std.proofs.Common.{length, refl, sym, subst}
+use Rattle.std.proofs.lemmas.Result.{IfOk-weaker}
+use Rattle.std.specs.Prelude.{IfOk}
 use Rattle.lk_arena.specs.Kinds.{OfNothing, OfUnit}
 use Rattle.lk_arena.specs.Shapes.{AllBelow}
 use Rattle.lk_arena.specs.declared.node.Head.TheVariants as head
@@ -21,6 +23,7 @@ make_node-requires-2 c = record {
 
 pub returns : goal.returns
 returns c =
-    loads_unit c.args.loader.now c.make_node.new.loader c.make_node-2.new.loader c.in_ok-nothing.nothing c.in_ok-unit.unit
-    (loads_closed c.args.loader.now c.make_node.new.loader c.in_ok-nothing.nothing OfNothing (λ j. tt) c.requires c.in_ok-nothing.ensures)
-    (subst (λ ps. Makes c.make_node.new.loader c.make_node-2.new.loader OfUnit (Made head.Fields ps) c.in_ok-unit.unit) c.in_ok-parts.ensures c.in_ok-unit.ensures)
+    IfOk-weaker c.make_node-2.result _ _
+    (λ n. loads_unit c.args.loader.now c.make_node.new.loader c.make_node-2.new.loader c.in_ok-nothing.nothing n
+    (loads_closed c.args.loader.now c.make_node.new.loader c.in_ok-nothing.nothing OfNothing (λ j. tt) c.requires c.in_ok-nothing.ensures))
+    (subst (λ ps. IfOk c.make_node-2.result (Makes c.make_node.new.loader c.make_node-2.new.loader OfUnit (Made head.Fields ps))) c.in_ok-parts.ensures c.make_node-2.ensures)

@@ -11,14 +11,14 @@ returns-in-Some-clause-named c = sym c.node_for.ensures ∙ c.in-Some.is
 
 pub returns-in_ok-insert-in-None-clause-loads : goal.returns-in_ok-insert-in-None-clause-loads
 returns-in_ok-insert-in-None-clause-loads c =
-    loads_named c.args.loader.now c.add_node.new.loader (record { arena = c.add_node.new.loader.arena; names = c.insert.new.self; made = c.add_node.new.loader.made; kept = c.add_node.new.loader.kept }) c.args.variable c.in_ok-node-in-None.node c.requires
+    loads_named c.args.loader.now c.add_node.new.loader (record { arena = c.add_node.new.loader.arena; names = c.insert.new.self; made = c.add_node.new.loader.made; closed = c.add_node.new.loader.closed }) c.args.variable c.in_ok-node-in-None.node c.requires
     (sym c.node_for.ensures ∙ c.in-None.is)
     (subst (λ s. Adds c.args.loader.now c.add_node.new.loader s c.in_ok-node-in-None.node) c.shape_for.ensures c.in_ok-node-in-None.ensures)
     refl refl c.in_ok-insert-in-None.ensures.updates.0
 
 pub returns-in_ok-insert-in-None-clause-named : goal.returns-in_ok-insert-in-None-clause-named
 returns-in_ok-insert-in-None-clause-named c =
-    new_name c.args.loader.now c.add_node.new.loader (record { arena = c.add_node.new.loader.arena; names = c.insert.new.self; made = c.add_node.new.loader.made; kept = c.add_node.new.loader.kept }) c.args.variable c.in_ok-node-in-None.node c.requires
+    new_name c.args.loader.now c.add_node.new.loader (record { arena = c.add_node.new.loader.arena; names = c.insert.new.self; made = c.add_node.new.loader.made; closed = c.add_node.new.loader.closed }) c.args.variable c.in_ok-node-in-None.node c.requires
     (sym c.node_for.ensures ∙ c.in-None.is)
     (subst (λ s. Adds c.args.loader.now c.add_node.new.loader s c.in_ok-node-in-None.node) c.shape_for.ensures c.in_ok-node-in-None.ensures)
     refl refl c.in_ok-insert-in-None.ensures.updates.0

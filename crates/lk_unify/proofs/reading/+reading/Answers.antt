@@ -1,4 +1,5 @@
 use Rattle.std.proofs.Common.{◌-◌, sym, ◌∙◌, ap, arith}
+use Rattle.std.proofs.lemmas.Result.{IfOk-weaker}
 use Rattle.lk_types.specs.declared.ty.RowTail.TheVariants.{Var}
 use Rattle.lk_unify.proofs.ReadParts.{made_can}
 use Rattle.lk_unify.proofs.ReadRows.{fields_can, fields_open, fields_none, fields_row, next_row}
@@ -29,13 +30,15 @@ make_row-returns-in-Open t c u own =
     ∙ ap (λ class. only_tail (Var (name_in c.args.numbers.now class))) c.class_of-class.ensures
     ∙ fields_open c.args.arena.now c.args.numbers.now c.args.fuel c.args.node c.requires u own is
 
-pub make_row-returns-in_ok-row-in-Row : goal.make_row-returns-in_ok-row-in-Row
-make_row-returns-in_ok-row-in-Row t c u own =
+pub make_row-returns-in_ok-below-in-Row : goal.make_row-returns-in_ok-below-in-Row
+make_row-returns-in_ok-below-in-Row t c =
     let is = ap (shape_at c.args.arena.now.shapes) (sym c.class_of-class.ensures) ∙ sym c.shape_of.ensures ∙ c.in-Row.is in
-    let row = fields_row c.args.arena.now c.args.numbers.now c.args.fuel c.args.node c.requires u own c.in-Row.own c.in-Row.tail is in
-    (rw (c.as_slice.ensures) at (c.in_ok-row-in-Row.ensures u own))
+    IfOk-weaker c.read_fields.result _ _
+    (λ row read u own.
+    read u own
     ∙ ap (with_fields c.in-Row.own u) (c.in_ok-below-in-Row.ensures u own)
-    ∙ sym row.1
+    ∙ sym (fields_row c.args.arena.now c.args.numbers.now c.args.fuel c.args.node c.requires u own c.in-Row.own c.in-Row.tail is).1)
+    (rw c.as_slice.ensures at c.read_fields.ensures)
 
 pub make_row-returns-in_default : goal.make_row-returns-in_default
 make_row-returns-in_default t c u own =
@@ -44,7 +47,7 @@ make_row-returns-in_default t c u own =
     ∙ fields_none c.args.arena.now c.args.numbers.now c.args.fuel c.args.node c.requires u own (λ is. c.in_default.not-Open (sym at ∙ is)) (λ fs t is. c.in_default.not-Row fs t (sym at ∙ is))
 
 pub read_row-returns : goal.read_row-returns
-read_row-returns t c u own = c.in_ok-into_row.ensures ∙ ap row_type (c.in_ok-made.ensures u own)
+read_row-returns t c = IfOk-weaker c.into_row.result _ _ (λ row is u own. is ∙ ap row_type (c.in_ok-made.ensures u own)) c.into_row.ensures
 
 pub read_fields-loop-i-preserved : goal.read_fields-loop-i-preserved
 read_fields-loop-i-preserved t c u own =

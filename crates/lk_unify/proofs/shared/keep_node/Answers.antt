@@ -8,7 +8,7 @@ use Rattle.lk_unify.specs.Loading.{made_at}
 pub returns : goal.returns
 returns c =
     makes_kept c.args.loader.now c.add_node.new.loader
-    (record { arena = c.add_node.new.loader.arena; names = c.add_node.new.loader.names; made = c.insert.new.self; kept = c.note_kept.new.kept }) c.args.kind c.args.shape c.in_ok-node.node
+    (record { arena = c.add_node.new.loader.arena; names = c.add_node.new.loader.names; made = c.insert.new.self; closed = c.note_closed.new.closed }) c.args.kind c.args.shape c.in_ok-node.node
     c.args.key c.requires c.in_ok-node.ensures refl refl
     (λ q.
     c.in_ok-insert.ensures.updates.0 q

@@ -1,4 +1,5 @@
 use Rattle.std.proofs.Common.{length, sym, ◌∙◌, arith}
+use Rattle.std.proofs.lemmas.Result.{IfOk-weaker}
 use Rattle.lk_unify.proofs.FineFirsts.{surely}
 use Rattle.lk_unify.proofs.SideTypes.{sides_as_many}
 use Rattle.lk_unify.proofs.Within.{loaded_values, sides_in_classes}
@@ -16,7 +17,8 @@ sizes_within-requires-clause-sizings c =
     c.requires.sizings ∙ sym (sides_as_many c.in_ok-all.all.loader c.in_ok-all.all.sides c.args.equations.now c.in_ok-all.ensures)
 
 pub returns-clause-nodes : goal.returns-clause-nodes
-returns-clause-nodes c = c.in_ok-all.ensures.before 0 (omega arith)
+returns-clause-nodes c = IfOk-weaker c.sizes_within.result _ _ (λ few says. c.in_ok-all.ensures.before 0 (omega arith)) c.sizes_within.ensures.within
 
 pub returns-clause-few : goal.returns-clause-few
-returns-clause-few c few = surely c.args.equations.now c.args.sizings.now c.requires.sizings c.in_ok-all.all c.in_ok-all.ensures c.requires.solution (c.in_ok-few.ensures.within few)
+returns-clause-few c =
+    IfOk-weaker c.sizes_within.result _ _ (λ few says is. surely c.args.equations.now c.args.sizings.now c.requires.sizings c.in_ok-all.all c.in_ok-all.ensures c.requires.solution (says is)) c.sizes_within.ensures.within

@@ -1,6 +1,7 @@
 use Rattle.std.proofs.Common.{◌≡◌, length, List, sym, ◌∙◌, ap, subst, rules}
 use Rattle.std.proofs.lemmas.List.{length-replicate}
 use Rattle.std.specs.Prelude.{replicate}
+use Rattle.std.proofs.lemmas.Result.{IfOk-weaker}
 use Rattle.lk_types.specs.declared.equation.Equation.{Equation}
 use Rattle.lk_unify.proofs.FineFirsts.{if_none, if_some}
 use Rattle.lk_unify.proofs.SmallSides.{all_small, always, first_too_large, AllMatter}
@@ -23,14 +24,16 @@ pub returns-clause-small : goal.returns-clause-small
 returns-clause-small c =
     let filled : c.in_ok-sizings.sizings.items ≡ replicate (length c.args.equations.now) Always = c.in_ok-sizings.ensures.items_if_clones_equal (λ y h. search rules) in
     let are : c.as_slice.result.now ≡ replicate (length c.args.equations.now) Always = c.as_slice.ensures.value ∙ filled in
-    if_none
-    (all_small c.args.equations.now c.as_slice.result.now (as_many c.args.equations.now c.as_slice.result.now are) (all_matter c.args.equations.now c.as_slice.result.now are) c.requires)
-    c.in_ok-found.found c.in_ok-found.ensures.few
+    IfOk-weaker c.first_beyond.result _ _
+    (if_none
+    (all_small c.args.equations.now c.as_slice.result.now (as_many c.args.equations.now c.as_slice.result.now are) (all_matter c.args.equations.now c.as_slice.result.now are) c.requires))
+    c.first_beyond.ensures.few
 
 pub returns-clause-first : goal.returns-clause-first
 returns-clause-first c =
     let filled : c.in_ok-sizings.sizings.items ≡ replicate (length c.args.equations.now) Always = c.in_ok-sizings.ensures.items_if_clones_equal (λ y h. search rules) in
     let are : c.as_slice.result.now ≡ replicate (length c.args.equations.now) Always = c.as_slice.ensures.value ∙ filled in
-    if_some
-    (first_too_large c.args.equations.now c.as_slice.result.now (as_many c.args.equations.now c.as_slice.result.now are) (all_matter c.args.equations.now c.as_slice.result.now are) c.requires)
-    c.in_ok-found.found c.in_ok-found.ensures.first
+    IfOk-weaker c.first_beyond.result _ _
+    (if_some
+    (first_too_large c.args.equations.now c.as_slice.result.now (as_many c.args.equations.now c.as_slice.result.now are) (all_matter c.args.equations.now c.as_slice.result.now are) c.requires))
+    c.first_beyond.ensures.first

@@ -11,7 +11,7 @@ pub returns-then-branch-clause-added : goal.returns-then-branch-clause-added
 returns-then-branch-clause-added c =
     adds_equation c.args.loader.now c.load_equation.new.loader c.args.equation.now c.in-Some.pair
     (subst (λ o. LoadedEquation c.args.loader.now c.load_equation.new.loader c.args.equation.now o) c.in-Some.is c.in_ok-pair.ensures)
-    (record { arena = c.merge_nodes.new.arena; names = c.load_equation.new.loader.names; made = c.load_equation.new.loader.made; kept = c.load_equation.new.loader.kept }) refl refl (c.in_ok-merge_nodes.ensures.merged c.if-branch.true)
+    (record { arena = c.merge_nodes.new.arena; names = c.load_equation.new.loader.names; made = c.load_equation.new.loader.made; closed = c.load_equation.new.loader.closed }) refl refl (c.in_ok-merge_nodes.ensures.merged c.if-branch.true)
 
 pub returns-clause-never : goal.returns-clause-never
 returns-clause-never c =

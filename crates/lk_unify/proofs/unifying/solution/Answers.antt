@@ -1,3 +1,4 @@
+use Rattle.std.proofs.lemmas.Result.{IfOk-weaker}
 use Rattle.lk_arena.proofs.Placed.{places}
 use Rattle.lk_unify.proofs.ReadSolution.{read_in_order, read_only, read_solution}
 use Rattle.lk_unify.proofs.unifying.solution.Goals as goal
@@ -11,15 +12,21 @@ read_all-requires-clause-ranks c =
 
 pub returns-clause-solution : goal.returns-clause-solution
 returns-clause-solution c =
-    read_solution c.in_ok-nodes.nodes.all.loader c.in_ok-nodes.nodes.all.sides c.args.equations.now (name_in c.in_ok-numbers.numbers.items) c.in_ok-variables.variables c.in_ok-subst.subst
-    c.in_ok-nodes.ensures.loaded c.requires c.in_ok-numbers.ensures.naming (rw (c.as_slice.ensures, c.as_slice-2.ensures.value) at c.in_ok-subst.ensures) c.in_ok-variables.ensures.all
+    IfOk-weaker c.read_all.result _ _
+    (λ s is. read_solution c.in_ok-nodes.nodes.all.loader c.in_ok-nodes.nodes.all.sides c.args.equations.now (name_in c.in_ok-numbers.numbers.items) c.in_ok-variables.variables s
+    c.in_ok-nodes.ensures.loaded c.requires c.in_ok-numbers.ensures.naming is c.in_ok-variables.ensures.all)
+    (rw (c.as_slice.ensures, c.as_slice-2.ensures.value) at c.read_all.ensures)
 
 pub returns-clause-only : goal.returns-clause-only
 returns-clause-only c =
-    read_only c.in_ok-nodes.nodes.all.loader c.in_ok-nodes.nodes.all.sides c.args.equations.now (name_in c.in_ok-numbers.numbers.items) c.in_ok-variables.variables c.in_ok-subst.subst
-    c.in_ok-nodes.ensures.loaded c.requires c.in_ok-numbers.ensures.naming (rw (c.as_slice.ensures, c.as_slice-2.ensures.value) at c.in_ok-subst.ensures) c.in_ok-variables.ensures.only
+    IfOk-weaker c.read_all.result _ _
+    (λ s is. read_only c.in_ok-nodes.nodes.all.loader c.in_ok-nodes.nodes.all.sides c.args.equations.now (name_in c.in_ok-numbers.numbers.items) c.in_ok-variables.variables s
+    c.in_ok-nodes.ensures.loaded c.requires c.in_ok-numbers.ensures.naming is c.in_ok-variables.ensures.only)
+    (rw (c.as_slice.ensures, c.as_slice-2.ensures.value) at c.read_all.ensures)
 
 pub returns-clause-in_order : goal.returns-clause-in_order
 returns-clause-in_order c =
-    read_in_order c.in_ok-nodes.nodes.all.loader c.in_ok-nodes.nodes.all.sides c.args.equations.now (name_in c.in_ok-numbers.numbers.items) c.in_ok-variables.variables c.in_ok-subst.subst
-    c.in_ok-nodes.ensures.loaded c.requires c.in_ok-numbers.ensures.naming (rw (c.as_slice.ensures, c.as_slice-2.ensures.value) at c.in_ok-subst.ensures)
+    IfOk-weaker c.read_all.result _ _
+    (λ s. read_in_order c.in_ok-nodes.nodes.all.loader c.in_ok-nodes.nodes.all.sides c.args.equations.now (name_in c.in_ok-numbers.numbers.items) c.in_ok-variables.variables s
+    c.in_ok-nodes.ensures.loaded c.requires c.in_ok-numbers.ensures.naming)
+    (rw (c.as_slice.ensures, c.as_slice-2.ensures.value) at c.read_all.ensures)
