@@ -1,6 +1,5 @@
 -- What is answered for a whole program, from its instances and their shapes.
-use Rattle.std.proofs.Common.{◌≡◌, ℕ, ◌<◌, Bool, Err, length, true, false, List, [], ◌∷◌, Option, Some, None, slice_get, refl, sym, ap, subst, ◌∙◌}
-use native.Mathlib.Omega.{arith}
+use Rattle.std.proofs.Common.{◌≡◌, ℕ, Bool, Err, true, false, List, [], ◌∷◌, Option, Some, None, slice_get, refl, sym, ap, subst, ◌∙◌}
 use Rattle.lk_ast.specs.declared.place.Span.{Span}
 use Rattle.lk_types.proofs.Parts.{same_some}
 use Rattle.lk_mono.specs.Flatness.{Answers}
@@ -47,35 +46,27 @@ others_judged at mains helpers listed main (Some fault) same is yields refused =
     let (body, others, are, use_is) = first_of mains listed main same is in
     IsMisshapen.other are (ap (λ u. answers_function u.type) use_is ∙ yields) refused
 
-pub never_none : {A : Type 0} (xs : List A) → 0 < length xs → None ≡ slice_get xs 0 → ⊥
-never_none [] some none = omega (arith, some)
-never_none (x ∷ xs) some none = cc
-
 -- ---- what is called
 
 module _ (source : Source) (i : Instances) (found : AreFound source i) where
-  abbrev AllCalled : List TheUse → List TheUse → Bool → List TheBody → List (List ℕ) → Type 0
-  AllCalled ms hs in_helper bodies places = (s : Source) (held : List Body) → AreHeld s bodies held → Each (AreListedIn (as_list ms) (as_list hs) in_helper) held → AreAllCalled (as_list ms) (as_list hs) in_helper held places
+  abbrev AllCalled : Bool → List TheBody → List (List ℕ) → Type 0
+  AllCalled in_helper bodies places = (s : Source) (held : List Body) → AreHeld s bodies held → Each (AreListedIn (as_list i.mains) (as_list i.helpers) in_helper) held → AreAllCalled (as_list i.mains) (as_list i.helpers) in_helper held places
 
-  pub mains_called : (ms hs : List TheUse) (bodies : List TheBody) (places : List (List ℕ)) → ms ≡ i.mains → hs ≡ i.helpers → bodies ≡ i.main_bodies → AllCalled ms hs false bodies places
+  pub mains_called : (bodies : List TheBody) (places : List (List ℕ)) → bodies ≡ i.main_bodies → AllCalled false bodies places
       → AreAllCalled (uses_of found.mains) (uses_of found.helpers) false found.mains places
-  mains_called ms hs bodies places same_ms same_hs same_bodies called =
-      let one : uses_of found.mains ≡ as_list ms = found.main_uses ∙ ap as_list (sym same_ms) in
-      let other : uses_of found.helpers ≡ as_list hs = found.helper_uses ∙ ap as_list (sym same_hs) in
-      subst (λ us. AreAllCalled us (uses_of found.helpers) false found.mains places) (sym one)
-      (subst (λ us. AreAllCalled (as_list ms) us false found.mains places) (sym other)
+  mains_called bodies places same_bodies called =
+      subst (λ us. AreAllCalled us (uses_of found.helpers) false found.mains places) (sym found.main_uses)
+      (subst (λ us. AreAllCalled (as_list i.mains) us false found.mains places) (sym found.helper_uses)
       (called source found.mains (subst (λ xs. AreHeld source xs found.mains) (sym same_bodies) found.mains_held)
-      (subst (λ us. Each (AreListedIn us (as_list hs) false) found.mains) one (subst (λ us. Each (AreListedIn (uses_of found.mains) us false) found.mains) other found.mains_listed))))
+      (subst (λ us. Each (AreListedIn us (as_list i.helpers) false) found.mains) found.main_uses (subst (λ us. Each (AreListedIn (uses_of found.mains) us false) found.mains) found.helper_uses found.mains_listed))))
 
-  pub helpers_called : (ms hs : List TheUse) (bodies : List TheBody) (places : List (List ℕ)) → ms ≡ i.mains → hs ≡ i.helpers → bodies ≡ i.helper_bodies → AllCalled ms hs true bodies places
+  pub helpers_called : (bodies : List TheBody) (places : List (List ℕ)) → bodies ≡ i.helper_bodies → AllCalled true bodies places
       → AreAllCalled (uses_of found.mains) (uses_of found.helpers) true found.helpers places
-  helpers_called ms hs bodies places same_ms same_hs same_bodies called =
-      let one : uses_of found.mains ≡ as_list ms = found.main_uses ∙ ap as_list (sym same_ms) in
-      let other : uses_of found.helpers ≡ as_list hs = found.helper_uses ∙ ap as_list (sym same_hs) in
-      subst (λ us. AreAllCalled us (uses_of found.helpers) true found.helpers places) (sym one)
-      (subst (λ us. AreAllCalled (as_list ms) us true found.helpers places) (sym other)
+  helpers_called bodies places same_bodies called =
+      subst (λ us. AreAllCalled us (uses_of found.helpers) true found.helpers places) (sym found.main_uses)
+      (subst (λ us. AreAllCalled (as_list i.mains) us true found.helpers places) (sym found.helper_uses)
       (called source found.helpers (subst (λ xs. AreHeld source xs found.helpers) (sym same_bodies) found.helpers_held)
-      (subst (λ us. Each (AreListedIn us (as_list hs) true) found.helpers) one (subst (λ us. Each (AreListedIn (uses_of found.mains) us true) found.helpers) other found.helpers_listed))))
+      (subst (λ us. Each (AreListedIn us (as_list i.helpers) true) found.helpers) found.main_uses (subst (λ us. Each (AreListedIn (uses_of found.mains) us true) found.helpers) found.helper_uses found.helpers_listed))))
 
 pub same_shape : {A : Type 0} (k l : ShapeKind) (at here : Span) → ◌≡◌ {A = Result A MonoError} (Err (errors.Shape k at)) (Err (errors.Shape l here)) → (k ≡ l) × (at ≡ here)
 same_shape k l at here is = (cc, cc)

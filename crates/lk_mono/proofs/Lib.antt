@@ -24,6 +24,7 @@ pub mod InstancesOnce
 pub mod Judging
 pub mod Keeping
 pub mod Looking
+pub mod Lookups
 pub mod Loopless
 pub mod MainAnswers
 pub mod MainFirst

@@ -1,14 +1,17 @@
 -- What adding uses to a list of instances does, to the code's list and to the definition's.
-use Rattle.std.proofs.Common.{◌≡◌, inl, inr, ℕ, zero, suc, ◌+◌, ◌-◌, ◌<◌, Bool, true, false, ◌&&◌, ◌==◌, List, [], ◌∷◌, ◌++◌, get_or, map, length, Some, slice_get, bytes_eq, refl, sym, ap, ap₂, subst, ◌∙◌, MatchBool}
+use Rattle.std.proofs.Common.{◌≡◌, inl, inr, ℕ, zero, suc, ◌+◌, ◌-◌, ◌<◌, Bool, true, false, ◌&&◌, ◌==◌, cond, List, [], ◌∷◌, ◌++◌, length, Option, Some, None, slice_get, bytes_eq, refl, sym, ap, ap₂, subst, ◌∙◌}
 use native.Mathlib.Omega.{arith}
-use Rattle.std.proofs.lemmas.Bool.{eqb-true, false≢true}
+use Rattle.std.proofs.lemmas.Bool.{false≢true}
 use Rattle.std.proofs.lemmas.Bool.Decides.{nat_tests}
 use Rattle.std.specs.Cmp.Lexicographic.{bytes_decides}
 use Rattle.lk_ground_types.specs.Grounds.{AreDistinct, at}
-use Rattle.std.specs.List.{AllWithin, HoldsAt}
+use Rattle.std.specs.List.{position}
+use Rattle.std.specs.Option.{is_some, option_map}
+use Rattle.lk_mono.proofs.Lookups.{position-cons, same_key}
 use Rattle.lk_mono.specs.Instances.{IsFull, IsListed, IsWith, Wanted, most_instances}
 use Rattle.lk_mono.specs.Instances as instances
 use Rattle.lk_mono.specs.Looks.{IsNumbered, TheFound}
+use Rattle.lk_mono.specs.Places.{is_use}
 use Rattle.lk_mono.specs.Queues.{AreFoundOf, AreUsesNumbered, IsAdded, IsQueueOf, as_list, as_use}
 use Rattle.lk_mono.specs.Queues as queues
 use Rattle.lk_mono.specs.declared.queue.Queue.{Queue}
@@ -19,31 +22,6 @@ use Rattle.lk_types.specs.Rows.{Label}
 use Rattle.lk_types.specs.declared.ground.Ground.{Ground}
 use Rattle.lk_types.proofs.Parts.{same_some}
 use Rattle.lk_typing.proofs.Levels.{map_joined}
-
--- ---- which are in a list
-
-module _ {A B : Type 0} (f : A → B) (w : B) where
-  pub one_of_at : (xs : List A) (k : ℕ) → k < length xs → HoldsAt (λ x. f x ≡ w) xs k → OneOf (λ other. other ≡ w) (map f xs)
-  one_of_at [] k within holds = omega arith
-  one_of_at (x ∷ xs) zero within holds = inl (holds x)
-  one_of_at (x ∷ xs) (suc k) within holds = inr (one_of_at xs k (omega arith) holds)
-
-  pub none_within : (xs : List A) → AllWithin (λ x. f x ≡ w → ⊥) xs 0 (length xs) → OneOf (λ other. other ≡ w) (map f xs) → ⊥
-  none_within [] all one = one
-  none_within (x ∷ xs) all (inl e) = all 0 x (omega arith) (omega arith) e
-  none_within (x ∷ xs) all (inr one) = none_within xs (λ k d low high. all (suc k) d (omega arith) (omega arith)) one
-
-  -- what a search for it answers
-  abbrev pub IsAnswer : List A → Bool → Type 0
-  IsAnswer xs r = MatchBool r ((k : ℕ) × (k < length xs) × HoldsAt (λ x. f x ≡ w) xs k) (AllWithin (λ x. f x ≡ w → ⊥) xs 0 (length xs))
-
-  pub yes_there : (xs : List A) (r : Bool) → IsAnswer xs r → r ≡ true → OneOf (λ other. other ≡ w) (map f xs)
-  yes_there xs true answer is = one_of_at xs answer.0 answer.1 answer.2
-  yes_there xs false answer is = absurd (false≢true is)
-
-  pub not_there : (xs : List A) (r : Bool) → IsAnswer xs r → r ≡ false → OneOf (λ other. other ≡ w) (map f xs) → ⊥
-  not_there xs true answer is one = false≢true (sym is)
-  not_there xs false answer is one = none_within xs answer one
 
 -- ---- one use
 
@@ -91,18 +69,9 @@ module _ (others : ℕ) (list : List Use) (queue : Queue) (q : IsQueueOf others 
 
 -- ---- by numbers
 
-abbrev pub IsTested : Label → ℕ → List TheUse → Bool → Type 0
-IsTested name number xs r = MatchBool r ((k : ℕ) × (k < length xs) × HoldsAt (λ x. (bytes_eq x.name.now name && (x.number == number)) ≡ true) xs k)
-    (AllWithin (λ x. (bytes_eq x.name.now name && (x.number == number)) ≡ false) xs 0 (length xs))
-
 pub each_last : {A : Type 0} (P : A → Type 0) (xs : List A) (x : A) → Each P xs → P x → Each P (xs ++ x ∷ [])
 each_last P [] x all one = (one, tt)
 each_last P (y ∷ xs) x all one = (all.0, each_last P xs x all.1 one)
-
-each_at : {A : Type 0} (P : A → Type 0) (xs : List A) (k : ℕ) (d : A) → Each P xs → k < length xs → P (get_or xs k d)
-each_at P [] k d all within = absurd (omega (arith, within))
-each_at P (x ∷ xs) zero d all within = all.0
-each_at P (x ∷ xs) (suc k) d all within = each_at P xs k d all.1 (omega (arith, within))
 
 there : (ts : List Ground) (n : ℕ) → n < length ts → slice_get ts n ≡ Some (at ts n)
 there [] n less = absurd (omega (arith, less))
@@ -111,10 +80,6 @@ there (t ∷ ts) (suc n) less = there ts n (omega (arith, less))
 
 same_number : (ts : List Ground) → AreDistinct ts → (n m : ℕ) → n < length ts → m < length ts → at ts n ≡ at ts m → n ≡ m
 same_number ts distinct n m less small same = distinct n m (at ts m) (there ts n less ∙ ap Some same) (there ts m small)
-
-and_parts : (b c : Bool) → (b && c) ≡ true → (b ≡ true) × (c ≡ true)
-and_parts true c is = (refl, is)
-and_parts false c is = absurd (false≢true is)
 
 both_true : (b c : Bool) → b ≡ true → c ≡ true → (b && c) ≡ true
 both_true b c first second = ap₂ (λ b c. b && c) first second
@@ -127,34 +92,59 @@ module _ (ts : List Ground) (distinct : AreDistinct ts) (name : Label) (number :
   It = record { name = name; type = ty }
 
   -- an instance has that name and number just where it is the one of that name and type
-  pub same_one : (x : TheUse) → IsNumbered ts x.number x.ty → (bytes_eq x.name.now name && (x.number == number)) ≡ true → as_use x ≡ It
+  pub same_one : (x : TheUse) → IsNumbered ts x.number x.ty → is_use name number x ≡ true → as_use x ≡ It
   same_one x own passes =
-      let both = and_parts (bytes_eq x.name.now name) (x.number == number) passes in
-      same_use It x.name.now x.ty ((bytes_decides x.name.now name).0 both.0) (sym own.is ∙ ap (at ts) (eqb-true x.number number both.1) ∙ is.is)
+      let (names, numbers) = same_key name number x passes in
+      same_use It x.name.now x.ty (sym names) (sym own.is ∙ ap (at ts) (sym numbers) ∙ is.is)
 
-  pub other_one : (x : TheUse) → IsNumbered ts x.number x.ty → (bytes_eq x.name.now name && (x.number == number)) ≡ false → as_use x ≡ It → ⊥
+  pub other_one : (x : TheUse) → IsNumbered ts x.number x.ty → is_use name number x ≡ false → as_use x ≡ It → ⊥
   other_one x own fails same =
       let names : x.name.now ≡ name = ap (λ (u : Use). u.name) same in
       let types : x.ty ≡ ty = ap (λ (u : Use). u.type) same in
       let numbers : x.number ≡ number = same_number ts distinct x.number number own.within is.within (own.is ∙ types ∙ sym is.is) in
       false≢true (sym fails ∙ both_true (bytes_eq x.name.now name) (x.number == number) ((bytes_decides x.name.now name).1 names) (number_test x.number number numbers))
 
-  -- what a search for the name and the number answers
-  abbrev Passes : TheUse → Bool → Type 0
-  Passes x b = (bytes_eq x.name.now name && (x.number == number)) ≡ b
+  -- the place of the one that is listed is found
+  pub listed_place : (xs : List TheUse) → AreUsesNumbered ts xs → IsIn (as_list xs) It → (n : ℕ) × (position (is_use name number) xs ≡ Some n) × (slice_get (as_list xs) n ≡ Some It)
+  listed_place [] all one = absurd one
+  listed_place (x ∷ xs) all one = by_test (is_use name number x) refl one (listed_place xs all.1)
+    where
+      one_more : (n : ℕ) → 1 + n ≡ suc n
+      one_more n = omega arith
 
-  by_number : (xs : List TheUse) → AreUsesNumbered ts xs → (r : Bool) → IsTested name number xs r → IsAnswer as_use It xs r
-  by_number xs all true answer = (answer.0, answer.1, λ d. same_one (get_or xs answer.0 d) (each_at (λ x. IsNumbered ts x.number x.ty) xs answer.0 d all answer.1) (answer.2 d))
-  by_number xs all false answer = λ k d low high. other_one (get_or xs k d) (each_at (λ x. IsNumbered ts x.number x.ty) xs k d all high) (answer k d low high)
+      by_test : (b : Bool) → is_use name number x ≡ b → IsIn (as_list (x ∷ xs)) It → (IsIn (as_list xs) It → (n : ℕ) × (position (is_use name number) xs ≡ Some n) × (slice_get (as_list xs) n ≡ Some It))
+          → (n : ℕ) × (position (is_use name number) (x ∷ xs) ≡ Some n) × (slice_get (as_list (x ∷ xs)) n ≡ Some It)
+      by_test true passes one behind = (
+        0,
+        position-cons (is_use name number) x xs ∙ ap (λ b. cond b (Some 0) (option_map (λ n. 1 + n) (position (is_use name number) xs))) passes,
+        ap Some (same_one x all.0 passes),
+      )
+      by_test false fails (inl same) behind = absurd (other_one x all.0 fails same)
+      by_test false fails (inr one) behind =
+          let (n, found, has) = behind one in (
+            suc n,
+            position-cons (is_use name number) x xs ∙ ap (λ b. cond b (Some 0) (option_map (λ n. 1 + n) (position (is_use name number) xs))) fails ∙ ap (option_map (λ n. 1 + n)) found ∙ ap Some (one_more n),
+            has,
+          )
 
-  pub numbered_yes : (xs : List TheUse) → AreUsesNumbered ts xs → (r : Bool) → IsTested name number xs r → r ≡ true → OneOf (λ other. other ≡ It) (as_list xs)
-  numbered_yes xs all r answer = yes_there as_use It xs r (by_number xs all r answer)
+  -- where one is found, it is listed
+  pub some_listed : (xs : List TheUse) → AreUsesNumbered ts xs → is_some (position (is_use name number) xs) ≡ true → IsIn (as_list xs) It
+  some_listed [] all some = absurd (false≢true some)
+  some_listed (x ∷ xs) all some = by_test (is_use name number x) refl (some_listed xs all.1)
+    where
+      behind_first : (o : Option ℕ) → is_some (option_map (λ n. 1 + n) o) ≡ true → is_some o ≡ true
+      behind_first None some = some
+      behind_first (Some n) some = refl
 
-  pub numbered_no : (xs : List TheUse) → AreUsesNumbered ts xs → (r : Bool) → IsTested name number xs r → r ≡ false → OneOf (λ other. other ≡ It) (as_list xs) → ⊥
-  numbered_no xs all r answer = not_there as_use It xs r (by_number xs all r answer)
+      by_test : (b : Bool) → is_use name number x ≡ b → (is_some (position (is_use name number) xs) ≡ true → IsIn (as_list xs) It) → IsIn (as_list (x ∷ xs)) It
+      by_test true passes behind = inl (same_one x all.0 passes)
+      by_test false fails behind =
+          inr (behind (behind_first (position (is_use name number) xs)
+          (sym (ap is_some (position-cons (is_use name number) x xs ∙ ap (λ b. cond b (Some 0) (option_map (λ n. 1 + n) (position (is_use name number) xs))) fails)) ∙ some)))
 
-pub use_numbered : (ts : List Ground) (xs : List TheUse) (k : ℕ) (x : TheUse) → AreUsesNumbered ts xs → k < length xs → x ≡ get_or xs k x → IsNumbered ts x.number x.ty
-use_numbered ts xs k x all within is = subst (λ (y : TheUse). IsNumbered ts y.number y.ty) (sym is) (each_at (λ (y : TheUse). IsNumbered ts y.number y.ty) xs k x all within)
+  -- where none is, it isn't
+  pub none_listed : (xs : List TheUse) → AreUsesNumbered ts xs → is_some (position (is_use name number) xs) ≡ false → IsIn (as_list xs) It → ⊥
+  none_listed xs all none one = let (n, found, has) = listed_place xs all one in false≢true (sym none ∙ ap is_some found)
 
 pub listed_number : (ts : List Ground) (xs : List TheUse) (k : ℕ) (x : TheUse) → AreUsesNumbered ts xs → slice_get xs k ≡ Some x → IsNumbered ts x.number x.ty
 listed_number ts [] k x all is = cc

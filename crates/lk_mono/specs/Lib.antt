@@ -11,6 +11,7 @@ pub mod Looks
 pub mod Mains
 pub mod Members
 pub mod Order
+pub mod Places
 pub mod Plain
 pub mod Queues
 pub mod Refused

@@ -16,7 +16,7 @@ ghost use Rattle.std.specs.Prelude.{◌≡◌, ◌++◌, ◌<◌, ℕ, Err, IfOk
 
 use crate::error::MonoError;
 use crate::look::{Found, look_into};
-use crate::member::{Member, find_member};
+use crate::member::{Member, Members};
 use crate::queue::{Queue, Wanted, add_uses};
 use lk_ast::{List, NoMemory, Program};
 use lk_ground_types::{Grounds, share_type};
@@ -31,7 +31,7 @@ use std::alloc::Global;
 pub struct Source<'m, 'p> {
     pub program: &'p Program,
     pub typed: &'p Typed,
-    pub members: &'m [Member<'p>],
+    pub members: &'m Members<'p>,
 }
 
 /// An instance: its function, the types of its nodes, and what it uses.
@@ -78,7 +78,7 @@ fn walk<'m, 'p>(
     outline_laws();
     principal_laws();
     let next = queue.listed.at(number);
-    let Some(member) = find_member(source.members, next.name) else {
+    let Some(member) = source.members.find(next.name) else {
         unreachable!();
     };
     let looked = look_into(alloc, grounds, member, next.number)?;

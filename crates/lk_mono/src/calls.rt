@@ -12,35 +12,33 @@ ghost use Rattle.lk_types.specs.Each.{Each, OneOf};
 ghost use Rattle.std.specs.Prelude.{◌≡◌, ◌≤◌, ◌||◌, ◌⊎◌, IfOk, List as TheList, Some, if◌then◌else◌, length, slice_get};
 
 use crate::body::Body;
+use crate::listed::Listed;
 use crate::look::Found;
-use crate::queue::{Use, is_use};
 use lk_ast::{List, NoMemory};
 use lk_ground_types::Grounds;
 use std::alloc::Global;
 
 /// The place of an instance in a list, or how many there are.
-fn place_of(grounds: &Grounds, listed: &[Use], found: &Found) -> usize
+fn place_of<'p>(grounds: &Grounds, listed: &Listed<'p>, found: &Found<'p>) -> usize
     requires listed { AreUsesNumbered grounds.now listed.now }
     requires found { IsNumbered grounds.now found.now.number found.now.ty }
     ensures place { (u : TheUse) → (as_found found.now).name ≡ u.name → found.now.ty ≡ u.type → OneOf (λ other. other ≡ u) (as_list listed.now) → slice_get (as_list listed.now) result ≡ Some u }
     ensures within { result ≤ length listed.now }
 {
     grounds.distinct();
-    for place in 0..listed.len() {
-        if is_use(&listed[place], found.name, found.number) {
-            return place;
-        }
+    match listed.place(found.name, found.number) {
+        Some(place) => place,
+        None => listed.len(),
     }
-    listed.len()
 }
 
 /// The place of what is used in the list in which it stands.
-fn place_in(
+fn place_in<'p>(
     grounds: &Grounds,
-    mains: &[Use],
-    helpers: &[Use],
+    mains: &Listed<'p>,
+    helpers: &Listed<'p>,
     in_helper: bool,
-    found: &Found,
+    found: &Found<'p>,
 ) -> usize
     requires mains { AreUsesNumbered grounds.now mains.now }
     requires helpers { AreUsesNumbered grounds.now helpers.now }
@@ -56,13 +54,13 @@ fn place_in(
 }
 
 /// For each use in an instance, the place of what it uses in the list in which that stands.
-fn calls(
+fn calls<'p>(
     alloc: Global,
     grounds: &Grounds,
-    mains: &[Use],
-    helpers: &[Use],
+    mains: &Listed<'p>,
+    helpers: &Listed<'p>,
     in_helper: bool,
-    uses: &[Found],
+    uses: &[Found<'p>],
 ) -> Result<List<u32>, NoMemory>
     requires mains { (length mains.now ≤ most_instances) × AreUsesNumbered grounds.now mains.now }
     requires helpers { (length helpers.now ≤ most_instances) × AreUsesNumbered grounds.now helpers.now }
@@ -78,13 +76,13 @@ fn calls(
 }
 
 /// The same for several instances.
-pub fn all_calls(
+pub fn all_calls<'p>(
     alloc: Global,
     grounds: &Grounds,
-    mains: &[Use],
-    helpers: &[Use],
+    mains: &Listed<'p>,
+    helpers: &Listed<'p>,
     in_helper: bool,
-    bodies: &[Body],
+    bodies: &[Body<'_, 'p>],
 ) -> Result<List<List<u32>>, NoMemory>
     requires mains { (length mains.now ≤ most_instances) × AreUsesNumbered grounds.now mains.now }
     requires helpers { (length helpers.now ≤ most_instances) × AreUsesNumbered grounds.now helpers.now }

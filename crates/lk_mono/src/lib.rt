@@ -9,6 +9,7 @@ mod body;
 mod calls;
 mod error;
 mod law;
+mod listed;
 mod listing;
 mod look;
 mod member;

@@ -18,7 +18,7 @@ ghost use Rattle.std.specs.Prelude.{◌≡◌, ◌++◌, ◌<◌, [], ◌∷◌,
 
 use crate::body::{Body, Source, gather, walk_all};
 use crate::error::MonoError;
-use crate::member::find_member;
+use crate::listed::Listed;
 use crate::queue::{Queue, Use, Wanted};
 use lk_ast::{List, NoMemory, main_of};
 use lk_ground_types::{Bindings, Grounds, ground_one, share_type};
@@ -33,10 +33,10 @@ const MOST_INSTANCES: usize = 4096;
 #[derive(Drop)]
 pub struct Instances<'m, 'p> {
     /// Those that sessions may use, `main` first.
-    pub mains: List<Use<'p>>,
+    pub mains: Listed<'p>,
     pub main_bodies: List<Body<'m, 'p>>,
     /// Those that queries, updates and deletions use.
-    pub helpers: List<Use<'p>>,
+    pub helpers: Listed<'p>,
     pub helper_bodies: List<Body<'m, 'p>>,
 }
 
@@ -70,7 +70,7 @@ fn main_use<'p>(
     let Some(main) = main_of(source.program) else {
         unreachable!();
     };
-    let Some(member) = find_member(source.members, &main.name.text) else {
+    let Some(member) = source.members.find(&main.name.text) else {
         unreachable!();
     };
     let number = main_type(alloc, grounds, &member.scheme.body)?;
@@ -87,7 +87,7 @@ fn only<'p>(alloc: Global, main: Use<'p>) -> Result<Queue<'p>, NoMemory>
     ensures listed { IfOk result (λ queue. queue.listed ≡ main.entry ∷ []) }
     ensures room { IfOk result (λ queue. queue.room ≡ 4095) }
 {
-    let mut listed = List::new(alloc);
+    let mut listed = Listed::new(alloc);
     listed.push(main)?;
     let room = MOST_INSTANCES - 1;
     Ok(Queue { listed, room })
@@ -110,7 +110,7 @@ pub fn list_instances<'m, 'p>(
     let mut mains = only(alloc, main_use(alloc, source, grounds)?)?;
     let main_bodies = walk_all(alloc, source, grounds, &mut mains, Wanted::Outside)?;
     let mut helpers = Queue {
-        listed: List::new(alloc),
+        listed: Listed::new(alloc),
         room: mains.room,
     };
     if !gather(grounds, &mut helpers, main_bodies.as_slice())? {

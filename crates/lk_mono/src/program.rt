@@ -22,9 +22,9 @@ ghost use Rattle.std.specs.Prelude.{◌≡◌, ◌<◌, Bool, Err, IfOk, List as
 use crate::body::{Body, Source};
 use crate::calls::all_calls;
 use crate::error::{MonoError, ShapeKind};
+use crate::listed::Listed;
 use crate::listing::{Instances, list_instances};
-use crate::member::members;
-use crate::queue::Use;
+use crate::member::Members;
 use crate::shapes::{answers_function, first_refused};
 use lk_ast::{List, NoMemory, Span, main_of};
 use lk_ground::{GroundFun, GroundProgram, ground_laws};
@@ -38,7 +38,7 @@ use std::alloc::Global;
 /// The instances of a list as functions.
 fn functions<'p>(
     alloc: Global,
-    listed: List<Use<'p>>,
+    listed: Listed<'p>,
     bodies: List<Body<'_, 'p>>,
     calls: List<List<u32>>,
 ) -> Result<List<GroundFun<'p>>, NoMemory>
@@ -46,7 +46,7 @@ fn functions<'p>(
 {
     let mut funs = List::new(alloc);
     let bodies = bodies.into_vec().into_iter().zip(calls.into_vec());
-    for (usage, (body, calls)) in listed.into_vec().into_iter().zip(bodies) {
+    for (usage, (body, calls)) in listed.into_list().into_vec().into_iter().zip(bodies) {
         funs.push(GroundFun {
             function: body.member.function,
             ty: usage.ty,
@@ -68,9 +68,7 @@ fn shape_fault(
     requires { 0 < length instances.now.mains }
     ensures { IfOk result (λ fault. (source : TheSource) (found : AreFound source instances.now) → AreAllCalled (uses_of found.mains) (uses_of found.helpers) false found.mains main_calls.now → AreAllCalled (uses_of found.mains) (uses_of found.helpers) true found.helpers helper_calls.now → Judged main_at found.mains found.helpers fault) }
 {
-    let Some(main) = instances.mains.get(0) else {
-        unreachable!();
-    };
+    let main = instances.mains.at(0);
     if answers_function(&main.ty) {
         return Ok(Some((ShapeKind::MainType, main_at)));
     }
@@ -99,16 +97,16 @@ fn ground_source<'p>(alloc: Global, source: Source<'_, 'p>) -> Result<GroundProg
     let main_calls = all_calls(
         alloc,
         &grounds,
-        instances.mains.as_slice(),
-        instances.helpers.as_slice(),
+        &instances.mains,
+        &instances.helpers,
         false,
         instances.main_bodies.as_slice(),
     )?;
     let helper_calls = all_calls(
         alloc,
         &grounds,
-        instances.mains.as_slice(),
-        instances.helpers.as_slice(),
+        &instances.mains,
+        &instances.helpers,
         true,
         instances.helper_bodies.as_slice(),
     )?;
@@ -164,13 +162,13 @@ pub fn ground<'p>(
     principal_laws();
     soundness_laws();
     let program = program.program();
-    let members = members(alloc, program, typed)?;
+    let members = Members::new(alloc, program, typed)?;
     Ok(ground_source(
         alloc,
         Source {
             program,
             typed,
-            members: members.as_slice(),
+            members: &members,
         },
     )?)
 }

@@ -1,13 +1,16 @@
 //! Lists of instances that grow as these are walked.
 
 ghost use Rattle.lk_mono.specs.Looks.{AreNumbered, IsNumbered, as_found, as_uses};
+ghost use Rattle.lk_mono.specs.Places.{is_use};
 ghost use Rattle.lk_mono.specs.Queues.{AreFoundOf, AreUsesNumbered, IsAdded, IsQueueOf, as_list, as_wanted};
 ghost use Rattle.lk_sound.specs.Nodes.{Use as TheUse};
 ghost use Rattle.lk_types.specs.Each.{OneOf};
-ghost use Rattle.std.specs.Prelude.{◌≡◌, ◌==◌, ◌&&◌, ℕ, [], ◌∷◌, IfOk, List as TheList, OnOk, bytes_eq, false, true};
+ghost use Rattle.std.specs.List.{position};
+ghost use Rattle.std.specs.Prelude.{◌≡◌, ℕ, [], ◌∷◌, IfOk, List as TheList, None, OnOk, false, true};
 
+use crate::listed::Listed;
 use crate::look::Found;
-use lk_ast::{List, NoMemory, Text};
+use lk_ast::{NoMemory, Text};
 use lk_ground_types::{Grounds, share_type};
 use lk_types::Ground;
 
@@ -45,28 +48,20 @@ impl Wanted {
 /// A list of instances, and for how many more there is room.
 #[derive(Drop)]
 pub struct Queue<'p> {
-    pub listed: List<Use<'p>>,
+    pub listed: Listed<'p>,
     pub room: usize,
 }
 
-/// Whether it is this function at the type of this number.
-pub fn is_use(listed: &Use, name: &Text, number: u32) -> bool
-    ensures { result ≡ (bytes_eq listed.now.name.now name.now && (listed.now.number == number)) }
-{
-    listed.name.equals(name) && listed.number == number
-}
-
 /// Whether a function at the type of a number is in the list.
-fn is_listed(grounds: &Grounds, listed: &[Use], found: &Found) -> bool
+fn is_listed<'p>(grounds: &Grounds, listed: &Listed<'p>, found: &Found<'p>) -> bool
     requires listed { AreUsesNumbered grounds.now listed.now }
     requires found { IsNumbered grounds.now found.now.number found.now.ty }
     ensures yes { result ≡ true → OneOf (λ other. other ≡ record { name = found.now.name.now; type = found.now.ty }) (as_list listed.now) }
     ensures no { result ≡ false → OneOf (λ other. other ≡ record { name = found.now.name.now; type = found.now.ty }) (as_list listed.now) → ⊥ }
+    ensures lacking { result ≡ false → position (is_use found.now.name.now found.now.number) listed.now ≡ None }
 {
     grounds.distinct();
-    listed
-        .iter()
-        .any(|other| is_use(other, found.name, found.number))
+    listed.place(found.name, found.number).is_some()
 }
 
 /// Lists what is used, if the list lacks it. Whether there was room.
@@ -80,7 +75,7 @@ fn add_use<'p>(
     ensures added { IfOk result (λ ok. (others : ℕ) (list : TheList TheUse) (u : TheUse) → (as_found found.now).name ≡ u.name → found.now.ty ≡ u.type → IsQueueOf others list queue.old → IsAdded others list (u ∷ []) queue.new ok) }
     ensures numbered { OnOk result (AreUsesNumbered grounds.now queue.new.listed) }
 {
-    if is_listed(grounds, queue.listed.as_slice(), found) {
+    if is_listed(grounds, &queue.listed, found) {
         return Ok(true);
     }
     if queue.room == 0 {

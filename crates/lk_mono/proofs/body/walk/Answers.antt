@@ -8,7 +8,7 @@ use Rattle.lk_mono.specs.Looks.{AreNumbered}
 use Rattle.lk_mono.proofs.body.walk.Goals as goal
 
 pub unreachable-requires : goal.unreachable-requires
-unreachable-requires c = has_member _ c.requires.source _ _ c.requires.sound.1 _ _ c.at-next.ensures _ c.find_member.ensures c.in_default.is
+unreachable-requires c = has_member _ c.requires.source _ _ c.requires.sound.1 _ _ c.at-next.ensures _ c.find.ensures c.in_default.is
 
 pub look_into-requires : goal.look_into-requires
 look_into-requires c = (listed_number c.args.grounds.now c.args.queue.now.listed _ _ c.requires.numbered c.at-next.ensures).within
@@ -18,20 +18,20 @@ add_uses-requires-clause-listed c = uses_still c.args.grounds.now c.look_into.ne
 
 pub returns-then-not-branch-clause-full : goal.returns-then-not-branch-clause-full
 returns-then-not-branch-clause-full c same others sound =
-    is_full _ c.requires.source _ _ sound _ _ c.at-next.ensures _ c.find_member.ensures c.look_into.new.grounds c.principal_laws.ensures.body c.outline_laws.ensures.outlined c.in-Some.member c.in-Some.is c.in_ok-looked.looked
+    is_full _ c.requires.source _ _ sound _ _ c.at-next.ensures _ c.find.ensures c.look_into.new.grounds c.principal_laws.ensures.body c.outline_laws.ensures.outlined c.in-Some.member c.in-Some.is c.in_ok-looked.looked
     (looks_at c.look_into.new.grounds c.in-Some.member.now _ _ c.in_ok-looked.looked (listed_number c.args.grounds.now c.args.queue.now.listed _ _ c.requires.numbered c.at-next.ensures).is c.in_ok-looked.ensures.looked)
     _ _ c.as_slice.ensures _ _ c.in_ok-add_uses.ensures.added c.if-not-branch.true
 
 pub returns-in-Some-large-clause-large : goal.returns-in-Some-large-clause-large
 returns-in-Some-large-clause-large c at same others sound =
     let here : c.in-Some-large.at ≡ at = cc in
-    is_large _ c.requires.source _ _ sound _ _ c.at-next.ensures _ c.find_member.ensures c.look_into.new.grounds c.principal_laws.ensures.body c.outline_laws.ensures.outlined c.in-Some.member c.in-Some.is c.in_ok-looked.looked
+    is_large _ c.requires.source _ _ sound _ _ c.at-next.ensures _ c.find.ensures c.look_into.new.grounds c.principal_laws.ensures.body c.outline_laws.ensures.outlined c.in-Some.member c.in-Some.is c.in_ok-looked.looked
     (looks_at c.look_into.new.grounds c.in-Some.member.now _ _ c.in_ok-looked.looked (listed_number c.args.grounds.now c.args.queue.now.listed _ _ c.requires.numbered c.at-next.ensures).is c.in_ok-looked.ensures.looked)
     _ _ c.as_slice.ensures _ _ c.in_ok-add_uses.ensures.added c.if-not-branch.false at (c.in-Some-large.is ∙ ap Some here)
 
 pub returns-clause-walked : goal.returns-clause-walked
 returns-clause-walked c others sound =
-    is_step _ c.requires.source _ _ sound _ _ c.at-next.ensures _ c.find_member.ensures c.look_into.new.grounds c.principal_laws.ensures.body c.outline_laws.ensures.outlined c.in-Some.member c.in-Some.is c.in_ok-looked.looked
+    is_step _ c.requires.source _ _ sound _ _ c.at-next.ensures _ c.find.ensures c.look_into.new.grounds c.principal_laws.ensures.body c.outline_laws.ensures.outlined c.in-Some.member c.in-Some.is c.in_ok-looked.looked
     (looks_at c.look_into.new.grounds c.in-Some.member.now _ _ c.in_ok-looked.looked (listed_number c.args.grounds.now c.args.queue.now.listed _ _ c.requires.numbered c.at-next.ensures).is c.in_ok-looked.ensures.looked)
     _ _ c.as_slice.ensures _ _ c.in_ok-add_uses.ensures.added c.if-not-branch.false c.principal_laws.ensures.used _ c.in-None.is (c.in_ok-shared_types-in-None.ensures ∙ ap (map (at c.look_into.new.grounds)) c.as_slice-in-None.ensures)
 

@@ -1,25 +1,22 @@
-use Rattle.std.proofs.Common.{sym, ◌∙◌}
-use Rattle.lk_mono.proofs.Calling.{here, none_from, passed}
-use Rattle.lk_mono.proofs.Queueing.{other_one, same_one, same_use, use_numbered}
+use Rattle.std.proofs.Common.{◌≡◌, ◌<◌, Some, ap, arith, length, slice_get, subst, sym, ◌∙◌}
+use Rattle.std.proofs.lemmas.Option.{none-some, same_Some}
+use Rattle.lk_mono.proofs.Lookups.{position-within}
+use Rattle.lk_mono.proofs.Queueing.{listed_place, same_use}
+use Rattle.lk_mono.specs.Queues.{as_list}
+use Rattle.lk_types.specs.Each.{OneOf}
 use Rattle.lk_mono.proofs.calls.place_of.Goals as goal
 
-pub loop-place-init : goal.loop-place-init
-loop-place-init c u name type there = there
+pub returns-in-Some-clause-place : goal.returns-in-Some-clause-place
+returns-in-Some-clause-place c u name type there =
+    let (n, found, at) = listed_place c.args.grounds.now c.distinct.ensures _ _ _ c.requires.found c.args.listed.now c.requires.listed (subst (λ v. OneOf (λ other. other ≡ v) (as_list c.args.listed.now)) (sym (same_use u _ _ name type)) there) in
+    subst (λ k. slice_get (as_list c.args.listed.now) k ≡ Some u) (same_Some n c.in-Some.place (sym found ∙ sym c.place.ensures ∙ c.in-Some.is)) (at ∙ ap Some (same_use u _ _ name type))
 
-pub returns-then-is_use-clause-place : goal.returns-then-is_use-clause-place
-returns-then-is_use-clause-place c u name type there =
-    here u c.args.listed.now c.loop-place.place c.index-listed-place.result c.loop-place-test.true c.index-listed-place.is
-    (same_one c.args.grounds.now c.distinct.ensures _ _ _ c.requires.found c.index-listed-place.result
-    (use_numbered c.args.grounds.now c.args.listed.now c.loop-place.place _ c.requires.listed c.loop-place-test.true c.index-listed-place.is) (sym c.is_use.ensures ∙ c.if-is_use.true)
-    ∙ same_use u _ _ name type)
+pub returns-in-Some-clause-within : goal.returns-in-Some-clause-within
+returns-in-Some-clause-within c =
+    let h : c.in-Some.place < length c.args.listed.now = position-within _ c.args.listed.now c.in-Some.place (sym c.place.ensures ∙ c.in-Some.is) in
+    omega (arith, h)
 
-pub loop-place-preserved : goal.loop-place-preserved
-loop-place-preserved c u name type there =
-    passed u c.args.listed.now c.loop-place.place c.index-listed-place.result c.loop-place-test.true c.index-listed-place.is
-    (λ same. other_one c.args.grounds.now c.distinct.ensures _ _ _ c.requires.found c.index-listed-place.result
-    (use_numbered c.args.grounds.now c.args.listed.now c.loop-place.place _ c.requires.listed c.loop-place-test.true c.index-listed-place.is) (sym c.is_use.ensures ∙ c.if-is_use.false)
-    (same ∙ sym (same_use u _ _ name type)))
-    (c.loop-place.invariant u name type there)
-
-pub returns-clause-place : goal.returns-clause-place
-returns-clause-place c u name type there = absurd (none_from u c.args.listed.now c.loop-place.place c.loop-place-test.false (c.loop-place.invariant u name type there))
+pub returns-in-None-clause-place : goal.returns-in-None-clause-place
+returns-in-None-clause-place c u name type there =
+    let (n, found, at) = listed_place c.args.grounds.now c.distinct.ensures _ _ _ c.requires.found c.args.listed.now c.requires.listed (subst (λ v. OneOf (λ other. other ≡ v) (as_list c.args.listed.now)) (sym (same_use u _ _ name type)) there) in
+    absurd (none-some n (sym c.in-None.is ∙ c.place.ensures ∙ found))

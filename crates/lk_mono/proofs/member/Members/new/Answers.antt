@@ -1,9 +1,9 @@
 use Rattle.std.proofs.Common.{inl, inr, refl, rules}
 use Rattle.lk_mono.proofs.FindingMembers.{all_members, members_more, no_members}
-use Rattle.lk_mono.proofs.member.members.Goals as goal
+use Rattle.lk_mono.proofs.member.Members.new.Goals as goal
 
 pub loop-function-init : goal.loop-function-init
-loop-function-init c = no_members _ _ _ _ _ _ _ _ c.new-members.ensures (search rules) c.in_ok-functions.ensures (search rules) refl
+loop-function-init c = no_members _ _ _ _ _ _ _ _ c.new-list.ensures (search rules) c.in_ok-functions.ensures (search rules) refl
 
 pub loop-function-preserved : goal.loop-function-preserved
 loop-function-preserved c =
