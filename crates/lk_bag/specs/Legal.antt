@@ -105,6 +105,10 @@ AreSorted keys [] = Unit {0}
 AreSorted keys (r ∷ []) = Unit {0}
 AreSorted keys (r ∷ s ∷ rows) = (may_stand_before keys r s ≡ true) × AreSorted keys (s ∷ rows)
 
+-- the bag over tables whose rows are listed so, in some order, sorted by the keys
+abbrev pub IsAnsweredOver : Program → Tables → Expr → List Value → List Row → Type 0
+IsAnsweredOver p listed block args answer = IsPermutation (bag p listed block args) (map row_value answer) × AreSorted (keys_at (layer block)) answer
+
 -- the bag over the tables, whose rows are listed in some order
 abbrev pub IsAnswer : Program → Tables → Expr → List Value → List Row → Type 0
 IsAnswer p tables block args answer = (listed : Tables) × AreSame tables listed × IsPermutation (bag p listed block args) (map row_value answer) × AreSorted (keys_at (layer block)) answer

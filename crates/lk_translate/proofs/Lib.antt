@@ -5,4 +5,5 @@ pub mod Faults
 pub mod Meaning
 pub mod Ordering
 pub mod Reading
+pub mod RowsBack
 pub mod WellFormed

@@ -54,3 +54,9 @@ pub sorted_same : (keys : List SortKey) (labels : List Label) (rows : List Row) 
 sorted_same keys labels [] have sorted = tt
 sorted_same keys labels (r ∷ []) have sorted = tt
 sorted_same keys labels (r ∷ s ∷ rows) have sorted = (sym (before_same keys r s (have.0 ∙ sym have.1.0)) ∙ sorted.0, sorted_same keys labels (s ∷ rows) have.1 sorted.1)
+
+-- and as they are in the program in SQL
+pub sorted_back : (keys : List SortKey) (labels : List Label) (rows : List Row) → HaveLabels labels rows → legal.AreSorted keys rows → sql.AreSorted (map key_of keys) rows
+sorted_back keys labels [] have sorted = tt
+sorted_back keys labels (r ∷ []) have sorted = tt
+sorted_back keys labels (r ∷ s ∷ rows) have sorted = (before_same keys r s (have.0 ∙ sym have.1.0) ∙ sorted.0, sorted_back keys labels (s ∷ rows) have.1 sorted.1)

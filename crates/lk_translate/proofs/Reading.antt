@@ -61,7 +61,7 @@ use Rattle.lk_typing.specs.Types.{only_scan, record_of}
 
 -- ---- labels of rows that fit
 
-abbrev field_labels : List GroundField → List Label
+abbrev pub field_labels : List GroundField → List Label
 field_labels gs = map (λ (g : GroundField). g.label) gs
 
 abbrev fields_level : Value-F Value Field FunValue → List Field

@@ -1,6 +1,6 @@
--- The laws of translations: what a database that follows SQL answers is a legal answer of the program, what it changes is what the
--- program changes, and the SQL is well formed.
-use Rattle.std.specs.Prelude.{◌≡◌, true, List, Some}
+-- The laws of translations: a database that follows SQL may answer just what the program's readings may be answered with, what it
+-- changes is what the program changes, and the SQL is well formed.
+use Rattle.std.specs.Prelude.{◌≡◌, ◌↔◌, true, List, Some}
 use Rattle.lk_ast.specs.Layers.{Layer, layer}
 use Rattle.lk_ast.specs.Tables.{HaveColumns, Tables, row_fits}
 use Rattle.lk_ast.specs.declared.declaration.Program.{Program}
@@ -11,8 +11,7 @@ use Rattle.lk_ast.specs.declared.table.TableDef.{TableDef}
 use Rattle.lk_ast.specs.declared.value.Value.{Value}
 use Rattle.lk_bag.specs.Blocks.{blocks_of}
 use Rattle.lk_bag.specs.Change.{is_met, updated}
-use Rattle.lk_bag.specs.Legal as legal
-use Rattle.lk_bag.specs.Legal.{names_in}
+use Rattle.lk_bag.specs.Legal.{IsAnsweredOver, names_in}
 use Rattle.lk_ground.specs.declared.program.GroundProgram.{GroundProgram}
 use Rattle.lk_inline.specs.Inlined.{inlined_at}
 use Rattle.lk_inline.specs.Law.{AreProper, IsProperType}
@@ -41,17 +40,18 @@ use Rattle.lk_types.specs.declared.ty.Ty.{Ty}
 
 -- ---- readings
 
--- over all tables whose rows fit, and for all values of what the query captures, what its SQL may be answered with is what the
--- reading may be answered with
-abbrev pub AnswersLegally : Program → Site → Query → Type 0
-AnswersLegally p site query =
-    (tables : Tables) → AreTables p tables → (args : List Value) → AreCaptured query.captured args → (answer : List Row) → IsAnswer tables (leaves args) (query_sql query) answer → legal.IsAnswer p tables site.block args answer
+-- Over all tables whose rows fit, and for all values of what the query captures: its SQL may be answered with just what is the bag of
+-- the reading over these tables, in any order that the keys allow.
+abbrev pub AnswersAlike : Program → Site → Query → Type 0
+AnswersAlike p site query =
+    (tables : Tables) → AreTables p tables → (args : List Value) → AreCaptured query.captured args → (answer : List Row)
+    → IsAnswer tables (leaves args) (query_sql query) answer ↔ IsAnsweredOver p tables site.block args answer
 
 -- So it is where the program's names are bound, its instances are a closed set, and what stands at the site is typed in one of them,
 -- if the types of the nodes from there on have their labels in order.
 abbrev pub AnswerLaw : Type 0
 AnswerLaw = (p : Program) → IsBound p → (g : GroundProgram) → (has : HasInstances p g) → (site : Site) → IsBlock p has.shaped.instances site.block site.types site.calls → Each IsProperType site.types
-    → (query : Query) → inlined_at p g.helpers site ≡ Some (inlined.Query query) → AnswersLegally p site query
+    → (query : Query) → inlined_at p g.helpers site ≡ Some (inlined.Query query) → AnswersAlike p site query
 
 -- ---- changes
 
@@ -101,7 +101,7 @@ GoodLaw = (p : Program) → IsBound p → (g : GroundProgram) → (has : HasInst
 
 -- what is inlined at a site means what stands there
 abbrev pub IsLegal : Program → Site → Inlined → Type 0
-IsLegal p site (inlined.Query query) = AnswersLegally p site query
+IsLegal p site (inlined.Query query) = AnswersAlike p site query
 IsLegal p site (inlined.Change change) = ChangesLegally p site change (layer site.block)
 
 -- it is what is inlined at one of the sites, in SQL that is well formed and means what stands there

@@ -2,7 +2,7 @@
 //! large.
 //!
 //! `specs/Translation` says what each of them is in SQL, and which one is refused and for what; `translate_laws` says that this is
-//! well formed, and that what a database answers to it is a legal answer of the program.
+//! well formed, and that a database may answer it with just what the program's readings may be answered with.
 #![tactic(auto)]
 
 mod block;
