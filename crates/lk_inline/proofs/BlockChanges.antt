@@ -33,8 +33,10 @@ use Rattle.lk_inline.proofs.Induction.{exprs_made}
 use Rattle.lk_inline.proofs.Making.{AreMade, AreStanding, HaveNumbers, all_more}
 use Rattle.lk_inline.proofs.RecordRules.{StandEach}
 use Rattle.lk_inline.proofs.RecordValues.{record_fits}
+use Rattle.lk_inline.proofs.SetOrder.{cells_in_order}
 use Rattle.lk_inline.specs.Inlined.{calls_of, state_at, table_labels}
 use Rattle.lk_inline.specs.Law.{KeepsRows, KeepsTest}
+use Rattle.lk_inline.specs.Sets.{in_order}
 use Rattle.lk_inline.specs.Stands.{Stands}
 use Rattle.lk_locals.specs.Names.{Names, bind, bind_each, no_names}
 use Rattle.lk_mono.specs.Instanced.{HasInstances}
@@ -127,7 +129,7 @@ module _ (p : Program) (bound : IsBound p) (g : GroundProgram) (has : HasInstanc
     labels = table_labels (table_at p (out-ChangeExpr change).table.text);
     captured = captured;
     cond = first.part;
-    sets = labelled (map (λ (set : PartExpr). set.label.text) sets) others.numbers;
+    sets = in_order (labelled (map (λ (set : PartExpr). set.label.text) sets) others.numbers);
   }
 
   -- ---- its parts
@@ -218,7 +220,8 @@ module _ (p : Program) (bound : IsBound p) (g : GroundProgram) (has : HasInstanc
     row_kept : (block : Expr) → captured_in block ≡ xs → changed change_of (leaves args) r ≡ updated p (names_in block args) change r
     row_kept block is =
         ap₂ (λ b cells. if b then record { cells = cells } else r) (test_same p i (given (λ name. []) calls cond names) (gives (λ name. []) others.state.parts first.part values) (made_so.fits names names_fit) stand.0)
-        (cells_same p i (λ e. given (λ name. []) calls e names) others.state.parts values made_so.row r row_has_type sets made_so.ts others.numbers made_so.fields made_so.are made_so.each stand.1 r.cells)
+        (cells_in_order others.state.parts values (labelled (map (λ (set : PartExpr). set.label.text) sets) others.numbers) r.cells
+        ∙ cells_same p i (λ e. given (λ name. []) calls e names) others.state.parts values made_so.row r row_has_type sets made_so.ts others.numbers made_so.fields made_so.are made_so.each stand.1 r.cells)
         ∙ ap (λ ys. updated p (bind_each no_names ys args) change r) (sym is)
 
   -- ---- the law

@@ -26,11 +26,13 @@ use Rattle.lk_inline.proofs.KindStarts.{AreBound, begun, begun_described, begun_
 use Rattle.lk_inline.proofs.KindsMade.{AreKinded, AreKnown, AreSeen, Descriptions, IsSeen, kinds_of, scopes_of}
 use Rattle.lk_inline.proofs.LawTypes.{behind_first}
 use Rattle.lk_inline.proofs.Making.{AreWithin, all_more}
+use Rattle.lk_inline.proofs.SetOrder.{bases_in_order, labels_in_order}
 use Rattle.lk_inline.proofs.TableColumns.{HasTable, has_table}
 use Rattle.lk_inline.specs.Inlined.{calls_of, state_at, table_labels}
 use Rattle.lk_inline.specs.KindsOfTypes.{IsInOrder, kind_level, kind_of_type}
 use Rattle.lk_inline.specs.Law as kinded
 use Rattle.lk_inline.specs.Law.{HasKinds}
+use Rattle.lk_inline.specs.Sets.{in_order}
 use Rattle.lk_mono.specs.Instanced.{HasInstances}
 use Rattle.lk_names.specs.Programs.{IsBound}
 use Rattle.lk_query.proofs.Parts.{bind-other}
@@ -38,7 +40,6 @@ use Rattle.lk_query.specs.Changed.{ReadNoTable}
 use Rattle.lk_query.specs.Kinds.{AreBasesIn, IsBaseIn, IsNoList, Kind, OfRecord, kinds_from}
 use Rattle.lk_query.specs.Order.{bind}
 use Rattle.lk_query.specs.declared.part.Labelled.{Labelled}
-use Rattle.lk_query.specs.declared.part.Part.{Part}
 use Rattle.lk_query.specs.declared.query.Captured.{Captured}
 use Rattle.lk_query.specs.declared.query.Inlined.TheVariants as inlined
 use Rattle.lk_query.specs.declared.query.InlinedChange.{InlinedChange}
@@ -50,7 +51,7 @@ use Rattle.lk_sound.proofs.QueryParts.{AreQueryNodes}
 use Rattle.lk_sound.specs.Instances.{Instances}
 use Rattle.lk_sound.specs.Nodes.{change_nodes, nodes_of}
 use Rattle.lk_sound.specs.Tables.{table_at}
-use Rattle.lk_sql.specs.Good.{are_distinct}
+use Rattle.lk_sql.proofs.Labels.{distinct-in_order}
 use Rattle.lk_types.proofs.Parts.{mapped}
 use Rattle.lk_types.specs.Each.{Each}
 use Rattle.lk_types.specs.Rows.{Label, Row, fields_of}
@@ -65,19 +66,6 @@ use Rattle.lk_typing.specs.Typing.{HasField, IsChange, labels_of, changed as is_
 
 record_kind : (row : Row) → kind_of_type (record_of row) ≡ OfRecord (labels (columns_of (record_of row)))
 record_kind row = ap kind_level (known.outs-Fields (fields_of row)) ∙ ap (λ l. OfRecord (labels (columns_level l))) (sym (known.outs-Fields (fields_of row)))
-
--- ---- what is set
-
--- as many numbers as labels
-set_labels : (ls : List Label) (ts : List Ground) (ns : List ℕ) (fields : Named Ground) (left : List Ground) (before : List Part) → types.labelled ls ts ≡ Some (fields, left) → AreWithin ts ns before → left ≡ []
-    → map (λ (item : Labelled). item.label) (labelled ls ns) ≡ ls
-set_labels [] ts ns fields left before are within none = refl
-set_labels (l ∷ ls) [] ns fields left before are within none = let wrong : None ≡ Some (fields, left) = are in absurd cc
-set_labels (l ∷ ls) (t ∷ ts) [] fields left before are within none = absurd within
-set_labels (l ∷ ls) (t ∷ ts) (k ∷ ns) fields left before are within none =
-    let found : (x : Named Ground × List Ground) × (types.labelled ls ts ≡ Some x) × ((fields, left) ≡ ((l, t) ∷ x.0, x.1)) =
-    mapped (λ (x : Named Ground × List Ground). ((l, t) ∷ x.0, x.1)) (types.labelled ls ts) (fields, left) are in
-    ap (λ rest. l ∷ rest) (set_labels ls ts ns found.0.0 found.0.1 before found.1 within.1 (sym (ap (λ (x : Named Ground × List Ground). x.1) found.2) ∙ none))
 
 no_bound : (xs : List Label) → ReadNoTable (bound_parts xs)
 no_bound [] = refl
@@ -125,7 +113,7 @@ module _ (p : Program) (bound : IsBound p) (g : GroundProgram) (has : HasInstanc
   ls = table_labels (table_at p (out-ChangeExpr change).table.text)
 
   abbrev change_of : InlinedChange
-  change_of = record { parts = others.state.parts; labels = ls; captured = captured; cond = first.part; sets = labelled (map (λ (set : PartExpr). set.label.text) sets) others.numbers }
+  change_of = record { parts = others.state.parts; labels = ls; captured = captured; cond = first.part; sets = in_order (labelled (map (λ (set : PartExpr). set.label.text) sets) others.numbers) }
 
   -- ---- where the walk begins
 
@@ -245,14 +233,14 @@ module _ (p : Program) (bound : IsBound p) (g : GroundProgram) (has : HasInstanc
         let all_bases : Each (λ (set : Label × Ground). is_base set.1 ≡ true) ((l, t) ∷ found.0.0) = subst (λ (x : Named Ground × List Ground). Each (λ (set : Label × Ground). is_base set.1 ≡ true) x.0) found.2 bases in
         (base_in t k all_bases.0 within.0 seen.0, bases_in labels ts ns found.0.0 found.0.1 found.1 all_bases.1 within.1 seen.1)
 
-    pub change_kinds : are_distinct (map (λ (set : PartExpr). set.label.text) sets) ≡ true → HasKinds p (inlined.Change change_of)
-    change_kinds distinct =
+    pub change_kinds : HasKinds p (inlined.Change change_of)
+    change_kinds =
         let it : IsChangeKinded = kinded_so in
         kinded.change (kinds_of later) (scopes_of later) it.made.adds.ordered
         (record {
           typed = it.made.adds.typed;
           tests = base_in known.Bool first.part (ap base_level known.outs-Bool) it.made.within.0 it.made.are.0;
-          becomes = bases_in (labels_of sets) it.ts others.numbers it.fields [] it.are it.bases it.made.within.1 it.made.are.1;
-          distinct = ap are_distinct (set_labels (labels_of sets) it.ts others.numbers it.fields [] others.state.parts it.are it.made.within.1 refl) ∙ distinct;
+          becomes = bases_in_order (kinds_of later) (scopes_of later) change_of (labelled (labels_of sets) others.numbers) (bases_in (labels_of sets) it.ts others.numbers it.fields [] it.are it.bases it.made.within.1 it.made.are.1);
+          distinct = distinct-in_order (map (λ (item : Labelled). item.label) change_of.sets) (labels_in_order (labelled (labels_of sets) others.numbers));
         })
         (it.made.adds.quiet refl (no_bound (x ∷ xs)))

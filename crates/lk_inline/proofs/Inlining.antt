@@ -14,6 +14,7 @@ use Rattle.lk_ground.specs.declared.program.GroundFun.{GroundFun}
 use Rattle.lk_index.specs.Free.{captured_change, captured_query}
 use Rattle.lk_inline.proofs.Ordered.{one_ordered, sets_ordered}
 use Rattle.lk_inline.specs.Inlined.{change_at, first_columns, key_of, query_at, state_at, table_labels}
+use Rattle.lk_inline.specs.Sets.{in_order}
 use Rattle.lk_query.specs.Order.{AreOrdered}
 use Rattle.lk_query.specs.declared.part.Labelled.{Labelled}
 use Rattle.lk_query.specs.declared.part.Part.{Part}
@@ -86,7 +87,7 @@ module _ (p : Program) (helpers : List GroundFun) (site : Site) where
   pub change_inlined : (change : ChangeExpr) (names : List Label) (cond : Made) (sets : Several) (parts : List Part) (ls : List Label) (captured : List Captured) (items : List Labelled)
       → names ≡ captured_change change → cond ≡ cond_walk change names → sets ≡ sets_walk change names cond.state → parts ≡ sets.state.parts
       → ls ≡ table_labels (table_at p (out-ChangeExpr change).table.text) → captured ≡ captured_at (change_uses change (drop 1 site.types)) names
-      → items ≡ labelled (map (λ (set : PartExpr). set.label.text) (out-ChangeExpr change).sets) sets.numbers
+      → items ≡ in_order (labelled (map (λ (set : PartExpr). set.label.text) (out-ChangeExpr change).sets) sets.numbers)
       → inlined.Change (record { parts = parts; labels = ls; captured = captured; cond = cond.part; sets = items }) ≡ change_at p helpers site change
   change_inlined change names cond sets parts ls captured items names_are cond_is sets_are parts_are labels_are captured_are items_are =
       let first : cond ≡ cond_walk change (captured_change change) = cond_is ∙ ap (cond_walk change) names_are in
@@ -100,7 +101,7 @@ module _ (p : Program) (helpers : List GroundFun) (site : Site) where
         labels = table_labels (table_at p (out-ChangeExpr change).table.text);
         captured = captured_at (change_uses change (drop 1 site.types)) (captured_change change);
         cond = m.part;
-        sets = labelled (map (λ (set : PartExpr). set.label.text) (out-ChangeExpr change).sets) w.numbers;
+        sets = in_order (labelled (map (λ (set : PartExpr). set.label.text) (out-ChangeExpr change).sets) w.numbers);
       })) first second
 
   -- what is captured, by names and uses

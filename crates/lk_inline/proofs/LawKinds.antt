@@ -1,12 +1,11 @@
 -- The law of kinds, by the form of the expression at the site.
-use Rattle.std.proofs.Common.{◌≡◌, refl, subst, true, List, drop, length, None, Some, map}
+use Rattle.std.proofs.Common.{◌≡◌, refl, subst, true, List, drop, length, None, Some}
 use Rattle.lk_ast.specs.Functions.{functions_of}
 use Rattle.lk_ast.specs.Layers.{Layer, layer}
 use Rattle.lk_ast.specs.declared.declaration.Program.{Program}
-use Rattle.lk_ast.specs.declared.expression.ChangeExpr.{ChangeExpr, out-ChangeExpr}
+use Rattle.lk_ast.specs.declared.expression.ChangeExpr.{ChangeExpr}
 use Rattle.lk_ast.specs.declared.expression.Expr.{Expr}
 use Rattle.lk_ast.specs.declared.expression.Node.TheOpen.{Node-F}
-use Rattle.lk_ast.specs.declared.expression.PartExpr.{PartExpr}
 use Rattle.lk_ast.specs.declared.expression.SortKey.{SortKey}
 use Rattle.lk_ast.specs.declared.place.Word.{Word}
 use Rattle.lk_bag.specs.Blocks.{blocks_of}
@@ -17,7 +16,7 @@ use Rattle.lk_index.specs.Free.{captured_change, captured_query}
 use Rattle.lk_inline.proofs.BlockForms.{IsChangeAlone, IsChangeBlock, IsQueryAlone, change_alone, delete_block, query_alone, query_block, table_block, update_block}
 use Rattle.lk_inline.proofs.BlockNames.{captured_are}
 use Rattle.lk_inline.proofs.ChangeKinds.{change_kinds}
-use Rattle.lk_inline.proofs.OwnLabels.{delete_apart, keys_apart, update_apart}
+use Rattle.lk_inline.proofs.OwnLabels.{keys_apart}
 use Rattle.lk_inline.proofs.QueryKinds.{query_kinds, reading_kinds}
 use Rattle.lk_inline.proofs.UsesTyped.{change_typed, uses_typed}
 use Rattle.lk_inline.specs.Inlined.{change_at, inlined_by, query_at, reading_at}
@@ -32,7 +31,6 @@ use Rattle.lk_sound.proofs.Bags.{all_early}
 use Rattle.lk_types.proofs.Members.{each_weaker}
 use Rattle.lk_sound.specs.Instances.{Instances}
 use Rattle.lk_sound.specs.Nodes.{change_nodes, nodes_of}
-use Rattle.lk_sql.specs.Good.{are_distinct}
 use Rattle.lk_types.proofs.Parts.{same_some}
 use Rattle.lk_types.specs.Each.{Each, OneOf}
 use Rattle.lk_types.specs.declared.ground.Ground.{Ground}
@@ -64,22 +62,20 @@ module _ (p : Program) (bound : IsBound p) (g : GroundProgram) (has : HasInstanc
   reading_kinded : (name : Word) → layer site.block ≡ Node-F.Table name → HasKinds p (reading_at p g.helpers site name)
   reading_kinded name is = reading_kinds p i block.functions name site.types types_ordered (table_block p i block.functions block.typed name is site.types site.calls block.after block.takes)
 
-  change_kinded : (change : ChangeExpr) → IsChangeBlock p i block.functions block.locals change site.types site.calls block.after → are_distinct (map (λ (set : PartExpr). set.label.text) (out-ChangeExpr change).sets) ≡ true
-      → HasKinds p (change_at p g.helpers site change)
-  change_kinded change whole distinct =
+  change_kinded : (change : ChangeExpr) → IsChangeBlock p i block.functions block.locals change site.types site.calls block.after → HasKinds p (change_at p g.helpers site change)
+  change_kinded change whole =
       let alone : IsChangeAlone p i block.functions block.locals change site.types site.calls block.after = change_alone p i block.functions block.locals change site.types site.calls block.after whole in
       change_kinds p bound g has ordered block.functions block.locals site types_ordered change block.after alone
       (captured_are block.locals (change_uses change (drop 1 site.types)) (captured_change change) alone.names
       (λ x among. (change_typed p i.helpers (length (functions_of p)) alone.typed (all_early p i has.shaped.closed (change_nodes alone.typed) alone.flat) (drop 1 site.types) site.calls block.after alone.takes x among).1))
-      distinct
 
   by_form : (l : Layer) → layer site.block ≡ l → (found : Inlined) → inlined_by p g.helpers site l ≡ Some found → HasKinds p found
   by_form (Node-F.Query keys body) is found at = subst (HasKinds p) (same_some at) (query_kinded keys body is)
   by_form (Node-F.Table name) is found at = subst (HasKinds p) (same_some at) (reading_kinded name is)
   by_form (Node-F.Update change) is found at =
-      subst (HasKinds p) (same_some at) (change_kinded change (update_block p i block.functions block.typed change is block.fine site.types site.calls block.after block.takes) (update_apart p bound site.block of_text change is))
+      subst (HasKinds p) (same_some at) (change_kinded change (update_block p i block.functions block.typed change is block.fine site.types site.calls block.after block.takes))
   by_form (Node-F.Delete change) is found at =
-      subst (HasKinds p) (same_some at) (change_kinded change (delete_block p i block.functions block.typed change is block.fine site.types site.calls block.after block.takes) (delete_apart p bound site.block of_text change is))
+      subst (HasKinds p) (same_some at) (change_kinded change (delete_block p i block.functions block.typed change is block.fine site.types site.calls block.after block.takes))
   by_form other is found at = let wrong : None ≡ Some found = at in absurd cc
 
 pub kinds-had : KindsLaw

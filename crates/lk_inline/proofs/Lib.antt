@@ -59,6 +59,8 @@ pub mod RecordArms
 pub mod RecordRules
 pub mod RecordValues
 pub mod RowLabels
+pub mod SetMaps
+pub mod SetOrder
 pub mod Standing
 pub mod TableColumns
 pub mod TablesFound

@@ -1,4 +1,4 @@
--- In a program whose names are bound the keys of each query have distinct labels, and so has what each update sets.
+-- In a program whose names are bound the keys of each query have distinct labels.
 use Rattle.std.proofs.Common.{◌≡◌, refl, sym, ap, ap₂, subst, ◌∙◌, Bool, true, false, ◌&&◌, ◌||◌, not, List, [], ◌∷◌, map, None, inl, inr}
 use Rattle.std.proofs.lemmas.Bool.{both_ways}
 use Rattle.std.proofs.lemmas.Cmp.{nat_list_cmp_total}
@@ -7,23 +7,17 @@ use Rattle.std.specs.FinSet as set
 use Rattle.std.specs.Ordering.{nat_cmp, eq_by_cmp}
 use Rattle.lk_ast.specs.Layers.{layer}
 use Rattle.lk_ast.specs.declared.declaration.Program.{Program}
-use Rattle.lk_ast.specs.declared.expression.ChangeExpr.{ChangeExpr, fold_out-ChangeExpr, out-ChangeExpr}
 use Rattle.lk_ast.specs.declared.expression.Expr.{Expr}
 use Rattle.lk_ast.specs.declared.expression.Node.TheOpen.{Node-F}
-use Rattle.lk_ast.specs.declared.expression.PartExpr.{PartExpr, fold_out-PartExpr}
 use Rattle.lk_ast.specs.declared.expression.SortKey.{SortKey}
-use Rattle.lk_ast.specs.declared.place.Span.{Span}
-use Rattle.lk_ast.specs.declared.place.Word.{Word}
 use Rattle.lk_bag.specs.Blocks.{blocks_of}
 use Rattle.lk_inline.proofs.FaultlessBodies.{blocks_fine, level_fine}
 use Rattle.lk_inline.proofs.LabelOrder.{not_there}
-use Rattle.lk_names.specs.Expressions.{case_in, change_fault, change_in, expr_in, fault, global_fault, lambda_in, last_in, node_in, part_in, part_item}
-use Rattle.lk_names.specs.Faults.{Fault, first_of}
+use Rattle.lk_names.specs.Expressions.{fault, node_in}
+use Rattle.lk_names.specs.Faults.{first_of}
 use Rattle.lk_names.specs.Programs.{IsBound}
 use Rattle.lk_names.specs.Repeats.{Item, items_fault, key_item, keys_fault, twice_fault}
-use Rattle.lk_names.specs.declared.globals.Globals.{Globals}
 use Rattle.lk_scope.specs.Names.{Names, bind, is_local, no_names}
-use Rattle.lk_scope.specs.Scoped.{In, all_in}
 use Rattle.lk_sound.proofs.Faultless.{HasNoFault, mapped, neither}
 use Rattle.lk_sound.proofs.NewNames.{once, put_in}
 use Rattle.lk_types.proofs.Members.{each_in}
@@ -76,29 +70,6 @@ keys_named : (keys : List SortKey) → names_in (map key_item keys) ≡ map (λ 
 keys_named [] = refl
 keys_named (key ∷ keys) = ap (λ ls. key.label.text ∷ ls) (keys_named keys)
 
--- ---- what is set
-
-module _ (globals : Globals) where
-  part_named : (part : PartExpr) (names : Names) → (part_item globals part names).name ≡ part.label
-  part_named part names = ap (λ f. (f names).name) (fold_out-PartExpr (Span → In Fault) (In Item) (In Fault) (In Fault) (In Fault) (In Fault) (In Item) (node_in globals) case_in (change_in globals) expr_in lambda_in last_in part_in part)
-
-  sets_named : (sets : List PartExpr) (names : Names) → names_in (all_in names (map (part_item globals) sets)) ≡ map (λ (set : PartExpr). set.label.text) sets
-  sets_named [] names = refl
-  sets_named (part ∷ sets) names = ap₂ (λ (l : Word) ls. l.text ∷ ls) (part_named part names) (sets_named sets names)
-
-  change_level : (change : ChangeExpr) (names : Names) → change_fault globals change names
-      ≡ first_of (global_fault globals.tables names (out-ChangeExpr change).table.at (out-ChangeExpr change).table.text)
-      (first_of (fault globals (out-ChangeExpr change).cond (bind (out-ChangeExpr change).name names)) (items_fault no_names (all_in (bind (out-ChangeExpr change).name names) (map (part_item globals) (out-ChangeExpr change).sets))))
-  change_level change names = ap (λ f. f names) (fold_out-ChangeExpr (Span → In Fault) (In Item) (In Fault) (In Fault) (In Fault) (In Fault) (In Item) (node_in globals) case_in (change_in globals) expr_in lambda_in last_in part_in change)
-
-  sets_distinct : (change : ChangeExpr) (names : Names) → change_fault globals change names ≡ None → are_distinct (map (λ (set : PartExpr). set.label.text) (out-ChangeExpr change).sets) ≡ true
-  sets_distinct change names none =
-      let inner : Names = bind (out-ChangeExpr change).name names in
-      let items : List Item = all_in inner (map (part_item globals) (out-ChangeExpr change).sets) in
-      let cond : Fault = fault globals (out-ChangeExpr change).cond inner in
-      let behind = (neither (global_fault globals.tables names (out-ChangeExpr change).table.at (out-ChangeExpr change).table.text) (first_of cond (items_fault no_names items)) (sym (change_level change names) ∙ none)).1 in
-      ap are_distinct (sym (sets_named (out-ChangeExpr change).sets inner)) ∙ items_distinct items (neither cond (items_fault no_names items) behind).1
-
 -- ---- what acts on tables in a program
 
 module _ (p : Program) (bound : IsBound p) (block : Expr) (of_text : OneOf (λ other. other ≡ block) (blocks_of p)) where
@@ -109,13 +80,3 @@ module _ (p : Program) (bound : IsBound p) (block : Expr) (of_text : OneOf (λ o
   keys_apart keys body is =
       let none : node_in fine.0 (mapped fine.0 (Node-F.Query keys body)) block.span fine.1.0 ≡ None = ap (λ l. node_in fine.0 (mapped fine.0 l) block.span fine.1.0) (sym is) ∙ level_fine block fine in
       ap are_distinct (sym (keys_named keys)) ∙ items_distinct (map key_item keys) (neither (keys_fault keys) (fault fine.0 body fine.1.0) none).0
-
-  pub update_apart : (change : ChangeExpr) → layer block ≡ Node-F.Update change → are_distinct (map (λ (set : PartExpr). set.label.text) (out-ChangeExpr change).sets) ≡ true
-  update_apart change is =
-      let none : change_fault fine.0 change fine.1.0 ≡ None = ap (λ l. node_in fine.0 (mapped fine.0 l) block.span fine.1.0) (sym is) ∙ level_fine block fine in
-      sets_distinct fine.0 change fine.1.0 none
-
-  pub delete_apart : (change : ChangeExpr) → layer block ≡ Node-F.Delete change → are_distinct (map (λ (set : PartExpr). set.label.text) (out-ChangeExpr change).sets) ≡ true
-  delete_apart change is =
-      let none : change_fault fine.0 change fine.1.0 ≡ None = ap (λ l. node_in fine.0 (mapped fine.0 l) block.span fine.1.0) (sym is) ∙ level_fine block fine in
-      sets_distinct fine.0 change fine.1.0 none

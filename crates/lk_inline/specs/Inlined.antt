@@ -1,5 +1,5 @@
 -- What stands at the place of a query, a reading of a table, an update or a deletion: its parts, with the bodies of functions in the
--- places of their calls, and what it captures.
+-- places of their calls, and what it captures. What an update sets stands in byte order of the columns.
 use Rattle.std.specs.Prelude.{ℕ, List, [], ◌∷◌, Option, Some, None, drop, length, map}
 use Rattle.lk_ast.specs.Functions.{functions_of}
 use Rattle.lk_ast.specs.Layers.{Layer, layer}
@@ -18,6 +18,7 @@ use Rattle.lk_bodies.specs.Uses.{change_uses, query_uses}
 use Rattle.lk_bodies.specs.Walk.{Calls, Made, Several, State, all, called, labelled, table, walk}
 use Rattle.lk_ground.specs.declared.program.GroundFun.{GroundFun}
 use Rattle.lk_index.specs.Free.{captured_change, captured_query}
+use Rattle.lk_inline.specs.Sets.{in_order}
 use Rattle.lk_query.specs.declared.query.Inlined.{Inlined}
 use Rattle.lk_query.specs.declared.query.Inlined.TheVariants as inlined
 use Rattle.lk_sites.specs.Sites.{Site}
@@ -68,7 +69,7 @@ module _ (p : Program) (helpers : List GroundFun) where
         labels = table_labels (table_at p (out-ChangeExpr change).table.text);
         captured = captured_at (change_uses change (drop 1 site.types)) names;
         cond = c.part;
-        sets = labelled (map (λ (set : PartExpr). set.label.text) (out-ChangeExpr change).sets) sets.numbers;
+        sets = in_order (labelled (map (λ (set : PartExpr). set.label.text) (out-ChangeExpr change).sets) sets.numbers);
       })
 
   -- by what stands there; at no other expression is a site

@@ -13,12 +13,13 @@ ghost use Rattle.std.specs.Option.{option_copied};
 ghost use Rattle.std.specs.Prelude.{◌≡◌, ◌≤◌, ◌<◌, ◌∷◌, [], drop, map, IfErr, IfOk, Some};
 
 use crate::error::InlineError;
+use crate::sets::sets_of;
 use crate::tables::tables_by_name;
 use lk_ast::{ChangeExpr, Column, Expr, List, NoMemory, Node, SortKey, TableDef, Text, Word};
 use lk_bag::table_defs;
 use lk_bodies::{
-    Over, Walked, bound_parts, captured_at, change_uses, count_nodes, element_columns, labelled,
-    numbered, query_uses, table, walk_expr, walk_fields,
+    Over, Walked, bound_parts, captured_at, change_uses, count_nodes, element_columns, numbered,
+    query_uses, table, walk_expr, walk_fields,
 };
 use lk_ground::GroundProgram;
 use lk_index::{Index, captured_change, captured_query};
@@ -164,7 +165,7 @@ impl<'g, 'p> Inliner<'g, 'p> {
         let cond = walk_expr(&over, calls, &change.cond, &mut numbers, &mut walked)?;
         let sets = change.sets.as_slice();
         let set = walk_fields(&over, calls, sets, &mut numbers, &mut walked)?;
-        let sets = labelled(alloc, sets, set.as_slice())?;
+        let sets = sets_of(alloc, sets, set.as_slice())?;
         let labels = table_labels(alloc, self.table(&change.table.text))?;
         let parts = OrderedParts::new(walked.parts);
         Ok(InlinedChange {

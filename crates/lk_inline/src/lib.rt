@@ -7,6 +7,7 @@
 mod error;
 mod inline;
 mod law;
+mod sets;
 mod tables;
 
 pub use error::InlineError;

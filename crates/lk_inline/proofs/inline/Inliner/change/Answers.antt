@@ -10,6 +10,7 @@ use Rattle.lk_ground.specs.declared.program.GroundProgram.{GroundProgram}
 use Rattle.lk_index.specs.Free.{texts}
 use Rattle.lk_inline.proofs.Inlining.{begun, captured_changes, change_inlined, change_ordered, same_walk, same_walks}
 use Rattle.lk_inline.specs.Inlined.{table_labels}
+use Rattle.lk_inline.specs.Sets.{in_order}
 use Rattle.lk_sites.specs.SiteSeen.{shown}
 use Rattle.lk_inline.proofs.inline.Inliner.change.Goals as goal
 
@@ -55,4 +56,4 @@ returns c =
     c.new-parts.result c.in_ok-labels.labels c.in_ok-captured.captured c.in_ok-sets.sets
     c.in_ok-names.ensures cond_is sets_are c.new-parts.ensures (c.in_ok-labels.ensures ∙ ap table_labels c.table.ensures)
     (captured_changes g.program.now g.helpers site change names (texts c.as_slice-2.result.now) c.behind_first.result.now _ _ c.in_ok-captured.ensures (ap seen_uses c.as_slice.ensures ∙ c.in_ok-uses.ensures) c.behind_first.ensures (ap texts c.as_slice-2.ensures))
-    (c.in_ok-sets.ensures ∙ ap₂ (λ sets numbers. labelled (map (λ (set : PartExpr). set.label.text) sets) numbers) c.as_slice-sets.ensures c.as_slice-6.ensures)
+    (c.in_ok-sets.ensures ∙ ap₂ (λ sets numbers. in_order (labelled (map (λ (set : PartExpr). set.label.text) sets) numbers)) c.as_slice-sets.ensures c.as_slice-6.ensures)
