@@ -20,7 +20,7 @@ use lk_sql::{Change, Out};
 use std::alloc::Global;
 
 /// The SQL of an update or a deletion. `SqlTooLong` exactly where the texts of its scalars together have over 1,048,576 bytes,
-/// and `Branches` never. `NoMemory` also where parts nest over 1,024 deep.
+/// and `Branches` never. `NoMemory` also where parts nest over 4,096 deep.
 pub fn change(alloc: Global, change: &InlinedChange) -> Result<Change, NormError>
     ensures made { IfOk result (λ sql. sql ≡ change_sql change.now) }
     ensures fits { IfOk result (λ sql. change_bytes sql ≤ most_bytes) }

@@ -15,7 +15,7 @@ pub enum NormError {
     /// The text has more than 1,048,576 bytes.
     #[error("SQL that is too long")]
     SqlTooLong,
-    /// Memory ran out, or parts nest over 1,024 deep.
+    /// Memory ran out, or parts nest over 4,096 deep.
     #[error("out of memory")]
     NoMemory,
 }

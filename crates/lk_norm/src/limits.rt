@@ -7,4 +7,4 @@ pub const MOST_BRANCHES: u32 = 1_024;
 pub const MOST_BYTES: u64 = 1_048_576;
 
 /// How deep parts may stand in one another, each of which takes a piece of the stack.
-pub const ROOM: usize = 1_024;
+pub const ROOM: usize = 4_096;

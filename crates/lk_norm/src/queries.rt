@@ -30,7 +30,7 @@ pub fn branches(alloc: Global, query: &Query) -> Result<u32, NoMemory>
 }
 
 /// The SQL of a query, its normal form, if that has 1,024 branches at most and a text of 1,048,576 bytes at most. What is longer
-/// is refused before it is made. `NoMemory` also where parts nest over 1,024 deep.
+/// is refused before it is made. `NoMemory` also where parts nest over 4,096 deep.
 pub fn normalise(alloc: Global, query: &Query) -> Result<Sql, NormError>
     ensures normal { IfOk result (λ sql. sql ≡ query_sql query.now) }
     ensures short { IfOk result (λ sql. IsShort query.now) }

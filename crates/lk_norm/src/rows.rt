@@ -94,6 +94,7 @@ fn outs_of(
 
 /// The outputs of what is bound to a number.
 #[cycle(makes)]
+#[inline(never)]
 fn bound_outs(here: &Here, room: usize, n: u32, left: &mut u64) -> Result<List<Out>, Stop>
     ensures { (count : ℕ) → MakesOuts result left.new ((names_in here.now.over.now here.now.scope.now n).row count) left.old }
 {
@@ -115,6 +116,7 @@ fn bound_outs(here: &Here, room: usize, n: u32, left: &mut u64) -> Result<List<O
 
 /// The outputs of the items of a record.
 #[cycle(makes)]
+#[inline(never)]
 fn record_outs(
     here: &Here,
     room: usize,
@@ -133,6 +135,7 @@ fn record_outs(
 
 /// At each of these labels the second where the first is true, else the third.
 #[cycle(makes)]
+#[inline(never)]
 fn choice_outs(
     here: &Here,
     room: usize,
@@ -154,6 +157,7 @@ fn choice_outs(
 
 /// At each of these labels what is listed, or where nothing is, what is in the rest.
 #[cycle(makes)]
+#[inline(never)]
 fn extended_outs(
     here: &Here,
     room: usize,
@@ -173,6 +177,7 @@ fn extended_outs(
 }
 
 /// The columns of a generator.
+#[inline(never)]
 fn column_outs(
     alloc: Global,
     generator: u32,
@@ -190,6 +195,7 @@ fn column_outs(
 }
 
 /// Parameters from the first one on, one for each of these columns.
+#[inline(never)]
 fn param_outs(
     alloc: Global,
     first: u32,
@@ -209,6 +215,7 @@ fn param_outs(
 }
 
 /// One output, behind its scalar.
+#[inline(never)]
 pub fn out(alloc: Global, label: &Text, scalar: Scalar, left: &mut u64) -> Result<Out, Stop>
     ensures { MakesBy result left.new (output label.now scalar) (label_paid label.now left.old) }
 {

@@ -58,6 +58,7 @@ fn base(here: &Here, room: usize, at: u32, part: &Part, left: &mut u64) -> Resul
 /// The second base where the first is true, else the third.
 #[cycle(makes)]
 #[tactic(auto, using(crate::proofs::Budget::paid_case))]
+#[inline(never)]
 fn base_choice(
     here: &Here,
     room: usize,
@@ -78,6 +79,7 @@ fn base_choice(
 /// An operation on one base.
 #[cycle(makes)]
 #[tactic(auto, using(crate::proofs::Budget::paid_one))]
+#[inline(never)]
 fn one_base(here: &Here, room: usize, op: SqlOp, a: u32, left: &mut u64) -> Result<Scalar, Stop>
     ensures { Makes result left.new (scalars.Op op (base_in here.now.over.now a here.now.count here.now.scope.now ∷ [])) left.old }
 {
@@ -89,6 +91,7 @@ fn one_base(here: &Here, room: usize, op: SqlOp, a: u32, left: &mut u64) -> Resu
 /// An operation on two bases.
 #[cycle(makes)]
 #[tactic(auto, using(crate::proofs::Budget::paid_two))]
+#[inline(never)]
 fn two_bases(
     here: &Here,
     room: usize,
@@ -108,6 +111,7 @@ fn two_bases(
 /// Whether a list is empty.
 #[cycle(makes)]
 #[tactic(auto, using(crate::proofs::SelectTexts::paid_empty))]
+#[inline(never)]
 fn is_empty(
     here: &Here,
     room: usize,
@@ -174,6 +178,7 @@ fn cell_of(
 
 /// The second where the first is true, else the third, under a label that is among these.
 #[cycle(makes)]
+#[inline(never)]
 fn choice_cell(
     here: &Here,
     room: usize,
@@ -195,6 +200,7 @@ fn choice_cell(
 /// The second where the first is true, else the third, under a label.
 #[cycle(makes)]
 #[tactic(auto, using(crate::proofs::Budget::paid_case))]
+#[inline(never)]
 pub fn choice(
     here: &Here,
     room: usize,
@@ -215,6 +221,7 @@ pub fn choice(
 
 /// What an extended record has under a label that is among these.
 #[cycle(makes)]
+#[inline(never)]
 fn labelled_cell(
     here: &Here,
     room: usize,
@@ -275,6 +282,7 @@ pub fn extended_cell(
 /// What is under a label of what is bound to a number.
 #[cycle(makes)]
 #[tactic(auto, using(crate::proofs::Making::columns_in))]
+#[inline(never)]
 fn bound_cell(
     here: &Here,
     room: usize,
@@ -308,6 +316,7 @@ fn bound_cell(
 /// Whether two records are equal at these labels.
 #[cycle(makes)]
 #[tactic(auto, using(crate::proofs::Making::paid_equal, crate::proofs::Budget::paid_true))]
+#[inline(never)]
 fn equal_rows(
     here: &Here,
     room: usize,
@@ -328,6 +337,7 @@ fn equal_rows(
 
 /// Whether two records are equal at these labels too.
 #[cycle(makes)]
+#[inline(never)]
 fn more_equal(
     here: &Here,
     room: usize,
@@ -351,6 +361,7 @@ fn more_equal(
 /// Whether two records are equal at a label.
 #[cycle(makes)]
 #[tactic(auto, using(crate::proofs::Budget::paid_two))]
+#[inline(never)]
 fn equal_at(
     here: &Here,
     room: usize,
@@ -415,6 +426,7 @@ pub fn param(alloc: Global, number: u32, left: &mut u64) -> Result<Scalar, Stop>
 
 /// A column.
 #[tactic(auto, using(crate::proofs::Making::paid_column))]
+#[inline(never)]
 pub fn column(alloc: Global, generator: u32, label: &Text, left: &mut u64) -> Result<Scalar, Stop>
     ensures { Makes result left.new (scalars.Column generator label.now) left.old }
 {
@@ -455,6 +467,7 @@ pub fn lit(alloc: Global, literal: &Base, left: &mut u64) -> Result<Scalar, Stop
 }
 
 /// An operation on one operand.
+#[inline(never)]
 pub fn one(alloc: Global, op: SqlOp, a: Scalar) -> Result<Scalar, NoMemory>
     ensures { IfOk result (λ s. s ≡ scalars.Op op (a ∷ [])) }
 {
@@ -464,6 +477,7 @@ pub fn one(alloc: Global, op: SqlOp, a: Scalar) -> Result<Scalar, NoMemory>
 }
 
 /// An operation on two operands.
+#[inline(never)]
 pub fn two(alloc: Global, op: SqlOp, a: Scalar, b: Scalar) -> Result<Scalar, NoMemory>
     ensures { IfOk result (λ s. s ≡ scalars.Op op (a ∷ b ∷ [])) }
 {
@@ -474,6 +488,7 @@ pub fn two(alloc: Global, op: SqlOp, a: Scalar, b: Scalar) -> Result<Scalar, NoM
 }
 
 /// The second where the first is true, else the third.
+#[inline(never)]
 fn case(alloc: Global, c: Scalar, a: Scalar, b: Scalar) -> Result<Scalar, NoMemory>
     ensures { IfOk result (λ s. s ≡ scalars.Case c a b) }
 {

@@ -82,6 +82,7 @@ fn from_item(alloc: Global, var: u32, table: &Text, left: &mut u64) -> Result<Fr
 /// The condition of tests, or `None` where it is TRUE.
 #[cycle(makes)]
 #[tactic(auto, using(crate::proofs::SelectTexts::cond_both, crate::proofs::SelectTexts::cond_both_paid), unfolding(crate::specs::Walks::tests_in))]
+#[inline(never)]
 fn condition(
     over: &Over,
     room: usize,
@@ -112,6 +113,7 @@ fn condition(
 /// A test, or `None` where it is TRUE.
 #[cycle(makes)]
 #[tactic(auto, using(crate::proofs::SelectTexts::paid_not, crate::proofs::SelectTexts::cond_not, crate::proofs::SelectTexts::paid_more))]
+#[inline(never)]
 fn test(
     here: &Here,
     room: usize,
@@ -153,6 +155,7 @@ fn is_always(cond: &Scalar) -> bool
 }
 
 /// Both conditions.
+#[inline(never)]
 fn join(
     alloc: Global,
     so_far: Option<Scalar>,

@@ -53,6 +53,7 @@ fn branches(here: &Here, room: usize, at: u32, left: &mut u64) -> Result<List<Se
 }
 
 /// These selects, or one that gives no row, of these columns, where there are none.
+#[inline(never)]
 fn or_none(
     alloc: Global,
     columns: &[Column],
@@ -138,6 +139,7 @@ fn list<'s>(
 /// Adds the selects of the first list where a test is met, and those of the second where it isn't.
 #[cycle(makes)]
 #[tactic(auto, using(crate::proofs::Walking::flat_both, crate::proofs::Walking::all_both, crate::proofs::Walking::onto_both))]
+#[inline(never)]
 fn either<'s>(
     over: &Over,
     room: usize,
@@ -158,6 +160,7 @@ fn either<'s>(
 /// Adds the selects of two lists.
 #[cycle(makes)]
 #[tactic(auto, using(crate::proofs::Walking::flat_both, crate::proofs::Walking::all_both, crate::proofs::Walking::onto_both))]
+#[inline(never)]
 fn both<'s>(
     over: &Over,
     room: usize,
@@ -177,6 +180,7 @@ fn both<'s>(
 /// Adds the selects of a list for each row of another one, which is bound to a number.
 #[cycle(makes)]
 #[tactic(auto, unfolding(crate::specs::Walks::then_in))]
+#[inline(never)]
 fn each<'s>(
     over: &Over,
     room: usize,
@@ -203,6 +207,7 @@ fn each<'s>(
 /// Adds what becomes of the rows of a table with these columns.
 #[cycle(makes)]
 #[tactic(auto, using(crate::proofs::Walking::onto_nothing), unfolding(crate::specs::Walks::froms_in))]
+#[inline(never)]
 fn add_table<'s>(
     over: &Over,
     room: usize,
@@ -229,6 +234,7 @@ fn add_table<'s>(
 /// Adds the selects of a list with one test more before it.
 #[cycle(makes)]
 #[tactic(auto, unfolding(crate::specs::Walks::tests_in))]
+#[inline(never)]
 fn under<'s>(
     over: &Over,
     room: usize,
@@ -255,6 +261,7 @@ fn under<'s>(
 /// Adds what becomes of these records.
 #[cycle(makes)]
 #[tactic(auto, using(crate::proofs::Walking::all_both, crate::proofs::Walking::onto_both))]
+#[inline(never)]
 fn add_items<'s>(
     over: &Over,
     room: usize,
@@ -277,6 +284,7 @@ fn add_items<'s>(
 /// Adds what becomes of a branch with this row.
 #[cycle(makes)]
 #[tactic(auto, unfolding(crate::specs::Walks::then_in))]
+#[inline(never)]
 fn add<'s>(
     over: &Over,
     room: usize,
@@ -304,6 +312,7 @@ fn add<'s>(
 
 /// Adds the select of a branch with this row.
 #[cycle(makes)]
+#[inline(never)]
 fn add_select(
     over: &Over,
     room: usize,
