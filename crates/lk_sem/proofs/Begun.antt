@@ -1,5 +1,5 @@
 -- The events so far come first in the evaluation over their answers, and lead from the old tables to the present ones.
-use Rattle.std.proofs.Common.{◌≡◌, ℕ, List, [], ◌∷◌, ◌++◌, refl, sym, ◌∙◌, ap, subst, append-nil}
+use Rattle.std.proofs.Common.{◌≡◌, ℕ, ◌-◌, List, [], ◌∷◌, ◌++◌, refl, sym, ◌∙◌, ap, subst, append-nil}
 use Rattle.std.proofs.lemmas.List.{map-append}
 use Rattle.std.specs.Prelude.{Option, Some, None, IfSome}
 use Rattle.lk_ast.specs.Functions.{main_of}
@@ -27,7 +27,7 @@ use Rattle.lk_sem.proofs.Unread.{Kept}
 use Rattle.lk_sem.proofs.Whole.{answers_both}
 
 -- a writing has no answer
-answers_written : (log : List Event) (site : ℕ) (args : List Value) → answers_in (log ++ write_event site args ∷ []) ≡ answers_in log
+pub answers_written : (log : List Event) (site : ℕ) (args : List Value) → answers_in (log ++ write_event site args ∷ []) ≡ answers_in log
 answers_written log site args = answers_both log (write_event site args ∷ []) ∙ append-nil (answers_in log)
 
 -- an evaluation that keeps to a log begins with its events
@@ -52,6 +52,14 @@ module _ (p : Program) (first m : Machine) (o : Run → Out Value) (fuel : ℕ) 
       let here = sound.here p first m o fuel none is law next s.leads s.answered in
       let entry : Entry = record { number = here.0.steps; event = write_event site args; crossing = Within } in
       begun_by o fuel (here.0.log ++ entry ∷ []) (answers_in m.log) (m.log ++ write_event site args ∷ []) (sound.keeps_writing p first m o fuel none is law next s.leads s.answered back site args e) (answers_written m.log site args)
+      (map-append (λ (x : Entry). x.event) here.0.log (entry ∷ []) ∙ ap (λ xs. xs ++ write_event site args ∷ []) here.1.log)
+
+  -- so it is with no more fuel than was used
+  pub begun_at_last : (back : Loc) (site : ℕ) (args : List Value) → next ≡ now.Write back site args → HasBegun o (fuel - m.fuel) (m.log ++ write_event site args ∷ [])
+  begun_at_last back site args e =
+      let here = sound.here_at_last p first m o fuel none is law next s.leads s.answered in
+      let entry : Entry = record { number = here.0.steps; event = write_event site args; crossing = Within } in
+      begun_by o (fuel - m.fuel) (here.0.log ++ entry ∷ []) (answers_in m.log) (m.log ++ write_event site args ∷ []) (sound.keeps_writing_at_last p first m o fuel none is law next s.leads s.answered back site args e) (answers_written m.log site args)
       (map-append (λ (x : Entry). x.event) here.0.log (entry ∷ []) ∙ ap (λ xs. xs ++ write_event site args ∷ []) here.1.log)
 
   pub first_written : (after : Option Tables) (back : Loc) (site : ℕ) (args : List Value) → next ≡ now.Write back site args → HasChanged p site args told after → HasFirstHistory p o fuel old after

@@ -1,5 +1,5 @@
 -- Each method of the evaluator leads from one machine to another with the same still to do.
-use Rattle.std.proofs.Common.{◌≡◌, ◌≢◌, ℕ, suc, ◌+◌, ◌-◌, ◌≤◌, List, [], ◌∷◌, ◌++◌, length, refl, sym, ◌∙◌, ap, arith, append_assoc, append-nil}
+use Rattle.std.proofs.Common.{◌≡◌, ◌≢◌, ℕ, zero, suc, ◌+◌, ◌-◌, ◌<◌, List, [], ◌∷◌, ◌++◌, length, refl, sym, ◌∙◌, ap, subst, arith, append_assoc, append-nil}
 use Rattle.std.specs.Prelude.{Bool, true, false, Option, Some, None, map, reverse, slice_get}
 use Rattle.std.specs.Borrow.{Bor}
 use Rattle.std.specs.Option.{option_map}
@@ -8,11 +8,10 @@ use Rattle.std.proofs.lemmas.Option.{slice_get-map}
 use Rattle.lk_ast.specs.Layers.{layer}
 use Rattle.lk_ast.specs.declared.declaration.Program.{Program}
 use Rattle.lk_ast.specs.declared.event.Event.{Event}
-use Rattle.lk_ast.specs.declared.event.Event.TheVariants.{Print, Enter, Leave, Read, Write}
+use Rattle.lk_ast.specs.declared.event.Event.TheVariants.{Print, Enter, Leave}
 use Rattle.lk_ast.specs.declared.expression.Expr.{Expr}
 use Rattle.lk_ast.specs.declared.place.Loc.{Loc}
 use Rattle.lk_ast.specs.declared.place.Loc.TheVariants.{Client, Server, Any}
-use Rattle.lk_ast.specs.declared.place.Span.{Span}
 use Rattle.lk_ast.specs.declared.value.FunValue.{FunValue}
 use Rattle.lk_ast.specs.declared.value.Value.{Value}
 use Rattle.lk_locals.specs.Names.{Names, bind}
@@ -20,9 +19,8 @@ use Rattle.lk_evaluation.specs.Evaluation as spec
 use Rattle.lk_evaluation.specs.Evaluation.{eval, handed, perform, joined, each, client_call, used}
 use Rattle.lk_sem.specs.Frames as frames
 use Rattle.lk_sem.specs.Frames.{resumed, returned, handed_by}
-use Rattle.lk_sem.specs.Ends.{stop_of}
-use Rattle.lk_sem.specs.Machine.{bodies, frame_of, frame_rest, wound, outcome, IsQuiet, GoesQuietly, Shows, Leads}
-use Rattle.lk_evaluation.specs.Run.{Run, Out, Goes, Stops, Trapped, Spent, Stuck, Crossing, Within, Called, Returned, Function, Printer, Site, step, logs, and_then}
+use Rattle.lk_sem.specs.Machine.{bodies, frame_of, frame_rest, wound, outcome, IsQuiet, GoesQuietly, Shows, EndsEarly, Leads}
+use Rattle.lk_evaluation.specs.Run.{Run, Out, Goes, Stops, Spent, Crossing, Within, Called, Returned, Function, Printer, Site, step, logs, and_then}
 use Rattle.lk_evaluation.specs.Source.{Point, under, source, act}
 use Rattle.lk_evaluation.specs.Syntax.{parts_of, is_plain}
 use Rattle.lk_operators.specs.Values.{text, unit, list_in}
@@ -34,7 +32,6 @@ use Rattle.lk_sem.specs.declared.machine.Next.{Next}
 use Rattle.lk_sem.specs.declared.machine.Next.TheVariants as now
 use Rattle.lk_sem.specs.declared.machine.Turns.{Turns}
 use Rattle.lk_sem.specs.declared.machine.Waiting.{Waiting}
-use Rattle.lk_sem.specs.declared.run.Halt.{Halt}
 use Rattle.lk_sem.specs.declared.run.Halt.TheVariants as halt
 use Rattle.lk_evaluation.proofs.Fixpoint.{spends}
 use Rattle.lk_sem.proofs.Winding as winding
@@ -55,20 +52,24 @@ no_part p names e n is = slice_get-map (under names) (parts_of (layer e)) n ∙ 
 
 -- ---- what a machine shows
 
-shows_step : (m : Machine) (r : Run) → Shows m r → Shows m (step r)
+shows_step : (m : Machine) {less : ℕ} (r : Run) → Shows m less r → Shows m less (step r)
 shows_step m r h = record { fuel = h.fuel; log = h.log; whole = h.whole }
 
-shows_logs : (m : Machine) (r : Run) (e : Event) (c : Crossing) (log : List Event) → Shows m r → log ≡ m.log ++ e ∷ [] → Shows (record { stack = m.stack; log = log; fuel = m.fuel }) (logs e c r)
+shows_logs : (m : Machine) {less : ℕ} (r : Run) (e : Event) (c : Crossing) (log : List Event) → Shows m less r → log ≡ m.log ++ e ∷ [] → Shows (record { stack = m.stack; log = log; fuel = m.fuel }) less (logs e c r)
 shows_logs m r e c log h is =
     record { fuel = h.fuel; log = map-append (λ x. x.event) r.log (record { number = r.steps; event = e; crossing = c } ∷ []) ∙ ap (λ l. l ++ e ∷ []) h.log ∙ sym is; whole = h.whole }
 
-shows_handed : (m : Machine) (plain : Bool) (r : Run) → Shows m r → Shows m (handed plain r)
+shows_handed : (m : Machine) {less : ℕ} (plain : Bool) (r : Run) → Shows m less r → Shows m less (handed plain r)
 shows_handed m true r h = h
 shows_handed m false r h = shows_step m r h
 
-shows_handed_by : (p : Program) (m : Machine) (o : Option Point) (r : Run) → Shows m r → Shows m (handed_by (source p) o r)
+shows_handed_by : (p : Program) (m : Machine) {less : ℕ} (o : Option Point) (r : Run) → Shows m less r → Shows m less (handed_by (source p) o r)
 shows_handed_by p m None r h = h
 shows_handed_by p m (Some e) r h = shows_handed m ((source p).plain e) r h
+
+-- a run that shows the machine has no less than nothing
+pub too_early : (m : Machine) (less : ℕ) (r : Run) (log : List Event) (out : Out Value) → m.fuel < less → Shows m less r → EndsEarly log out
+too_early m less r log out much h = let same = h.fuel in absurd (omega (arith, same, much))
 
 -- a value that is handed on leaves the answers
 same_handed : (plain : Bool) (r : Run) → (handed plain r).answers ≡ r.answers
@@ -97,39 +98,69 @@ quiet_then one two three a b = record { more = a.more ++ b.more; log = b.log ∙
 -- ---- one method each
 
 -- another way to say what is to do
-pub leads_as : (p : Program) (old new : Machine) (next : Next) (o j : Run → Out Value) → ((r : Run) → Shows old r → j r ≡ o r) → Leads p old o new next → Leads p old j new next
-leads_as p old new next o j same l = record { runs = λ r h. let a = l.runs r h in (a.0, a.1, a.2, ap (wound p old.stack) (same r h) ∙ a.3); quiet = l.quiet; fuel = l.fuel }
+pub leads_as : (p : Program) (old new : Machine) (next : Next) (o j : Run → Out Value) → ((less : ℕ) (r : Run) → Shows old less r → j r ≡ o r) → Leads p old o new next → Leads p old j new next
+leads_as p old new next o j same l = record {
+  runs = λ less r few h. let a = l.runs less r few h in (a.0, a.1, a.2, ap (wound p old.stack) (same less r h) ∙ a.3);
+  early = λ less r much h. subst (EndsEarly new.log) (ap (wound p old.stack) (sym (same less r h))) (l.early less r much h);
+  quiet = l.quiet;
+  fuel = l.fuel;
+}
 
 -- what comes before changes neither fuel nor log
-leads_after : (p : Program) (old new : Machine) (next : Next) (o j : Run → Out Value) (f : Run → Run) → ((r : Run) → Shows old r → Shows old (f r)) → ((r : Run) → (f r).answers ≡ r.answers) → ((r : Run) → j r ≡ o (f r)) → Leads p old o new next → Leads p old j new next
+leads_after : (p : Program) (old new : Machine) (next : Next) (o j : Run → Out Value) (f : Run → Run) → ((less : ℕ) (r : Run) → Shows old less r → Shows old less (f r)) → ((r : Run) → (f r).answers ≡ r.answers) → ((r : Run) → j r ≡ o (f r)) → Leads p old o new next → Leads p old j new next
 leads_after p old new next o j f keeps same is l = record {
-  runs = λ r h. let a = l.runs (f r) (keeps r h) in (a.0, a.1, a.2 ∙ same r, ap (wound p old.stack) (is r) ∙ a.3);
+  runs = λ less r few h. let a = l.runs less (f r) few (keeps less r h) in (a.0, a.1, a.2 ∙ same r, ap (wound p old.stack) (is r) ∙ a.3);
+  early = λ less r much h. subst (EndsEarly new.log) (ap (wound p old.stack) (sym (is r))) (l.early less (f r) much (keeps less r h));
   quiet = l.quiet;
   fuel = l.fuel;
 }
 
 -- there is no fuel
 pub leads_spent : (p : Program) (m : Machine) (e : Point) (place : Loc) → m.fuel ≡ 0 → Leads p m (eval (source p) e place) m (now.Stop halt.Spent)
-leads_spent p m e place none = record { runs = λ r h. (r, h, refl, ap (wound p m.stack) (spends (source p) e place r (h.fuel ∙ none))); quiet = quiet_itself m.log; fuel = omega arith }
+leads_spent p m e place none = record {
+  runs = λ less r few h. let same = h.fuel in (r, h, refl, ap (wound p m.stack) (spends (source p) e place r (omega (arith, same, none))));
+  early = λ less r much h. too_early m less r _ _ much h;
+  quiet = quiet_itself m.log;
+  fuel = omega arith;
+}
 
 -- a node is entered
 pub leads_enter : (p : Program) (old new : Machine) (next : Next) (e : Point) (place : Loc) (done : List Value) → old.fuel ≢ 0 → done ≡ []
     → Leads p (record { stack = old.stack; log = old.log; fuel = old.fuel - 1 }) (resumed (source p) e done place) new next → Leads p old (eval (source p) e place) new next
 leads_enter p old new next e place done some none l = record {
-  runs = λ r h.
-      let is : r.fuel ≡ suc (old.fuel - 1) = omega (arith, h.fuel, some) in
-      let s : Run = record r { fuel = old.fuel - 1; steps = r.steps + 1 } in
-      let a = l.runs s (record { fuel = refl; log = h.log; whole = h.whole }) in
-      (a.0, a.1, a.2, ap (wound p old.stack) (winding.enters (source p) e place r (old.fuel - 1) is ∙ ap (λ d. resumed (source p) e d place s) (sym none)) ∙ a.3);
+  runs = λ less r few h.
+      let same = h.fuel in
+      let below = l.fuel in
+      let is : r.fuel ≡ suc (r.fuel - 1) = omega (arith, same, few, below, some) in
+      let s : Run = record r { fuel = r.fuel - 1; steps = r.steps + 1 } in
+      let a = l.runs less s few (record { fuel = omega (arith, same, few, below, some); log = h.log; whole = h.whole }) in
+      (a.0, a.1, a.2, ap (wound p old.stack) (entered r (r.fuel - 1) is) ∙ a.3);
+  early = λ less r much h. by_fuel less r much h r.fuel refl;
   quiet = l.quiet;
   fuel = let below = l.fuel in omega (arith, below);
 }
+  where
+    -- the node is entered where there is fuel
+    entered : (r : Run) (n : ℕ) → r.fuel ≡ suc n → eval (source p) e place r ≡ resumed (source p) e done place (record r { fuel = n; steps = r.steps + 1 })
+    entered r n is = winding.enters (source p) e place r n is ∙ ap (λ d. resumed (source p) e d place (record r { fuel = n; steps = r.steps + 1 })) (sym none)
+
+    by_fuel : (less : ℕ) (r : Run) → new.fuel < less → Shows old less r → (n : ℕ) → r.fuel ≡ n → EndsEarly new.log (wound p old.stack (eval (source p) e place r))
+    by_fuel less r much h zero is = record {
+      last = r;
+      spent = ap (wound p old.stack) (spends (source p) e place r is) ∙ winding.wound-stops (source p) (map frame_of old.stack) Spent r;
+      more = l.quiet.more;
+      is = l.quiet.log ∙ ap (λ log. log ++ l.quiet.more) (sym h.log);
+    }
+    by_fuel less r much h (suc n) is =
+        let same = h.fuel in
+        let s : Run = record r { fuel = n; steps = r.steps + 1 } in
+        subst (EndsEarly new.log) (ap (wound p old.stack) (sym (entered r n is))) (l.early less s much (record { fuel = omega (arith, same, is, some); log = h.log; whole = h.whole }))
 
 -- all parts have their values
 pub leads_act : (p : Program) (old new : Machine) (next : Next) (names : Names) (e : Expr) (place : Loc) (done : List Value) → slice_get (parts_of (layer e)) (length done) ≡ None
     → Leads p old (perform (source p) (eval (source p)) place (act p e.span (layer e) names done)) new next → Leads p old (resumed (source p) (under names e) done place) new next
 leads_act p old new next names e place done past l =
-    leads_as p old new next _ _ (λ r h. winding.acts (source p) (under names e) done place r (no_part p names e (length done) past)) l
+    leads_as p old new next _ _ (λ less r h. winding.acts (source p) (under names e) done place r (no_part p names e (length done) past)) l
 
 -- a part is entered, and the node waits
 pub leads_wait : (p : Program) (old : Machine) (stack : List Frame) (w : Waiting) (e : Bor Expr) (scope : Names) (o : Option Expr) (n : ℕ)
@@ -138,7 +169,8 @@ pub leads_wait : (p : Program) (old : Machine) (stack : List Frame) (w : Waiting
 leads_wait p old stack w e scope o n part len some pushed same = record {
   quiet = quiet_itself old.log;
   fuel = omega arith;
-  runs = λ r h. (
+  early = λ less r much h. too_early old less r _ _ much h;
+  runs = λ less r few h. (
     r,
     record { fuel = h.fuel; log = h.log; whole = h.whole },
     refl,
@@ -162,7 +194,8 @@ pub leads_across : (p : Program) (old : Machine) (stack : List Frame) (log : Lis
 leads_across p old stack log place mark f args body scope here there logged pushed = record {
   quiet = quiet_event old.log log Enter tt logged;
   fuel = omega arith;
-  runs = λ r h.
+  early = λ less r much h. too_early old less r _ _ much h;
+  runs = λ less r few h.
       let s : Run = logs Enter (Called (Function f) args) (step r) in
       let shown = shows_logs old (step r) Enter (Called (Function f) args) log (shows_step old r h) logged in
       let e : Point = under scope body.now in
@@ -186,7 +219,8 @@ pub leads_home : (p : Program) (old : Machine) (stack : List Frame) (log : List 
 leads_home p old stack log place mark f args body scope here there logged pushed = record {
   quiet = quiet_event old.log log Leave tt logged;
   fuel = omega arith;
-  runs = λ r h.
+  early = λ less r much h. too_early old less r _ _ much h;
+  runs = λ less r few h.
       let s : Run = logs Leave (Called (Function f) args) (step r) in
       let shown = shows_logs old (step r) Leave (Called (Function f) args) log (shows_step old r h) logged in
       let e : Point = under scope body.now in
@@ -208,7 +242,8 @@ leads_home p old stack log place mark f args body scope here there logged pushed
 pub leads_back : (p : Program) (old : Machine) (log : List Event) (place : Loc) (e : Event) (v : Value) → IsQuiet e → ((r : Run) → returned place v r ≡ Goes v (logs e (Returned v) (step r))) → log ≡ old.log ++ e ∷ []
     → Leads p old (returned place v) (record { stack = old.stack; log = log; fuel = old.fuel }) (now.Give v)
 leads_back p old log place e v calm is logged = record {
-  runs = λ r h. (logs e (Returned v) (step r), shows_logs old (step r) e (Returned v) log (shows_step old r h) logged, refl, ap (wound p old.stack) (is r));
+  runs = λ less r few h. (logs e (Returned v) (step r), shows_logs old (step r) e (Returned v) log (shows_step old r h) logged, refl, ap (wound p old.stack) (is r));
+  early = λ less r much h. too_early old less r _ _ much h;
   quiet = quiet_event old.log log e calm logged;
   fuel = omega arith;
 }
@@ -219,7 +254,7 @@ pub leads_given : (p : Program) (old new : Machine) (next : Next) (w : Waiting) 
 leads_given p old new next w done v is l =
     let e : Point = under w.scope w.expr.now in
     let q : Option Point = slice_get ((source p).parts e) (length w.done) in
-    leads_after p old new next (resumed (source p) e done w.place) _ (handed_by (source p) q) (λ r h. shows_handed_by p old q r h) (λ r. same_handed_by p q r)
+    leads_after p old new next (resumed (source p) e done w.place) _ (handed_by (source p) q) (λ less r h. shows_handed_by p old q r h) (λ r. same_handed_by p q r)
     (λ r. ap (λ d. resumed (source p) e d w.place (handed_by (source p) q r)) (sym is)) l
 
 -- the body of a `for` is entered for its next element
@@ -229,7 +264,8 @@ pub leads_turn : (p : Program) (old : Machine) (stack : List Frame) (t : Turns) 
 leads_turn p old stack t v left scope last bound pushed = record {
   quiet = quiet_itself old.log;
   fuel = omega arith;
-  runs = λ r h. (
+  early = λ less r much h. too_early old less r _ _ much h;
+  runs = λ less r few h. (
     r,
     record { fuel = h.fuel; log = h.log; whole = h.whole },
     refl,
@@ -255,7 +291,7 @@ pub leads_taken : (p : Program) (old new : Machine) (next : Next) (t : Turns) (v
 leads_taken p old new next t v values made is all l =
     let listed : list_in v ≡ Some values = sym is in
     let plain : Bool = is_plain (layer t.body.now) in
-    leads_after p old new next (each (source p) (eval (source p)) t.at (bodies t) t.place made) _ (handed plain) (λ r h. shows_handed old plain r h) (λ r. same_handed plain r)
+    leads_after p old new next (each (source p) (eval (source p)) t.at (bodies t) t.place made) _ (handed plain) (λ less r h. shows_handed old plain r h) (λ r. same_handed plain r)
     (λ r. ap (λ o. joined t.at t.made o (each (source p) (eval (source p)) t.at (bodies t) t.place) (handed plain r)) listed
     ∙ ap (λ a. each (source p) (eval (source p)) t.at (bodies t) t.place a (handed plain r)) (sym all))
     l
@@ -267,7 +303,8 @@ leads_no_list p m t v none =
     record {
       quiet = quiet_itself m.log;
       fuel = omega arith;
-      runs = λ r h. (
+      early = λ less r much h. too_early m less r _ _ much h;
+      runs = λ less r few h. (
         handed plain r,
         shows_handed m plain r h,
         same_handed plain r,
@@ -281,7 +318,8 @@ pub leads_print : (p : Program) (old : Machine) (log : List Event) (place : Loc)
 leads_print p old log place bytes v here logged is = record {
   quiet = quiet_event old.log log (Print bytes) tt logged;
   fuel = omega arith;
-  runs = λ r h. (logs (Print bytes) Within r, shows_logs old r (Print bytes) Within log h logged, refl, ap (wound p old.stack) (go place here r ∙ ap (λ u. Goes u (logs (Print bytes) Within r)) (sym is)));
+  early = λ less r much h. too_early old less r _ _ much h;
+  runs = λ less r few h. (logs (Print bytes) Within r, shows_logs old r (Print bytes) Within log h logged, refl, ap (wound p old.stack) (go place here r ∙ ap (λ u. Goes u (logs (Print bytes) Within r)) (sym is)));
 }
   where
     go : (place : Loc) → place ≢ Server → (r : Run) → perform (source p) (eval (source p)) place (spec.Uses Client (spec.Printing bytes)) r ≡ Goes unit (logs (Print bytes) Within r)
@@ -295,7 +333,8 @@ pub leads_print_across : (p : Program) (old : Machine) (one two three : List Eve
 leads_print_across p old one two three place bytes v there a b c is = record {
   quiet = quiet_then old.log two three (quiet_then old.log one two (quiet_event old.log one Leave tt a) (quiet_event one two (Print bytes) tt b)) (quiet_event two three Enter tt c);
   fuel = omega arith;
-  runs = λ r h.
+  early = λ less r much h. too_early old less r _ _ much h;
+  runs = λ less r few h.
       let called : Crossing = Called Printer (text bytes ∷ []) in
       let r1 : Run = logs Leave called (step r) in
       let r2 : Run = logs (Print bytes) Within r1 in
@@ -323,7 +362,12 @@ goes_on (Stops t s) = refl
 -- tables are read at the server
 pub leads_read : (p : Program) (m : Machine) (place : Loc) (site : ℕ) (args : List Value) → place ≢ Client
     → Leads p m (perform (source p) (eval (source p)) place (spec.Uses Server (spec.Reading site args))) m (now.Read Any site args)
-leads_read p m place site args there = record { runs = λ r h. (r, h, refl, ap (wound p m.stack) (go place there r)); quiet = quiet_itself m.log; fuel = omega arith }
+leads_read p m place site args there = record {
+  runs = λ less r few h. (r, h, refl, ap (wound p m.stack) (go place there r));
+  early = λ less r much h. too_early m less r _ _ much h;
+  quiet = quiet_itself m.log;
+  fuel = omega arith;
+}
   where
     go : (place : Loc) → place ≢ Client → (r : Run) → perform (source p) (eval (source p)) place (spec.Uses Server (spec.Reading site args)) r ≡ outcome p (now.Read Any site args) r
     go Server ne r = goes_on (used (spec.Reading site args) r)
@@ -333,7 +377,12 @@ leads_read p m place site args there = record { runs = λ r h. (r, h, refl, ap (
 -- a table is written at the server
 pub leads_write : (p : Program) (m : Machine) (place : Loc) (site : ℕ) (args : List Value) → place ≢ Client
     → Leads p m (perform (source p) (eval (source p)) place (spec.Uses Server (spec.Writing site args))) m (now.Write Any site args)
-leads_write p m place site args there = record { runs = λ r h. (r, h, refl, ap (wound p m.stack) (go place there r)); quiet = quiet_itself m.log; fuel = omega arith }
+leads_write p m place site args there = record {
+  runs = λ less r few h. (r, h, refl, ap (wound p m.stack) (go place there r));
+  early = λ less r much h. too_early m less r _ _ much h;
+  quiet = quiet_itself m.log;
+  fuel = omega arith;
+}
   where
     go : (place : Loc) → place ≢ Client → (r : Run) → perform (source p) (eval (source p)) place (spec.Uses Server (spec.Writing site args)) r ≡ outcome p (now.Write Any site args) r
     go Server ne r = refl
@@ -346,7 +395,8 @@ pub leads_read_across : (p : Program) (old : Machine) (log : List Event) (place 
 leads_read_across p old log place site args here logged = record {
   quiet = quiet_event old.log log Enter tt logged;
   fuel = omega arith;
-  runs = λ r h.
+  early = λ less r much h. too_early old less r _ _ much h;
+  runs = λ less r few h.
       let called : Crossing = Called (Site site) args in (
         logs Enter called (step r),
         shows_logs old (step r) Enter called log (shows_step old r h) logged,
@@ -361,7 +411,8 @@ pub leads_write_across : (p : Program) (old : Machine) (log : List Event) (place
 leads_write_across p old log place site args here logged = record {
   quiet = quiet_event old.log log Enter tt logged;
   fuel = omega arith;
-  runs = λ r h.
+  early = λ less r much h. too_early old less r _ _ much h;
+  runs = λ less r few h.
       let called : Crossing = Called (Site site) args in (
         logs Enter called (step r),
         shows_logs old (step r) Enter called log (shows_step old r h) logged,

@@ -7,6 +7,7 @@ pub mod Legality
 pub mod MainParams
 pub mod PlacesFound
 pub mod Reading
+pub mod RefusedSamples
 pub mod RowsBack
 pub mod SameBag
 pub mod Scanned

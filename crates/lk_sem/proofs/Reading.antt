@@ -17,11 +17,11 @@ use Rattle.lk_bag.specs.Blocks.{block_at}
 use Rattle.lk_bag.specs.Legal.{AreAllCaptured, AreSame, AreSorted, bag, keys_at, read, reads_tables}
 use Rattle.lk_names.specs.Programs.{IsBound}
 use Rattle.lk_sound.proofs.Names.{AreDistinct, IsAmong}
-use Rattle.lk_sound.specs.Tables.{AreTables, IsAnswered, IsReading}
+use Rattle.lk_sound.specs.Tables.{AreTables, IsReading}
 use Rattle.lk_types.proofs.Parts.{same_some}
 use Rattle.lk_types.specs.Each.{Each}
 use Rattle.lk_types.specs.Rows.{Label}
-use Rattle.lk_sem.specs.Histories.{HasFollowed, read_event}
+use Rattle.lk_sem.specs.Histories.{HasAnswer, HasFollowed, read_event}
 use Rattle.lk_sem.specs.Scans.{AreScanned}
 use Rattle.lk_sem.proofs.SameBag.{same_bag}
 use Rattle.lk_sem.proofs.TableNames.{def_name, tables_apart}
@@ -89,8 +89,12 @@ module _ (p : Program) (bound : IsBound p) (told : Option Tables) (site : ℕ) (
   pub gives_rows : (rows : List Row) × (bag p (rows_of ts) reading.block args ≡ map row_value rows)
   gives_rows = reading.rows (rows_of ts) listed
 
-  pub answered_by : (block : Expr) → block_at p site ≡ Some block → (rows : List Row) → IsPermutation (bag p (rows_of ts) block args) (map row_value rows) → IsAnswered p (read_event site args rows)
-  answered_by block found rows same = (block, found, rows_of ts, listed, same)
+  pub answered_by : (block : Expr) → block_at p site ≡ Some block → (rows : List Row) → IsPermutation (bag p (rows_of ts) block args) (map row_value rows) → AreSorted (keys_at (layer block)) rows → HasAnswer p (read_event site args rows)
+  answered_by block found rows same sorted =
+      let is : reading.block ≡ block = same_block p site args reading block found in
+      let reads : reads_tables (layer block) ≡ true = subst (λ b. reads_tables (layer b) ≡ true) is reading.reads in
+      let captured : AreAllCaptured block args = subst (λ b. AreAllCaptured b args) is reading.captured in
+      (block, found, reads, captured, rows_of ts, listed, (same, sorted))
 
   -- what is told
   follows_told : (block : Expr) → block_at p site ≡ Some block → (rows : List Row) → IsPermutation (bag p (rows_of ts) block args) (map row_value rows) → AreSorted (keys_at (layer block)) rows

@@ -1,5 +1,5 @@
 -- What the soundness of a session says at each state of the machine that evaluates it.
-use Rattle.std.proofs.Common.{◌≡◌, ℕ, ◌+◌, false, List, [], ◌∷◌, ◌++◌, map, refl, sym, ◌∙◌, ap, subst, append-nil}
+use Rattle.std.proofs.Common.{◌≡◌, ℕ, ◌+◌, ◌-◌, false, List, [], ◌∷◌, ◌++◌, map, refl, sym, ◌∙◌, ap, subst, arith, append-nil}
 use Rattle.std.specs.Prelude.{Some}
 use Rattle.lk_ast.specs.Functions.{main_of}
 use Rattle.lk_ast.specs.Plain.{holds_function}
@@ -28,7 +28,7 @@ use Rattle.lk_types.specs.Each.{Each}
 use Rattle.lk_types.specs.Rows.{EffectSet}
 use Rattle.lk_types.specs.declared.ground.Ground.{Ground}
 use Rattle.lk_sem.specs.Frames.{returned}
-use Rattle.lk_sem.specs.Histories.{write_event}
+use Rattle.lk_sem.specs.Histories.{HasAnswer, write_event}
 use Rattle.lk_sem.specs.Machine.{LeadsWhole, Shows, frame_of, outcome, wound}
 use Rattle.lk_sem.specs.SourceRuns.{IsPlainEvent}
 use Rattle.lk_sem.specs.Standing.{IsSound}
@@ -69,6 +69,18 @@ unread_answered p (entry ∷ log) all = (go entry.event all.0, unread_answered p
     go (Read e) h = absurd h
     go (Write e) h = tt
 
+-- what was answered so was answered by its bag, sorted or not
+by_bag : (p : Program) (e : Event) → HasAnswer p e → IsAnswered p e
+by_bag p (Print bytes) h = tt
+by_bag p Enter h = tt
+by_bag p Leave h = tt
+by_bag p (Write e) h = tt
+by_bag p (Read e) h = (h.0, h.1, h.4, h.5, h.6.0)
+
+all_by_bag : (p : Program) (events : List Event) → Each (HasAnswer p) events → Each (IsAnswered p) events
+all_by_bag p [] all = tt
+all_by_bag p (e ∷ events) all = (by_bag p e all.0, all_by_bag p events all.1)
+
 -- ---- what is shown
 
 plain_args : (p : Program) (site : ℕ) (args : List Value) → IsWriting p site args → ArePlain args
@@ -88,8 +100,8 @@ plain_events p i effects [] all = tt
 plain_events p i effects (e ∷ events) all = (plain_event p i effects e all.0, plain_events p i effects events all.1)
 
 -- a run without events
-pub shows_start : (m : Machine) (fuel : ℕ) (answers : List (List Row)) → m.log ≡ [] → m.fuel ≡ fuel → Shows m (start fuel answers)
-shows_start m fuel answers none is = record { fuel = sym is; log = sym none; whole = refl }
+pub shows_start : (m : Machine) (less fuel : ℕ) (answers : List (List Row)) → m.log ≡ [] → fuel + less ≡ m.fuel → Shows m less (start fuel answers)
+shows_start m less fuel answers none is = record { fuel = is; log = sym none; whole = refl }
 
 all_allowed : (p : Program) (i : Instances) (effects : EffectSet) (fuel : ℕ) (answers : List (List Row)) (out : Out Value) → IsOutcome p i effects (λ v. holds_function v ≡ false) (start fuel answers) out → Each (λ (entry : Entry). Allows p i effects entry.event) (run_of out).log
 all_allowed p i effects fuel answers (Goes v s) h = subst (Each (λ (entry : Entry). Allows p i effects entry.event)) (sym h.1.log) h.1.allowed
@@ -98,13 +110,22 @@ all_allowed p i effects fuel answers (Stops stop s) h = subst (Each (λ (entry :
 -- ---- states
 
 module _ (p : Program) (first m : Machine) (o : Run → Out Value) (fuel : ℕ) (none : first.log ≡ []) (is : first.fuel ≡ fuel) (sound : IsSound p o fuel) (next : Next) (g : LeadsWhole p first o m next)
-    (answered : Each (IsAnswered p) m.log) where
+    (answered : Each (HasAnswer p) m.log) where
   -- the evaluation over the answers so far
   abbrev whole : Out Value
   whole = o (start fuel (answers_in m.log))
 
-  pub here : (s : Run) × Shows m s × (s.answers ≡ []) × (whole ≡ wound p m.stack (outcome p next s))
-  here = g.runs (start fuel (answers_in m.log)) [] (shows_start first fuel (answers_in m.log) none is) (sym (append-nil (answers_in m.log)))
+  pub here : (s : Run) × Shows m 0 s × (s.answers ≡ []) × (whole ≡ wound p m.stack (outcome p next s))
+  here = g.runs 0 (start fuel (answers_in m.log)) [] (omega arith) (shows_start first 0 fuel (answers_in m.log) none (omega (arith, is))) (sym (append-nil (answers_in m.log)))
+
+  -- the same with no more fuel than was used
+  abbrev used_up : Out Value
+  used_up = o (start (fuel - m.fuel) (answers_in m.log))
+
+  pub here_at_last : (s : Run) × Shows m m.fuel s × (s.answers ≡ []) × (used_up ≡ wound p m.stack (outcome p next s))
+  here_at_last =
+      let below = g.fuel in
+      g.runs m.fuel (start (fuel - m.fuel) (answers_in m.log)) [] (omega arith) (shows_start first m.fuel (fuel - m.fuel) (answers_in m.log) none (omega (arith, below, is))) (sym (append-nil (answers_in m.log)))
 
   -- its readings are answered, where it keeps to a log that is
   answered_with : (log : List Entry) → Each (IsAnswered p) (events_of log) → Kept log (run_of whole) → AreAnswered p whole
@@ -114,7 +135,7 @@ module _ (p : Program) (first m : Machine) (o : Run → Out Value) (fuel : ℕ) 
   keeps = subst (λ (x : Out Value). Kept here.0.log (run_of x)) (sym here.3) (state_keeps here.0.log p m.stack next here.0 (kept_itself here.0.log here.0 here.1.whole here.2 refl)).kept
 
   outcome_here : IsOutcome p sound.instances sound.effects (λ v. holds_function v ≡ false) (start fuel (answers_in m.log)) whole
-  outcome_here = sound.outcome (answers_in m.log) (answered_with here.0.log (subst (Each (IsAnswered p)) (sym here.1.log) answered) keeps)
+  outcome_here = sound.outcome (answers_in m.log) (answered_with here.0.log (subst (Each (IsAnswered p)) (sym here.1.log) (all_by_bag p m.log answered)) keeps)
 
   allowed : Each (λ (entry : Entry). Allows p sound.instances sound.effects entry.event) (run_of whole).log
   allowed = all_allowed p sound.instances sound.effects fuel (answers_in m.log) whole outcome_here
@@ -155,6 +176,12 @@ module _ (p : Program) (first m : Machine) (o : Run → Out Value) (fuel : ℕ) 
       let s : Run = here.0 in
       let t : Run = with_writing site args in
       subst (λ (x : Out Value). Kept t.log (run_of x)) (sym (here.3 ∙ ap (λ n. wound p m.stack (outcome p n s)) e)) (back_keeps t.log p m.stack back unit t (kept_itself t.log t here.1.whole here.2 refl)).kept
+
+  pub keeps_writing_at_last : (back : Loc) (site : ℕ) (args : List Value) → next ≡ now.Write back site args → Kept (logs (write_event site args) Within here_at_last.0).log (run_of used_up)
+  keeps_writing_at_last back site args e =
+      let s : Run = here_at_last.0 in
+      let t : Run = logs (write_event site args) Within s in
+      subst (λ (x : Out Value). Kept t.log (run_of x)) (sym (here_at_last.3 ∙ ap (λ n. wound p m.stack (outcome p n s)) e)) (back_keeps t.log p m.stack back unit t (kept_itself t.log t here_at_last.1.whole here_at_last.2 refl)).kept
 
   -- what it is about to write is a writing of the program
   pub writing_here : (back : Loc) (site : ℕ) (args : List Value) → next ≡ now.Write back site args → IsWriting p site args

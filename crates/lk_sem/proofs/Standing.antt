@@ -16,11 +16,10 @@ use Rattle.lk_evaluation.specs.Source.{source, under}
 use Rattle.lk_locals.specs.Names.{Names}
 use Rattle.lk_operators.specs.Values.{unit}
 use Rattle.lk_ast.specs.Rows.{rows_value}
-use Rattle.lk_sound.specs.Tables.{IsAnswered}
 use Rattle.lk_types.proofs.Members.{each_both}
 use Rattle.lk_types.specs.Each.{Each}
 use Rattle.lk_sem.specs.Frames.{returned}
-use Rattle.lk_sem.specs.Histories.{AreFit, HasFollowed, HasPast, KeepsOthers, read_event, write_event}
+use Rattle.lk_sem.specs.Histories.{AreFit, HasAnswer, HasFollowed, HasPast, KeepsOthers, read_event, write_event}
 use Rattle.lk_sem.specs.Machine.{GoesQuietly, IsQuiet, Leads, LeadsWhole, after_read, after_write, frame_rest, outcome}
 use Rattle.lk_sem.specs.Standing.{Stands}
 use Rattle.lk_sem.specs.Writings.{HasChanged}
@@ -31,19 +30,19 @@ use Rattle.lk_sem.specs.declared.machine.Next.TheVariants as now
 use Rattle.lk_sem.proofs.Legality.{no_past, past_quietly, past_followed}
 use Rattle.lk_sem.proofs.Whole as whole
 
-quiet_answered : (p : Program) (more : List Event) → Each IsQuiet more → Each (IsAnswered p) more
+quiet_answered : (p : Program) (more : List Event) → Each IsQuiet more → Each (HasAnswer p) more
 quiet_answered p [] calm = tt
 quiet_answered p (e ∷ more) calm = (go e calm.0, quiet_answered p more calm.1)
   where
-    go : (e : Event) → IsQuiet e → IsAnswered p e
+    go : (e : Event) → IsQuiet e → HasAnswer p e
     go (event.Print bytes) h = tt
     go event.Enter h = tt
     go event.Leave h = tt
     go (event.Read r) h = absurd h
     go (event.Write w) h = absurd h
 
-answered_quietly : (p : Program) (before after : List Event) → Each (IsAnswered p) before → GoesQuietly before after → Each (IsAnswered p) after
-answered_quietly p before after all q = subst (Each (IsAnswered p)) (sym q.log) (each_both (IsAnswered p) before q.more all (quiet_answered p q.more q.quiet))
+answered_quietly : (p : Program) (before after : List Event) → Each (HasAnswer p) before → GoesQuietly before after → Each (HasAnswer p) after
+answered_quietly p before after all q = subst (Each (HasAnswer p)) (sym q.log) (each_both (HasAnswer p) before q.more all (quiet_answered p q.more q.quiet))
 
 -- where the tables are told after a writing, what it makes of them
 followed_by : (p : Program) (site : ℕ) (args : List Value) (old new : Option Tables) → HasChanged p site args old new → HasFollowed p old new (write_event site args)
@@ -90,11 +89,11 @@ module _ (p : Program) (first : Machine) (o : Run → Out Value) (old told : Opt
   stands_give m new last next f v stack is popped s l = stands_quietly m new last next (whole.goes_give p first o m new last next f v stack is popped s.leads l) l.quiet s
 
   pub stands_read : (m new : Machine) (last next : Next) (back : Loc) (site : ℕ) (args : List Value) (rows : List Row) → last ≡ now.Read back site args → Stands p first o old told m last
-      → IsAnswered p (read_event site args rows) → HasFollowed p told told (read_event site args rows)
+      → HasAnswer p (read_event site args rows) → HasFollowed p told told (read_event site args rows)
       → Leads p (after_read site args rows m) (returned back (rows_value rows)) new next → Stands p first o old told new next
   stands_read m new last next back site args rows is s answer followed l = record {
     leads = whole.goes_read p first o m new last next back site args rows is s.leads l;
-    answered = answered_quietly p (m.log ++ read_event site args rows ∷ []) new.log (each_both (IsAnswered p) m.log (read_event site args rows ∷ []) s.answered (answer, tt)) l.quiet;
+    answered = answered_quietly p (m.log ++ read_event site args rows ∷ []) new.log (each_both (HasAnswer p) m.log (read_event site args rows ∷ []) s.answered (answer, tt)) l.quiet;
     past = past_quietly p old told (m.log ++ read_event site args rows ∷ []) new.log (past_followed p old told told m.log (read_event site args rows) s.past followed) l.quiet;
     fit = s.fit;
     others = s.others;
@@ -104,7 +103,7 @@ module _ (p : Program) (first : Machine) (o : Run → Out Value) (old told : Opt
       → HasChanged p site args told after → Leads p (after_write site args m) (returned back unit) new next → Stands p first o old after new next
   stands_write after m new last next back site args is s changed l = record {
     leads = whole.goes_write p first o m new last next back site args is s.leads l;
-    answered = answered_quietly p (m.log ++ write_event site args ∷ []) new.log (each_both (IsAnswered p) m.log (write_event site args ∷ []) s.answered (tt, tt)) l.quiet;
+    answered = answered_quietly p (m.log ++ write_event site args ∷ []) new.log (each_both (HasAnswer p) m.log (write_event site args ∷ []) s.answered (tt, tt)) l.quiet;
     past = past_quietly p old after (m.log ++ write_event site args ∷ []) new.log (past_written p old told after site args m.log s.past changed) l.quiet;
     fit = fit_by p site args told after changed s.fit;
     others = kept_on p site args old told after s.others changed;
@@ -114,7 +113,7 @@ module _ (p : Program) (first : Machine) (o : Run → Out Value) (old told : Opt
 pub stands_first : (p : Program) (first : Machine) (next : Next) (told : Option Tables) → first.stack ≡ [] → first.log ≡ [] → AreFit p told → Stands p first (outcome p next) told told first next
 stands_first p first next told empty none fit = record {
   leads = whole.goes_first p first (outcome p next) next empty none;
-  answered = subst (Each (IsAnswered p)) (sym none) tt;
+  answered = subst (Each (HasAnswer p)) (sym none) tt;
   past = subst (HasPast p told told) (sym none) (no_past p told);
   fit = fit;
   others = keeps_itself p told;

@@ -1,12 +1,15 @@
 -- What an event, and the events so far, make of tables.
-use Rattle.std.specs.Prelude.{◌≡◌, ℕ, List, ◌∷◌, ◌++◌, Option, None, IfSome, IsSomeAnd}
+use Rattle.std.specs.Prelude.{◌≡◌, ℕ, true, List, ◌∷◌, ◌++◌, Option, Some, None, IfSome, IsSomeAnd}
+use Rattle.lk_ast.specs.Layers.{layer}
 use Rattle.lk_ast.specs.Tables.{Tables}
 use Rattle.lk_ast.specs.declared.declaration.Program.{Program}
 use Rattle.lk_ast.specs.declared.event.Event.{Event}
-use Rattle.lk_ast.specs.declared.event.Event.TheVariants.{Read, Write}
+use Rattle.lk_ast.specs.declared.event.Event.TheVariants.{Print, Enter, Leave, Read, Write}
+use Rattle.lk_ast.specs.declared.expression.Expr.{Expr}
 use Rattle.lk_ast.specs.declared.table.Row.{Row}
 use Rattle.lk_ast.specs.declared.value.Value.{Value}
-use Rattle.lk_bag.specs.Legal.{IsLegal}
+use Rattle.lk_bag.specs.Blocks.{block_at}
+use Rattle.lk_bag.specs.Legal.{AreAllCaptured, IsAnsweredOver, IsLegal, reads_tables}
 use Rattle.lk_sound.specs.Tables.{AreTables, table_at}
 
 -- the answer of a reading
@@ -16,6 +19,17 @@ read_event site args answer = Read (record { site = site; args = args; answer = 
 -- a writing
 abbrev pub write_event : ℕ → List Value → Event
 write_event site args = Write (record { site = site; args = args })
+
+-- A reading, with a value for each name that it captures, was answered by what it gives over some tables whose rows fit, in some order,
+-- sorted by its keys.
+abbrev pub HasAnswer : Program → Event → Type 0
+HasAnswer p (Print bytes) = Unit {0}
+HasAnswer p Enter = Unit {0}
+HasAnswer p Leave = Unit {0}
+HasAnswer p (Write e) = Unit {0}
+HasAnswer p (Read e) =
+    (block : Expr) × (block_at p e.site ≡ Some block) × (reads_tables (layer block) ≡ true) × AreAllCaptured block e.args
+    × (listed : Tables) × AreTables p listed × IsAnsweredOver p listed block e.args e.answer
 
 -- a legal history from the later tables is one from the earlier, with these events before it
 pub record Precedes (p : Program) (before : Tables) (events : List Event) (after : Tables) : Type 0 where

@@ -1,5 +1,5 @@
 -- What the evaluator's frames still do, and what its steps keep.
-use Rattle.std.specs.Prelude.{◌≡◌, ℕ, ◌+◌, ◌*◌, ◌≤◌, List, [], ◌∷◌, ◌++◌, None, length, reverse, map}
+use Rattle.std.specs.Prelude.{◌≡◌, ℕ, ◌+◌, ◌*◌, ◌<◌, ◌≤◌, List, [], ◌∷◌, ◌++◌, None, length, reverse, map}
 use Rattle.lk_ast.specs.declared.declaration.Program.{Program}
 use Rattle.lk_ast.specs.declared.event.Event.{Event}
 use Rattle.lk_ast.specs.declared.event.Event.TheVariants as event
@@ -7,7 +7,7 @@ use Rattle.lk_ast.specs.declared.table.Row.{Row}
 use Rattle.lk_ast.specs.declared.value.Value.{Value}
 use Rattle.lk_locals.specs.Names.{bind}
 use Rattle.lk_evaluation.specs.Evaluation.{Reading, Writing, eval, used}
-use Rattle.lk_evaluation.specs.Run.{Run, Out, Goes, Stops, and_then, answers_in, events_of}
+use Rattle.lk_evaluation.specs.Run.{Run, Out, Goes, Stops, Spent, and_then, answers_in, events_of}
 use Rattle.lk_evaluation.specs.Source.{Point, under, source}
 use Rattle.lk_types.specs.Each.{Each}
 use Rattle.lk_sem.specs.Ends.{stop_of}
@@ -70,24 +70,35 @@ after_write site args m = record m { log = m.log ++ event.Write (record { site =
 
 -- ---- steps
 
--- the machine's fuel and events are those of this run of a whole evaluation
-pub record Shows (m : Machine) (r : Run) : Type 0 where
-  pub fuel : r.fuel ≡ m.fuel
+-- the machine's events are those of this run of a whole evaluation, and so is its fuel, but for so many units that the run has less
+pub record Shows (m : Machine) (less : ℕ) (r : Run) : Type 0 where
+  pub fuel : r.fuel + less ≡ m.fuel
   pub log : events_of r.log ≡ m.log
   pub whole : r.returns ≡ None
 
+-- it ends for want of fuel, with first events of these
+pub record EndsEarly (log : List Event) (out : Out Value) : Type 0 where
+  pub last : Run
+  pub spent : out ≡ Stops Spent last
+  pub more : List Event
+  pub is : log ≡ events_of last.log ++ more
+
 -- What `todo` and then the frames of the old machine do is what comes next and then the frames of the new one do. The answers that
--- are left stay, and nothing is logged of tables.
+-- are left stay, and nothing is logged of tables. So it is with less fuel, too, as long as there is some for what was done; with still
+-- less it ends early.
 pub record Leads (p : Program) (old : Machine) (todo : Run → Out Value) (new : Machine) (next : Next) : Type 0 where
-  pub runs : (r : Run) → Shows old r → (s : Run) × Shows new s × (s.answers ≡ r.answers) × (wound p old.stack (todo r) ≡ wound p new.stack (outcome p next s))
+  pub runs : (less : ℕ) (r : Run) → less ≤ new.fuel → Shows old less r
+      → (s : Run) × Shows new less s × (s.answers ≡ r.answers) × (wound p old.stack (todo r) ≡ wound p new.stack (outcome p next s))
+  pub early : (less : ℕ) (r : Run) → new.fuel < less → Shows old less r → EndsEarly new.log (wound p old.stack (todo r))
   pub quiet : GoesQuietly old.log new.log
   pub fuel : new.fuel ≤ old.fuel
 
 -- The same from the beginning, where no frame of the old machine waits, over the answers of the readings in the new log and any
 -- others behind them, which are left.
 pub record LeadsWhole (p : Program) (old : Machine) (todo : Run → Out Value) (new : Machine) (next : Next) : Type 0 where
-  pub runs : (r : Run) (later : List (List Row)) → Shows old r → r.answers ≡ answers_in new.log ++ later
-      → (s : Run) × Shows new s × (s.answers ≡ later) × (todo r ≡ wound p new.stack (outcome p next s))
+  pub runs : (less : ℕ) (r : Run) (later : List (List Row)) → less ≤ new.fuel → Shows old less r → r.answers ≡ answers_in new.log ++ later
+      → (s : Run) × Shows new less s × (s.answers ≡ later) × (todo r ≡ wound p new.stack (outcome p next s))
+  pub early : (less : ℕ) (r : Run) (later : List (List Row)) → new.fuel < less → Shows old less r → r.answers ≡ answers_in new.log ++ later → EndsEarly new.log (todo r)
   pub fuel : new.fuel ≤ old.fuel
 
 -- how long the machine may still go on

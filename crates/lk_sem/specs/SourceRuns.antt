@@ -1,5 +1,5 @@
 -- The runs of programs over tables.
-use Rattle.std.specs.Prelude.{◌≡◌, ℕ, ◌+◌, ◌<◌, false, List, [], ◌∷◌, ◌++◌, Option, Some, None, length, IfSome, IsSomeAnd}
+use Rattle.std.specs.Prelude.{◌≡◌, ℕ, ◌+◌, ◌<◌, ◌≤◌, false, List, [], ◌∷◌, ◌++◌, Option, Some, length, IfSome, IsSomeAnd}
 use Rattle.std.specs.List.{list_any}
 use Rattle.lk_ast.specs.Functions.{main_of}
 use Rattle.lk_ast.specs.Layers.{layer}
@@ -17,11 +17,11 @@ use Rattle.lk_ast.specs.declared.value.Value.{Value}
 use Rattle.lk_bag.specs.Blocks.{block_at}
 use Rattle.lk_bag.specs.Change.{after_insert}
 use Rattle.lk_bag.specs.Legal.{IsLegal, most_rows}
-use Rattle.lk_evaluation.specs.Evaluation.{Primitive, Printing, Reading, Writing, used}
+use Rattle.lk_evaluation.specs.Evaluation.{Primitive, Printing, Reading, Writing}
 use Rattle.lk_evaluation.specs.Laws.{run_of}
-use Rattle.lk_evaluation.specs.Run.{Run, Out, Goes, Stops, Trapped, Spent, events_of, answers_in, start}
-use Rattle.lk_evaluation.specs.Source.{Point, source, session}
-use Rattle.lk_sem.specs.Frames.{Frame, wound}
+use Rattle.lk_evaluation.specs.Run.{Run, Out, Goes, Stops, Trapped, Spent, Waiting, events_of, answers_in, start}
+use Rattle.lk_evaluation.specs.Source.{session}
+use Rattle.lk_sem.specs.Histories.{write_event}
 use Rattle.lk_sem.specs.declared.run.SourceEnd.{SourceEnd}
 use Rattle.lk_sem.specs.declared.run.SourceEnd.TheVariants as end
 use Rattle.lk_sem.specs.declared.run.SourceRun.{SourceRun}
@@ -38,14 +38,21 @@ pub record IsRunOf (evaluation : Run → Out Value) (fuel : ℕ) (run : SourceRu
   pub used : run.used + last.fuel ≡ fuel
   pub answers : last.answers ≡ []
 
--- The evaluation over those answers is about to read or write for what begins at a place, and the frames wait for what comes of
--- it; the events and the fuel used are those up to there.
-pub record IsRefusedAt (p : Program) (evaluation : Run → Out Value) (fuel : ℕ) (run : SourceRun) (primitive : Primitive) : Type 0 where
-  pub frames : List (Frame Point)
-  pub before : Run
-  pub at : evaluation (start fuel (answers_in run.log)) ≡ wound (source p) frames (used primitive before)
-  pub log : run.log ≡ events_of before.log
-  pub used : run.used + before.fuel ≡ fuel
+-- these events come first in the evaluation over the answers of the readings among them
+abbrev pub HasBegun : (Run → Out Value) → ℕ → List Event → Type 0
+HasBegun evaluation fuel events = (more : List Event) × (events_of (run_of (evaluation (start fuel (answers_in events)))).log ≡ events ++ more)
+
+-- so many units of fuel are the least with which these events come first in the evaluation
+pub record IsLeastFuel (evaluation : Run → Out Value) (events : List Event) (fuel : ℕ) : Type 0 where
+  pub enough : HasBegun evaluation fuel events
+  pub least : (other : ℕ) → HasBegun evaluation other events → fuel ≤ other
+
+-- The evaluation over the answers in the run's log is about to read, and there it ends, since there is no answer; or to write: that is
+-- its next event behind the log, and the fuel used is the least with which it comes to that.
+abbrev pub IsRefusedAt : (Run → Out Value) → ℕ → SourceRun → Primitive → Type 0
+IsRefusedAt evaluation fuel run (Printing bytes) = ⊥
+IsRefusedAt evaluation fuel run (Reading site args) = IsRunOf evaluation fuel run (Stops (Waiting site args))
+IsRefusedAt evaluation fuel run (Writing site args) = (run.used ≤ fuel) × IsLeastFuel evaluation (run.log ++ write_event site args ∷ []) run.used
 
 -- an insertion that begins there would leave that many rows in its table, too many
 pub record IsOverfull (p : Program) (site : ℕ) (args : List Value) (told : Option Tables) (size : ℕ) : Type 0 where
@@ -59,20 +66,14 @@ pub record IsOverfull (p : Program) (site : ℕ) (args : List Value) (told : Opt
   pub many : most_rows < size
   pub leaves : IfSome told (λ tables. length (after_insert table.text rows tables table.text) ≡ size)
 
--- it reads or writes tables
-abbrev pub IsOfTables : Primitive → Type 0
-IsOfTables (Printing bytes) = ⊥
-IsOfTables (Reading site args) = Unit {0}
-IsOfTables (Writing site args) = Unit {0}
-
 -- A run of a session, over a store that tells of its tables, if anything, what it had at the end. It ends as the evaluation over the answers
 -- read, or where the store refused a reading or a writing, or where a table would be too full.
 abbrev pub IsRunBy : Program → (Run → Out Value) → ℕ → Option Tables → SourceRun → SourceEnd → Type 0
 IsRunBy p evaluation fuel told run (end.Value v) = IsRunOf evaluation fuel run (Goes v)
 IsRunBy p evaluation fuel told run (end.Trap trap) = IsRunOf evaluation fuel run (Stops (Trapped trap))
 IsRunBy p evaluation fuel told run end.Spent = IsRunOf evaluation fuel run (Stops Spent)
-IsRunBy p evaluation fuel told run end.StoreFault = (primitive : Primitive) × IsOfTables primitive × IsRefusedAt p evaluation fuel run primitive
-IsRunBy p evaluation fuel told run (end.TableFull size) = (site : ℕ) × (args : List Value) × IsRefusedAt p evaluation fuel run (Writing site args) × IsOverfull p site args told size
+IsRunBy p evaluation fuel told run end.StoreFault = (primitive : Primitive) × IsRefusedAt evaluation fuel run primitive
+IsRunBy p evaluation fuel told run (end.TableFull size) = (site : ℕ) × (args : List Value) × IsRefusedAt evaluation fuel run (Writing site args) × IsOverfull p site args told size
 
 abbrev pub IsRun : Program → List ℕ → ℕ → Option Tables → SourceRun → Type 0
 IsRun p arg fuel told run = IfSome (main_of p) (λ main. IsRunBy p (session p main arg) fuel told run run.end)
@@ -82,10 +83,6 @@ IsRun p arg fuel told run = IfSome (main_of p) (λ main. IsRunBy p (session p ma
 -- where the tables were told they still are, and these events lead from those to these
 abbrev pub HasHistory : Program → Option Tables → Option Tables → List Event → Type 0
 HasHistory p old new events = IfSome old (λ before. IsSomeAnd new (λ after. IsLegal p before events after))
-
--- these events come first in the evaluation over the answers of the readings among them
-abbrev pub HasBegun : (Run → Out Value) → ℕ → List Event → Type 0
-HasBegun evaluation fuel events = (more : List Event) × (events_of (run_of (evaluation (start fuel (answers_in events)))).log ≡ events ++ more)
 
 -- first events of an evaluation lead from the old tables to the new
 abbrev pub HasFirstHistory : Program → (Run → Out Value) → ℕ → Option Tables → Option Tables → Type 0

@@ -6,7 +6,7 @@ use Rattle.lk_ast.specs.declared.declaration.Program.{Program}
 use Rattle.lk_ast.specs.declared.table.Row.{Row}
 use Rattle.lk_ast.specs.declared.value.Value.{Value}
 use Rattle.lk_evaluation.specs.Run.{Run, Out, start}
-use Rattle.lk_sem.specs.Histories.{AreFit, HasPast, KeepsOthers}
+use Rattle.lk_sem.specs.Histories.{AreFit, HasAnswer, HasPast, KeepsOthers}
 use Rattle.lk_sem.specs.Machine.{LeadsWhole}
 use Rattle.lk_sem.specs.SourceRuns.{HasBegun, HasHistory, IsPlainRun, IsRunBy}
 use Rattle.lk_sem.specs.declared.machine.Machine.{Machine}
@@ -16,7 +16,6 @@ use Rattle.lk_sem.specs.declared.run.SourceRun.{SourceRun}
 use Rattle.lk_sound.specs.Instances.{Instances}
 use Rattle.lk_sound.specs.Law.{AreAnswered}
 use Rattle.lk_sound.specs.Outcomes.{IsOutcome}
-use Rattle.lk_sound.specs.Tables.{IsAnswered}
 use Rattle.lk_types.specs.Each.{Each}
 use Rattle.lk_types.specs.Rows.{EffectSet}
 
@@ -31,7 +30,7 @@ pub record IsSound (p : Program) (evaluation : Run → Out Value) (fuel : ℕ) :
 -- the old tables to the present ones, which fit, and of which those that the program doesn't declare are as they were.
 pub record Stands (p : Program) (first : Machine) (evaluation : Run → Out Value) (old now : Option Tables) (m : Machine) (next : Next) : Type 0 where
   pub leads : LeadsWhole p first evaluation m next
-  pub answered : Each (IsAnswered p) m.log
+  pub answered : Each (HasAnswer p) m.log
   pub past : HasPast p old now m.log
   pub fit : AreFit p now
   pub others : KeepsOthers p old now
@@ -45,6 +44,7 @@ pub record Ends (p : Program) (evaluation : Run → Out Value) (fuel : ℕ) (old
   pub left : m.fuel ≤ fuel
   pub run : IsRunBy p evaluation fuel now (run_to fuel m end) end
   pub begun : HasBegun evaluation fuel m.log
+  pub answered : Each (HasAnswer p) m.log
   pub history : HasHistory p old now m.log
   pub others : KeepsOthers p old now
   pub plain : IsPlainRun (run_to fuel m end)

@@ -3,10 +3,10 @@
 ghost use Rattle.std.specs.Prelude.{◌≡◌, true, false, IfOk, IfSome};
 ghost use Rattle.lk_ast.specs.Tables.{all_fit, rows_of};
 ghost use Rattle.lk_outside.specs.Causes.{HasCause};
-ghost use Rattle.lk_sem.specs.Histories.{AreFit, HasFollowed, read_event};
+ghost use Rattle.lk_sem.specs.Histories.{AreFit, HasAnswer, HasFollowed, read_event};
 ghost use Rattle.lk_sem.specs.Scans.{AreScanned, FitDefs, FitsDef, IsScanned};
 ghost use Rattle.lk_sound.specs.Law.{AreBoundAndApart};
-ghost use Rattle.lk_sound.specs.Tables.{IsAnswered, IsReading};
+ghost use Rattle.lk_sound.specs.Tables.{IsReading};
 
 use crate::catalog::Catalog;
 use lk_ast::{List, Row, TableDef, TableRows, Value};
@@ -30,7 +30,7 @@ pub fn read_at<'p>(
     ensures idle { is_open store.new ≡ false }
     ensures tables { tables store.new ≡ tables store.old }
     ensures cause { HasCause (faults store.old) (faults store.new) result }
-    ensures answered { IfOk result (λ answer. IsAnswered catalog.now (read_event site args.now answer)) }
+    ensures answered { IfOk result (λ answer. HasAnswer catalog.now (read_event site args.now answer)) }
     ensures follows { IfOk result (λ answer. HasFollowed catalog.now (tables store.old) (tables store.old) (read_event site args.now answer)) }
 {
     store.begin(alloc)?;
@@ -63,7 +63,7 @@ fn read_open<'p>(
     ensures tables { tables store.new ≡ tables store.old }
     ensures kept { kept store.new ≡ kept store.old }
     ensures cause { HasCause (faults store.old) (faults store.new) result }
-    ensures answered { IfOk result (λ answer. IsAnswered catalog.now (read_event site args.now answer)) }
+    ensures answered { IfOk result (λ answer. HasAnswer catalog.now (read_event site args.now answer)) }
     ensures follows { IfOk result (λ answer. HasFollowed catalog.now (tables store.old) (tables store.old) (read_event site args.now answer)) }
 {
     let scanned = scan_all(alloc, catalog.tables(), store)?;

@@ -5,7 +5,7 @@ ghost use Rattle.lk_ast.specs.Functions.{main_of as main_in};
 ghost use Rattle.lk_evaluation.specs.Source.{session};
 ghost use Rattle.lk_outside.specs.Causes.{Rose};
 ghost use Rattle.lk_outside.specs.declared.fault.OutFault.TheVariants.{Failed};
-ghost use Rattle.lk_sem.specs.Histories.{AreFit, KeepsOthers};
+ghost use Rattle.lk_sem.specs.Histories.{AreFit, HasAnswer, KeepsOthers};
 ghost use Rattle.lk_sem.specs.Machine.{outcome};
 ghost use Rattle.lk_sem.specs.SourceRuns.{HasBegun, HasBegunSession, HasFirstHistory, HasHistory, HasSomeHistory, IsPlainRun, IsRun, IsRunBy};
 ghost use Rattle.lk_sem.specs.Standing.{Ends, IsSound};
@@ -13,6 +13,7 @@ ghost use Rattle.lk_sem.specs.declared.run.SourceEnd.TheVariants.{StoreFault};
 ghost use Rattle.lk_sound.specs.Instances.{IsShaped};
 ghost use Rattle.lk_sound.specs.Law.{AreBoundAndApart};
 ghost use Rattle.lk_sound.specs.Tables.{AreTables};
+ghost use Rattle.lk_types.specs.Each.{Each};
 
 use crate::catalog::Catalog;
 use crate::machine::{Machine, Next};
@@ -45,6 +46,7 @@ pub fn source_run(
     ensures run { IfOk result (λ run. IsRun program.now arg.now fuel (tables store.new) run) }
     ensures history { IfOk result (λ run. HasHistory program.now (tables store.old) (tables store.new) run.log) }
     ensures begun { IfOk result (λ run. HasBegunSession program.now arg.now fuel run.log) }
+    ensures answered { IfOk result (λ run. Each (HasAnswer program.now) run.log) }
     ensures refused { IfErr result (λ error. HasSomeHistory program.now arg.now fuel (tables store.old) (tables store.new)) }
     ensures fit { IfSome (tables store.new) (AreTables program.now) }
     ensures others { KeepsOthers program.now (tables store.old) (tables store.new) }
@@ -80,6 +82,7 @@ fn run_main<'p>(
     ensures run { IfOk result (λ run. IsRunBy catalog.now (session catalog.now main.now arg.now) fuel (tables store.new) run run.end) }
     ensures history { IfOk result (λ run. HasHistory catalog.now (tables store.old) (tables store.new) run.log) }
     ensures begun { IfOk result (λ run. HasBegun (session catalog.now main.now arg.now) fuel run.log) }
+    ensures answered { IfOk result (λ run. Each (HasAnswer catalog.now) run.log) }
     ensures refused { IfErr result (λ error. HasFirstHistory catalog.now (session catalog.now main.now arg.now) fuel (tables store.old) (tables store.new)) }
     ensures fit { AreFit catalog.now (tables store.new) }
     ensures others { KeepsOthers catalog.now (tables store.old) (tables store.new) }

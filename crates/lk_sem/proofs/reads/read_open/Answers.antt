@@ -26,6 +26,7 @@ returns-clause-answered g c =
     let are : AreScanned told (table_defs p) c.in_ok-scanned.scanned = rw c.tables.ensures at c.in_ok-scanned.ensures.scanned in
     let same = rw (c.in-Some-2.is, c.index.ensures, c.as_slice.ensures) at c.in_ok-rows.ensures.bag in
     answered_by p c.requires.apart.bound told c.args.site c.args.args.now c.requires.reading c.in_ok-scanned.scanned are c.in-Some.block.now (sym c.in-Some.ensures) c.in-Some-2.rows same
+    (rw c.in-Some-2.is at c.in_ok-rows.ensures.sorted)
 
 pub returns-clause-follows : goal.returns-clause-follows
 returns-clause-follows g c =
