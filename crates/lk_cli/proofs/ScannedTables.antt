@@ -9,7 +9,7 @@ use Rattle.lk_ast.specs.declared.table.TableDef.{TableDef}
 use Rattle.lk_ast.specs.declared.table.TableRows.{TableRows}
 use Rattle.lk_outside.specs.declared.fault.OutFault.{OutFault}
 use Rattle.lk_outside.specs.declared.fault.OutFault.TheVariants.{Failed, NoMemory}
-use Rattle.lk_sem.specs.Histories.{KeepsOthers}
+use Rattle.lk_sem.specs.Histories.{HasAnswer, KeepsOthers}
 use Rattle.lk_sem.specs.SourceRuns.{HasBegunSession, HasHistory, IsRun}
 use Rattle.lk_sem.specs.declared.run.SourceRun.{SourceRun}
 use Rattle.lk_sound.specs.Tables.{table_at}
@@ -64,11 +64,12 @@ told_session program loaded events printed (Some old) (Some new) history others 
 -- a session over tables that were loaded
 session_over : (program : Program) (command : SourceCommand) (loaded : List TableRows) (done : Done) (old between new : Option Tables)
     → between ≡ option_map (loaded_over (table_defs program) loaded) old
-    → IsRun program command.arg command.fuel new (run_of done.run)
+    → IsRun program command.arg command.fuel new (run_of done.run) → Each (HasAnswer program) done.run.log
     → HasHistory program between new done.run.log → KeepsOthers program between new → AllZip (IsScanned new) (table_defs program) done.tables
     → IsSessionOver program command loaded done old new
-session_over program command loaded done old between new is run history others are = record {
+session_over program command loaded done old between new is run answered history others are = record {
   run = run;
+  answered = answered;
   tables = all_of_table new (table_defs program) done.tables are;
   told = told_session program loaded done.run.log done.tables old new (subst (λ told. HasHistory program told new done.run.log) is history) (subst (λ told. KeepsOthers program told new) is others) are;
 }
@@ -76,11 +77,11 @@ session_over program command loaded done old between new is run history others a
 -- where it is answered
 pub session_answered : (program : Program) (command : SourceCommand) (loaded : List TableRows) (r : Result Done OutFault) (old between new : Option Tables)
     → between ≡ option_map (loaded_over (table_defs program) loaded) old
-    → IfOk r (λ done. IsRun program command.arg command.fuel new (run_of done.run))
+    → IfOk r (λ done. IsRun program command.arg command.fuel new (run_of done.run)) → IfOk r (λ done. Each (HasAnswer program) done.run.log)
     → IfOk r (λ done. HasHistory program between new done.run.log) → KeepsOthers program between new → IfOk r (λ done. AllZip (IsScanned new) (table_defs program) done.tables)
     → IfOk r (λ done. IsSessionOver program command loaded done old new)
-session_answered program command loaded (Ok done) old between new is run history others are = session_over program command loaded done old between new is run history others are
-session_answered program command loaded (Err fault) old between new is run history others are = tt
+session_answered program command loaded (Ok done) old between new is run answered history others are = session_over program command loaded done old between new is run answered history others are
+session_answered program command loaded (Err fault) old between new is run answered history others are = tt
 
 -- ---- where a session breaks off
 
@@ -107,9 +108,9 @@ left_over program command loaded old between new fault is breaks others = record
 
 -- at the end of a run
 pub breaks_behind : (program : Program) (command : SourceCommand) (run : SourceRun) (fault : OutFault) (loaded new : Option Tables)
-    → IsRun program command.arg command.fuel new run → HasBegunSession program command.arg command.fuel run.log → HasHistory program loaded new run.log → BreaksOff program command fault loaded new
-breaks_behind program command run Failed loaded new is begun history = (run, is, history)
-breaks_behind program command run NoMemory loaded new is begun history = (run.log, begun, history)
+    → IsRun program command.arg command.fuel new run → Each (HasAnswer program) run.log → HasBegunSession program command.arg command.fuel run.log → HasHistory program loaded new run.log → BreaksOff program command fault loaded new
+breaks_behind program command run Failed loaded new is answered begun history = (run, is, answered, history)
+breaks_behind program command run NoMemory loaded new is answered begun history = (run.log, begun, history)
 
 -- ---- fits
 

@@ -1,6 +1,6 @@
 -- The answers of stages as those of the whole.
-use Rattle.std.proofs.Common.{◌≡◌, ◌≤◌, refl, sym, ap, subst, inl, inr, ℕ, List, Result, Ok, Err, arith, bytes_eq, find}
-use Rattle.std.specs.Prelude.{Option, Some, None, IfErr, IfOk, IsErrAnd, IsSomeAnd, option_map}
+use Rattle.std.proofs.Common.{◌≡◌, ◌≤◌, ◌⊎◌, refl, sym, ap, subst, inl, inr, ℕ, List, Result, Ok, Err, arith, bytes_eq, find}
+use Rattle.std.specs.Prelude.{Option, Some, None, IfErr, IfOk, IfSome, IsErrAnd, IsSome, IsSomeAnd, option_map}
 use Rattle.lk_ast.specs.Tables.{Tables, table_defs}
 use Rattle.lk_ast.specs.declared.declaration.Program.{Program}
 use Rattle.lk_ast.specs.declared.table.TableDef.{TableDef}
@@ -9,9 +9,9 @@ use Rattle.lk_outside.specs.Causes.{HasCause, Rose}
 use Rattle.lk_outside.specs.Files.{Contents}
 use Rattle.lk_outside.specs.declared.fault.OutFault.{OutFault}
 use Rattle.lk_outside.specs.declared.fault.OutFault.TheVariants.{Failed, NoMemory}
-use Rattle.lk_cli.specs.Answers.{Answers, AnswersSession, HasBrokenOff, HasNoRows, IsAcceptedOf, IsSessionOver, TellsReads, answer_of}
+use Rattle.lk_cli.specs.Answers.{Answers, AnswersSession, HasBrokenOff, HasNoRows, IsAcceptedOf, IsHandedBack, IsSessionOver, RefusedBy, TellsReads, answer_of}
 use Rattle.lk_cli.specs.Loading.{AreLeft, AreLoaded}
-use Rattle.lk_cli.specs.Seen.{CameBack, FilesSeen, StoreSeen, StoresSeen, store_seen, stores_seen}
+use Rattle.lk_cli.specs.Seen.{CameBack, FilesSeen, StoreSeen, StoresSeen, picked_seen, store_seen, stores_seen}
 use Rattle.lk_words.specs.Words.{store_of}
 use Rattle.lk_cli.specs.declared.answer.Answer.{Answer}
 use Rattle.lk_cli.specs.declared.answer.Answer.TheVariants.{Schemes, Queries, Run}
@@ -19,7 +19,7 @@ use Rattle.lk_cli.specs.declared.answer.Done.{Done}
 use Rattle.lk_cli.specs.declared.answer.Refusal.{Refusal}
 use Rattle.lk_cli.specs.declared.answer.Refusal.TheVariants as refused
 use Rattle.lk_words.specs.declared.command.Command.{Command}
-use Rattle.lk_words.specs.declared.command.Command.TheVariants.{Source}
+use Rattle.lk_words.specs.declared.command.Command.TheVariants.{Check, Source, Sql}
 use Rattle.lk_words.specs.declared.command.SourceCommand.{SourceCommand}
 
 -- ---- errors
@@ -35,13 +35,38 @@ pub came_back : (stores : StoresSeen) (before after : StoreSeen) (P : StoreSeen 
 came_back stores before after P given back later is =
     subst (λ g. IsSomeAnd g (λ b. IsSomeAnd stores.back (λ a. (b.faults ≤ a.faults) × P b a))) (sym given) (subst (λ k. IsSomeAnd k (λ a. (before.faults ≤ a.faults) × P before a)) (sym back) (later, is))
 
-module _ {S : Type 0} (name : S → List ℕ) (tables : S → Option Tables) (faults : S → ℕ) (stores : List S) (wanted : List ℕ) where
-  pub given_none : None ≡ find (λ store. bytes_eq wanted (name store)) stores → option_map (store_seen tables faults) (find (λ store. bytes_eq wanted (name store)) stores) ≡ None
-  given_none first = ap (option_map (store_seen tables faults)) (sym first)
+pub none_picked : {S : Type 0} (tables : S → Option Tables) (faults : S → ℕ) (picked : Option S) → picked ≡ None → option_map (store_seen tables faults) picked ≡ None
+none_picked tables faults picked is = ap (option_map (store_seen tables faults)) is
 
-  pub given_some : (store : S) → Some store ≡ find (λ store. bytes_eq wanted (name store)) stores
-      → option_map (store_seen tables faults) (find (λ store. bytes_eq wanted (name store)) stores) ≡ Some (store_seen tables faults store)
-  given_some store first = ap (option_map (store_seen tables faults)) (sym first)
+-- a store that was picked and not used comes back as it was
+untouched : {S : Type 0} (tables : S → Option Tables) (faults : S → ℕ) (picked : Option S) → IsHandedBack (picked_seen tables faults picked picked)
+untouched tables faults None = inl (refl, refl)
+untouched tables faults (Some store) = inr (omega arith, refl)
+
+module _ {S : Type 0} (name : S → List ℕ) (tables : S → Option Tables) (faults : S → ℕ) (stores : List S) (wanted : List ℕ) where
+  -- the store that was picked is the first one of the name
+  pub handed_back : (picked : Option S) → picked ≡ find (λ store. bytes_eq wanted (name store)) stores → IsHandedBack (stores_seen name tables faults stores picked wanted)
+  handed_back picked first = subst (λ given. IsHandedBack (picked_seen tables faults given picked)) first (untouched tables faults picked)
+
+  pub over_picked : (files : FilesSeen) (command : SourceCommand) (program : Program) (answer : Result Answer Refusal) (picked back : Option S) → picked ≡ find (λ store. bytes_eq wanted (name store)) stores
+      → AnswersSession files (picked_seen tables faults picked back) command program answer → AnswersSession files (stores_seen name tables faults stores back wanted) command program answer
+  over_picked files command program answer picked back first is = subst (λ given. AnswersSession files (picked_seen tables faults given back) command program answer) first is
+
+-- that there is none is so of both
+pub none_or_some : {S : Type 0} (picked found : Option S) → picked ≡ found → (found ≡ None) ⊎ IsSome picked
+none_or_some {S} picked found is = subst (λ o. (o ≡ None) ⊎ IsSome picked) is (by_picked picked)
+  where
+    by_picked : (o : Option S) → (o ≡ None) ⊎ IsSome o
+    by_picked None = inl refl
+    by_picked (Some store) = inr refl
+
+-- what holds of any store and itself holds of the one that was picked and of that which was found
+pub with_itself : {S : Type 0} (R : S → S → Type 0) → ((store : S) → R store store) → (picked found : Option S) → picked ≡ found → IfSome picked (λ back. IfSome found (λ given. R back given))
+with_itself {S} R same picked found is = subst (λ o. IfSome picked (λ back. IfSome o (λ given. R back given))) is (by_picked picked)
+  where
+    by_picked : (o : Option S) → IfSome o (λ back. IfSome o (λ given. R back given))
+    by_picked None = tt
+    by_picked (Some store) = same store
 
 pub told_back : {S : Type 0} (tables : S → Option Tables) (faults : S → ℕ) (back : Option S) (store : S) → back ≡ Some store → option_map (store_seen tables faults) back ≡ Some (store_seen tables faults store)
 told_back tables faults back store is = ap (option_map (store_seen tables faults)) is
@@ -109,9 +134,9 @@ module _ (contents : Option Contents) (failed : List ℕ) (before middle after :
   answer_earlier stores command program (Ok (Run done)) accepted (loaded, are, back) = (program, accepted, (loaded, loaded_earlier command.tables (table_defs program) loaded are, back))
   answer_earlier stores command program (Ok (Schemes checked)) accepted is = absurd is
   answer_earlier stores command program (Ok (Queries checked)) accepted is = absurd is
-  answer_earlier stores command program (Err why) accepted (inl none) = inr (program, accepted, inl none)
-  answer_earlier stores command program (Err why) accepted (inr (inl rows)) = inr (program, accepted, inr (inl (rows_earlier command.tables (table_defs program) why rows.0, rows.1)))
-  answer_earlier stores command program (Err why) accepted (inr (inr broken)) = inr (program, accepted, inr (inr (broken_earlier stores command program why broken)))
+  answer_earlier stores command program (Err why) accepted (inl none) = inr (inr (program, accepted, inl none))
+  answer_earlier stores command program (Err why) accepted (inr (inl rows)) = inr (inr (program, accepted, inr (inl (rows_earlier command.tables (table_defs program) why rows.0, rows.1))))
+  answer_earlier stores command program (Err why) accepted (inr (inr broken)) = inr (inr (program, accepted, inr (inr (broken_earlier stores command program why broken))))
 
 -- where the count is as before, that is so whatever the answer is
 pub none_failed : {T : Type 0} (before after : ℕ) (answer : Result T Refusal) → after ≡ before → TellsReads before after answer
@@ -134,7 +159,18 @@ whole_answer contents between failed before middle after same le stores command 
 
 -- ---- the words
 
+-- where memory ran out before the words were read, that is an answer to any
+pub unread : (files : FilesSeen) (stores : StoresSeen) (form : Option Command) → stores.back ≡ None → files.after ≡ files.before → RefusedBy files stores form refused.NoMemory
+unread files stores None back same = (back, tt)
+unread files stores (Some (Check command)) back same = (back, inl tt)
+unread files stores (Some (Sql command)) back same = (back, inl tt)
+unread files stores (Some (Source command)) back same = inl (refl, back, same)
+
 -- an answer to a command is one to the words that have its form
 pub form_answer : {S : Type 0} (files : FilesSeen) (name : S → List ℕ) (tables : S → Option Tables) (faults : S → ℕ) (stores : List S) (back : Option S) (command form : Option Command) (answer : Result Answer Refusal)
     → command ≡ form → Answers files (stores_seen name tables faults stores back (store_of command)) command answer → Answers files (stores_seen name tables faults stores back (store_of form)) form answer
 form_answer files name tables faults stores back command form answer is has = subst (λ o. Answers files (stores_seen name tables faults stores back (store_of o)) o answer) is has
+
+-- and what holds of the store that a command asks for holds of that which the words ask for
+pub form_store : (P : List ℕ → Type 0) (command form : Option Command) → command ≡ form → P (store_of command) → P (store_of form)
+form_store P command form is has = subst (λ o. P (store_of o)) is has

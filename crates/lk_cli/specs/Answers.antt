@@ -34,6 +34,7 @@ use Rattle.lk_outside.specs.declared.fault.OutFault.TheVariants as outside
 use Rattle.lk_parse.specs.Refusals.{IsProgramText, IsRefused}
 use Rattle.lk_parse.specs.declared.error.ParseError.{ParseError}
 use Rattle.lk_parse.specs.declared.error.ParseError.TheVariants as parse
+use Rattle.lk_sem.specs.Histories.{HasAnswer}
 use Rattle.lk_sem.specs.SourceRuns.{IsRun, IsPlainRun}
 use Rattle.lk_tables.specs.Reading.{refusal}
 use Rattle.lk_tables.specs.declared.error.TablesError.{TablesError}
@@ -98,10 +99,11 @@ abbrev pub IsAcceptedOf : FilesSeen → List ℕ → Program → Type 0
 IsAcceptedOf files name program = IsProgram files name program × ((typed : Typed) × (queries : List Translated) × IsAccepted program typed queries)
 
 -- An answered session that began with these rows over the tables of a store before it: a run of the program with the argument and
--- the fuel that are asked for, which has an end of its own, and the declared tables with rows that fit them, which are the rows
--- that they have at its end.
+-- the fuel that are asked for, which has an end of its own and in which each reading was answered by what it gives, and the declared
+-- tables with rows that fit them, which are the rows that they have at its end.
 pub record IsSessionOver (program : Program) (command : SourceCommand) (loaded : List TableRows) (done : Done) (before after : Option Tables) : Type 0 where
   pub run : IsRun program command.arg command.fuel after (run_of done.run)
+  pub answered : Each (HasAnswer program) done.run.log
   pub tables : AllZip IsOfTable (table_defs program) done.tables
   pub told : HasToldSession program loaded done.run.log done.tables before after
 
@@ -297,15 +299,24 @@ HasNoForm Words = Unit {0}
 HasNoForm NoMemory = Unit {0}
 HasNoForm refusal = ⊥
 
--- Why a command is refused. There is none; or it has no program that is accepted, and no store comes back; or the session of its
--- program isn't answered. Want of memory has no cause.
+-- a store of the name that is asked for came back as it was handed in, or there is none
+abbrev pub IsHandedBack : StoresSeen → Type 0
+IsHandedBack stores = ((stores.given ≡ None) × (stores.back ≡ None)) ⊎ IsUntouched stores
+
+-- the words weren't read for want of memory, and no store was picked
+abbrev pub AreUnread : FilesSeen → StoresSeen → Refusal → Type 0
+AreUnread files stores refusal = (refusal ≡ NoMemory) × (stores.back ≡ None) × (files.after ≡ files.before)
+
+-- Why a command is refused. There is none; or it has no program that is accepted, and a store that it asks for comes back as it was;
+-- or the session of its program isn't answered. Want of memory has no cause; where the words aren't read for it, no store comes back.
 abbrev pub RefusedBy : FilesSeen → StoresSeen → Option Command → Refusal → Type 0
 RefusedBy files stores None refusal = (stores.back ≡ None) × HasNoForm refusal
 RefusedBy files stores (Some (Check command)) refusal = (stores.back ≡ None) × HasNoAccepted files command.program refusal
 RefusedBy files stores (Some (Sql command)) refusal = (stores.back ≡ None) × HasNoAccepted files command.program refusal
 RefusedBy files stores (Some (Source command)) refusal =
-    ((stores.back ≡ None) × HasNoAccepted files command.program refusal)
-    ⊎ ((program : Program) × IsAcceptedOf files command.program program × IsUnanswered files stores command program refusal)
+    AreUnread files stores refusal
+    ⊎ ((IsHandedBack stores × HasNoAccepted files command.program refusal)
+    ⊎ ((program : Program) × IsAcceptedOf files command.program program × IsUnanswered files stores command program refusal))
 
 -- an answer with its cause
 abbrev pub Answers : FilesSeen → StoresSeen → Option Command → Result Answer Refusal → Type 0

@@ -11,11 +11,12 @@ use Rattle.lk_bag.specs.Change.{with_rows}
 use Rattle.lk_bag.specs.Legal.{IsLegal}
 use Rattle.lk_outside.specs.declared.fault.OutFault.{OutFault}
 use Rattle.lk_outside.specs.declared.fault.OutFault.TheVariants.{Failed, NoMemory}
-use Rattle.lk_sem.specs.Histories.{KeepsOthers}
+use Rattle.lk_sem.specs.Histories.{HasAnswer, KeepsOthers}
 use Rattle.lk_sem.specs.SourceRuns.{HasHistory, HasSomeHistory, IsRun}
 use Rattle.lk_sem.specs.declared.run.SourceRun.{SourceRun}
 use Rattle.lk_sound.specs.Tables.{table_at}
 use Rattle.lk_tables.specs.Reading.{refusal, tables_in}
+use Rattle.lk_types.specs.Each.{Each}
 use Rattle.lk_cli.specs.Seen.{FilesSeen, HasText}
 use Rattle.lk_words.specs.declared.command.SourceCommand.{SourceCommand}
 
@@ -76,9 +77,10 @@ abbrev pub HasToldSession : Program → List TableRows → List Event → List T
 HasToldSession program loaded events printed old new = IfSome old (λ before. IsSomeAnd new (λ after. HasSession program loaded events printed before after))
 
 -- What a session made of the rows loaded before it broke off. The store failed: what the log of its run makes of them, which is whole,
--- or goes to the reading or writing that was refused. Memory ran out: what some first events of the session make of them.
+-- or goes to the reading or writing that was refused, and in which each reading was answered by what it gives. Memory ran out: what
+-- some first events of the session make of them.
 abbrev pub BreaksOff : Program → SourceCommand → OutFault → Option Tables → Option Tables → Type 0
-BreaksOff program command Failed loaded new = (run : SourceRun) × IsRun program command.arg command.fuel new run × HasHistory program loaded new run.log
+BreaksOff program command Failed loaded new = (run : SourceRun) × IsRun program command.arg command.fuel new run × Each (HasAnswer program) run.log × HasHistory program loaded new run.log
 BreaksOff program command NoMemory loaded new = HasSomeHistory program command.arg command.fuel loaded new
 
 -- The tables that a session leaves which isn't answered: those from before, or what it made of the rows loaded. Tables that aren't

@@ -31,11 +31,12 @@ pub record StoresSeen : Type 0 where
 abbrev pub store_seen : {S : Type 0} → (S → Option Tables) → (S → ℕ) → S → StoreSeen
 store_seen tables faults store = record { tables = tables store; faults = faults store }
 
+-- the store that was picked, and the one that came back
+abbrev pub picked_seen : {S : Type 0} → (S → Option Tables) → (S → ℕ) → Option S → Option S → StoresSeen
+picked_seen tables faults picked back = record { given = option_map (store_seen tables faults) picked; back = option_map (store_seen tables faults) back }
+
 abbrev pub stores_seen : {S : Type 0} → (S → List ℕ) → (S → Option Tables) → (S → ℕ) → List S → Option S → List ℕ → StoresSeen
-stores_seen name tables faults stores back wanted = record {
-  given = option_map (store_seen tables faults) (find (λ store. bytes_eq wanted (name store)) stores);
-  back = option_map (store_seen tables faults) back;
-}
+stores_seen name tables faults stores back wanted = picked_seen tables faults (find (λ store. bytes_eq wanted (name store)) stores) back
 
 -- the store that was asked for was handed in and came back, its count didn't fall, and this holds of it before and after
 abbrev pub CameBack : StoresSeen → (StoreSeen → StoreSeen → Type 0) → Type 0

@@ -7,11 +7,12 @@ ghost use Rattle.lk_cli.specs.Answers.{IsSessionOver};
 ghost use Rattle.lk_cli.specs.Ended.{run_of};
 ghost use Rattle.lk_cli.specs.Loading.{AreLeft, BreaksOff, IsOfTable, IsScanned};
 ghost use Rattle.lk_outside.specs.Causes.{HasCause};
-ghost use Rattle.lk_sem.specs.Histories.{KeepsOthers};
+ghost use Rattle.lk_sem.specs.Histories.{HasAnswer, KeepsOthers};
 ghost use Rattle.lk_sem.specs.SourceRuns.{HasBegunSession, HasHistory, IsPlainRun, IsRun};
 ghost use Rattle.lk_sound.specs.Instances.{IsShaped};
 ghost use Rattle.lk_sound.specs.Law.{AreBoundAndApart};
 ghost use Rattle.lk_sound.specs.Tables.{AreTables};
+ghost use Rattle.lk_types.specs.Each.{Each};
 
 use crate::answer::Done;
 use crate::ended::{Ended, ended_run};
@@ -50,6 +51,7 @@ pub fn run_in_box(
     requires fit { AllZip IsOfTable rows.defs rows.loaded }
     requires idle { is_open store ≡ false }
     ensures name { name result.store ≡ name store }
+    ensures kind { result.store.vtable ≡ store.vtable }
     ensures idle { is_open result.store ≡ false }
     ensures session { IfOk result.outcome (λ done. IsSessionOver program.now command.now rows.loaded done (tables store) (tables result.store)) }
     ensures plain { IfOk result.outcome (λ done. IsPlainRun (run_of done.run)) }
@@ -103,6 +105,7 @@ fn run_loaded(
     ensures idle { is_open store.new ≡ false }
     ensures run { IfOk result (λ done. IsRun program.now command.now.arg command.now.fuel (tables store.new) (run_of done.run)) }
     ensures history { IfOk result (λ done. HasHistory program.now (tables store.old) (tables store.new) done.run.log) }
+    ensures answered { IfOk result (λ done. Each (HasAnswer program.now) done.run.log) }
     ensures others { KeepsOthers program.now (tables store.old) (tables store.new) }
     ensures scanned { IfOk result (λ done. AllZip (IsScanned (tables store.new)) defs.now done.tables) }
     ensures plain { IfOk result (λ done. IsPlainRun (run_of done.run)) }
@@ -130,6 +133,7 @@ fn evaluate(
     ensures run { IfOk result (λ run. IsRun program.now command.now.arg command.now.fuel (tables store.new) (run_of run)) }
     ensures history { IfOk result (λ run. HasHistory program.now (tables store.old) (tables store.new) run.log) }
     ensures begun { IfOk result (λ run. HasBegunSession program.now command.now.arg command.now.fuel run.log) }
+    ensures answered { IfOk result (λ run. Each (HasAnswer program.now) run.log) }
     ensures others { KeepsOthers program.now (tables store.old) (tables store.new) }
     ensures plain { IfOk result (λ run. IsPlainRun (run_of run)) }
     ensures fit { IfSome (tables store.new) (AreTables program.now) }

@@ -1,12 +1,12 @@
 //! The top call, and the answers to commands.
 
 ghost use Rattle.std.specs.List.{AllZip};
-ghost use Rattle.std.specs.Prelude.{◌≡◌, ◌≤◌, false, All, IfErr, IfOk, IfSome, None, Result, Some, bytes_eq, find, map, string_bytes};
+ghost use Rattle.std.specs.Prelude.{◌≡◌, ◌≤◌, ◌⊎◌, false, All, IfErr, IfOk, IfSome, IsSome, None, Result, Some, bytes_eq, find, map, string_bytes};
 ghost use Rattle.lk_ast.specs.Tables.{table_defs as declared_tables};
 ghost use Rattle.lk_bag.specs.Blocks.{AreBlocksApart};
 ghost use Rattle.lk_cli.specs.Answers.{Answers, AnswersSession, Ends, HasNoAccepted, HasNoRows, HasNoStore, IsAccepted, IsProgram, IsShown, IsTold, TellsReads, answer_of};
 ghost use Rattle.lk_cli.specs.Loading.{AreLoaded, IsOfTable};
-ghost use Rattle.lk_cli.specs.Seen.{StoresSeen, seen, stores_seen};
+ghost use Rattle.lk_cli.specs.Seen.{StoresSeen, picked_seen, seen, stores_seen};
 ghost use Rattle.lk_words.specs.Words.{form_of, store_of};
 ghost use Rattle.lk_cli.specs.declared.answer.Answer.{Answer as TheAnswer};
 ghost use Rattle.lk_cli.specs.declared.answer.Refusal.{Refusal as TheRefusal};
@@ -65,6 +65,7 @@ pub fn links_main<F: Files, O: Sink>(
         × IsTold answer result.refused }
     ensures idle { IfSome result.store (λ store. is_open store ≡ false) }
     ensures named { IfSome result.store (λ store. name store ≡ store_of (form_of (map string_bytes words.now))) }
+    ensures kind { IfSome result.store (λ back. IfSome (find (λ store. bytes_eq (store_of (form_of (map string_bytes words.now))) (name store)) stores.items) (λ given. back.vtable ≡ given.vtable)) }
 {
     let mut sources = Sources::none();
     let Answered { answer, store } = answer_words(alloc, words, files, stores, &mut sources);
@@ -110,6 +111,7 @@ fn answer_words<F: Files>(
         (form_of (map string_bytes words.now)) result.answer }
     ensures idle { IfSome result.store (λ store. is_open store ≡ false) }
     ensures named { IfSome result.store (λ store. name store ≡ store_of (form_of (map string_bytes words.now))) }
+    ensures kind { IfSome result.store (λ back. IfSome (find (λ store. bytes_eq (store_of (form_of (map string_bytes words.now))) (name store)) stores.items) (λ given. back.vtable ≡ given.vtable)) }
 {
     match read_words(alloc, words) {
         Err(WordsError::NoMemory) => Answered {
@@ -164,7 +166,8 @@ fn answer_sql<F: Files>(
     Ok(Answer::Queries(accepted_program(alloc, command.program.as_str(), files, sources)?))
 }
 
-/// The answer to `source`. Its program is read and accepted before a store is picked.
+/// The answer to `source`. The store is picked first and comes back with any answer. That there is none is told once the
+/// program is accepted.
 fn answer_source<F: Files>(
     alloc: Global,
     command: &SourceCommand,
@@ -182,46 +185,53 @@ fn answer_source<F: Files>(
         (Some (Source command.now)) result.answer }
     ensures idle { IfSome result.store (λ store. is_open store ≡ false) }
     ensures named { IfSome result.store (λ store. name store ≡ command.now.store) }
+    ensures kind { IfSome result.store (λ back. IfSome (find (λ store. bytes_eq command.now.store (name store)) stores.items) (λ given. back.vtable ≡ given.vtable)) }
+    ensures back { (find (λ store. bytes_eq command.now.store (name store)) stores.items ≡ None) ⊎ IsSome result.store }
 {
+    let picked = ready(stores, command.store.as_str());
     match accepted_program(alloc, command.program.as_str(), files, sources) {
         Ok(checked) => answer_session(
             alloc,
             checked.program.program(),
             command,
             files,
-            stores,
+            picked,
             sources,
         ),
         Err(refusal) => Answered {
             answer: Err(refusal),
-            store: None,
+            store: picked,
         },
     }
 }
 
-/// The answer to `source` for an accepted program. A store is picked before the tables file is read.
+/// The answer to `source` for an accepted program, with the store that was picked. That there is none is told before the
+/// tables file is read.
 fn answer_session<F: Files>(
     alloc: Global,
     program: &Program,
     command: &SourceCommand,
     files: &mut F,
-    stores: Vec<Box<dyn Store + Drop>>,
+    picked: Option<Box<dyn Store + Drop>>,
     sources: &mut Sources,
 ) -> Answered
     requires apart { AreBoundAndApart program.now }
     requires shaped { IsShaped program.now }
-    requires idle { All (λ store. is_open store ≡ false) stores.items }
+    requires idle { IfSome picked (λ store. is_open store ≡ false) }
+    requires named { IfSome picked (λ store. name store ≡ command.now.store) }
     ensures contents { F.contents files.new ≡ F.contents files.old }
     ensures later { F.faults files.old ≤ F.faults files.new }
     ensures reads { TellsReads (F.faults files.old) (F.faults files.new) result.answer }
     ensures shown { IsShown result.answer }
     ensures answers { AnswersSession (seen F.contents F.failed F.faults files.old files.new)
-        (stores_seen (λ store. name store) (λ store. tables store) (λ store. (⟦<dyn Store as Store>⟧ store.vtable).faults store.value) stores.items result.store command.now.store)
+        (picked_seen (λ store. tables store) (λ store. (⟦<dyn Store as Store>⟧ store.vtable).faults store.value) picked result.store)
         command.now program.now result.answer }
     ensures idle { IfSome result.store (λ store. is_open store ≡ false) }
     ensures named { IfSome result.store (λ store. name store ≡ command.now.store) }
+    ensures kind { IfSome result.store (λ back. IfSome picked (λ given. back.vtable ≡ given.vtable)) }
+    ensures back { (picked ≡ None) ⊎ IsSome result.store }
 {
-    let Some(store) = ready(stores, command.store.as_str()) else {
+    let Some(store) = picked else {
         return Answered {
             answer: Err(no_store(alloc, &command.store)),
             store: None,

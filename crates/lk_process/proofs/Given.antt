@@ -15,12 +15,12 @@ use Rattle.lk_words.specs.Words.{form_of, store_of}
 use Rattle.lk_words.specs.declared.command.Command.{Command}
 use Rattle.lk_words.specs.declared.command.Command.TheVariants.{Check, Source, Sql}
 
--- want of memory is an answer to any words
-pub no_memory : (files : FilesSeen) (given : Option StoreSeen) (form : Option Command) → RefusedBy files (record { given = given; back = None }) form NoMemory
-no_memory files given None = (refl, tt)
-no_memory files given (Some (Check command)) = (refl, inl tt)
-no_memory files given (Some (Sql command)) = (refl, inl tt)
-no_memory files given (Some (Source command)) = inl (refl, inl tt)
+-- want of memory is an answer to any words, where no file was read
+pub no_memory : (files : FilesSeen) (given : Option StoreSeen) (form : Option Command) → files.after ≡ files.before → RefusedBy files (record { given = given; back = None }) form NoMemory
+no_memory files given None same = (refl, tt)
+no_memory files given (Some (Check command)) same = (refl, inl tt)
+no_memory files given (Some (Sql command)) same = (refl, inl tt)
+no_memory files given (Some (Source command)) same = inl (refl, refl, same)
 
 module _ {S : Type 0} (name : S → List ℕ) (tables : S → Option Tables) (faults : S → ℕ) (wanted : List ℕ) where
   -- what is picked of one store in memory
