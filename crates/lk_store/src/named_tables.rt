@@ -48,8 +48,8 @@ pub(crate) fn add_rows(
         name.now (rows_of (listed tables.old) name.now ++ rows)) }
 {
     match tables.get_mut(name) {
-        Some(there) => Ok(append(there, rows)?),
-        None => Ok(set_rows(alloc, tables, name, rows)?),
+        Some(there) => append(there, rows),
+        None => set_rows(alloc, tables, name, rows),
     }
 }
 
