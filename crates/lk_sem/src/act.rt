@@ -48,14 +48,14 @@ pub fn act_of<'p>(
             None => Ok(Act::Lacks),
         },
         Node::Function(name) => Ok(function_value(alloc, index, e.span, name)),
-        Node::Lambda(lambda) => Ok(closure(alloc, e.span, lambda, scope)?),
-        Node::Call(name, _) => Ok(call(alloc, index, e.span, &name.text, values)?),
-        Node::Apply(_, _) => Ok(apply_first(alloc, index, e.span, values)?),
+        Node::Lambda(lambda) => closure(alloc, e.span, lambda, scope),
+        Node::Call(name, _) => call(alloc, index, e.span, &name.text, values),
+        Node::Apply(_, _) => apply_first(alloc, index, e.span, values),
         Node::Table(_) => Ok(Act::Read(List::new(alloc))),
-        Node::Query(_, body) => Ok(query(alloc, body, scope)?),
+        Node::Query(_, body) => query(alloc, body, scope),
         Node::Insert(_, _) => Ok(Act::Write(values)),
-        Node::Update(rows) | Node::Delete(rows) => Ok(change(alloc, rows, scope)?),
-        node => Ok(form(alloc, e.span, node, scope, values)?),
+        Node::Update(rows) | Node::Delete(rows) => change(alloc, rows, scope),
+        node => form(alloc, e.span, node, scope, values),
     }
 }
 
@@ -83,14 +83,14 @@ fn form<'p>(
             _ => Ok(Act::Lacks),
         },
         Node::Switch(_, cases, last) => match only(values) {
-            Some(value) => Ok(switch(alloc, at, value, cases.as_slice(), last, scope)?),
+            Some(value) => switch(alloc, at, value, cases.as_slice(), last, scope),
             None => Ok(Act::Lacks),
         },
         Node::ForList(name, _, body) | Node::ForTable(name, _, body) => match only(values) {
             Some(Value::List(items)) => Ok(Act::Each(name.text.as_str(), items, body, scope)),
             _ => Ok(Act::Lacks),
         },
-        node => Ok(choice(alloc, at, node, scope, values)?),
+        node => choice(alloc, at, node, scope, values),
     }
 }
 

@@ -62,7 +62,7 @@ pub fn call<'p>(
         Some(function) => {
             let none = Locals::new(alloc)?;
             let params = function.params.as_slice();
-            Ok(go_to(
+            go_to(
                 alloc,
                 at,
                 function.place,
@@ -70,7 +70,7 @@ pub fn call<'p>(
                 params,
                 args,
                 &function.body,
-            )?)
+            )
         }
         None => Ok(Act::Lacks),
     }
@@ -89,7 +89,7 @@ pub fn apply_first<'p>(
         return Ok(Act::Lacks);
     };
     match function {
-        Value::Fun(f) => Ok(apply(alloc, index, at, f, args)?),
+        Value::Fun(f) => apply(alloc, index, at, f, args),
         _ => Ok(Act::Lacks),
     }
 }
@@ -107,7 +107,7 @@ fn apply<'p>(
     if let Some(function) = index.function_at(f.site) {
         let none = Locals::new(alloc)?;
         let params = function.params.as_slice();
-        return Ok(go_to(
+        return go_to(
             alloc,
             at,
             function.place,
@@ -115,14 +115,14 @@ fn apply<'p>(
             params,
             args,
             &function.body,
-        )?);
+        );
     }
     match index.lambda_at(f.site) {
         Some(found) => {
             let FunValue { site: _, env } = f;
             let kept = Locals::new(alloc)?.bind_each(alloc, found.names.as_slice(), env)?;
             let params = found.lambda.params.as_slice();
-            Ok(go_to(
+            go_to(
                 alloc,
                 at,
                 found.lambda.place,
@@ -130,7 +130,7 @@ fn apply<'p>(
                 params,
                 args,
                 &found.lambda.body,
-            )?)
+            )
         }
         None => Ok(Act::Lacks),
     }

@@ -25,8 +25,8 @@ pub fn switch<'p>(
 {
     match value {
         Value::Tag(tag, held) => match find_case(cases, &tag) {
-            Some(case) => Ok(in_case(alloc, at, case, held.into_inner(), scope)?),
-            None => Ok(in_last(alloc, at, last, Value::Tag(tag, held), scope)?),
+            Some(case) => in_case(alloc, at, case, held.into_inner(), scope),
+            None => in_last(alloc, at, last, Value::Tag(tag, held), scope),
         },
         _ => Ok(Act::Lacks),
     }

@@ -90,7 +90,7 @@ impl<'p> Machine<'p> {
         }
         self.fuel -= 1;
         let done = List::new(alloc);
-        Ok(self.go_on(alloc, index, e, done, scope, place)?)
+        self.go_on(alloc, index, e, done, scope, place)
     }
 
     /// Goes on with the next part of a node, or with its act.
@@ -122,7 +122,7 @@ impl<'p> Machine<'p> {
             }
             None => {
                 let act = act_of(alloc, index, e, scope, done)?;
-                Ok(self.perform(alloc, index, e.span, place, act)?)
+                self.perform(alloc, index, e.span, place, act)
             }
         }
     }
@@ -143,8 +143,8 @@ impl<'p> Machine<'p> {
         match act {
             Act::Give(value) => Ok(Next::Give(value)),
             Act::Tail(e, scope) => Ok(Next::Enter(e, scope, place)),
-            Act::Goto(mark, body, scope) => Ok(self.go_to(index, place, mark, body, scope)?),
-            Act::Print(text) => Ok(self.print(alloc, index, place, text)?),
+            Act::Goto(mark, body, scope) => self.go_to(index, place, mark, body, scope),
+            Act::Print(text) => self.print(alloc, index, place, text),
             Act::Each(name, values, body, scope) => {
                 let mut left = values.into_vec();
                 left.reverse();
@@ -157,10 +157,10 @@ impl<'p> Machine<'p> {
                     place,
                     made: List::new(alloc),
                 };
-                Ok(self.turn(alloc, index, turns)?)
+                self.turn(alloc, index, turns)
             }
-            Act::Read(args) => Ok(self.read(index, place, at.start, args)?),
-            Act::Write(args) => Ok(self.write(index, place, at.start, args)?),
+            Act::Read(args) => self.read(index, place, at.start, args),
+            Act::Write(args) => self.write(index, place, at.start, args),
             Act::Fails(trap) => Ok(Next::Stop(Halt::Trap(trap))),
             Act::Lacks => Ok(Next::Stop(Halt::Stuck(at))),
         }
@@ -305,7 +305,7 @@ impl<'p> Machine<'p> {
         match list_of(value) {
             Some(values) => {
                 let made = joined(turns.made, values)?;
-                Ok(self.turn(alloc, index, Turns { made, ..turns })?)
+                self.turn(alloc, index, Turns { made, ..turns })
             }
             None => Ok(Next::Stop(Halt::Stuck(turns.at))),
         }
@@ -354,7 +354,7 @@ impl<'p> Machine<'p> {
         let value = rows_value(alloc, answer.as_slice())?;
         self.log
             .push(Event::Read(ReadEvent { site, args, answer }))?;
-        Ok(self.come_back(index, back, value)?)
+        self.come_back(index, back, value)
     }
 
     /// Goes back to that place from a writing.
@@ -372,7 +372,7 @@ impl<'p> Machine<'p> {
         ensures falls { IfOk result (λ next. weight self.new next ≤ 4 * self.old.fuel + 2 * length self.old.stack + 2) }
     {
         self.log.push(Event::Write(WriteEvent { site, args }))?;
-        Ok(self.come_back(index, back, unit(alloc))?)
+        self.come_back(index, back, unit(alloc))
     }
 
     /// Gives a frame the value that it waits for.
@@ -397,10 +397,10 @@ impl<'p> Machine<'p> {
                     place,
                 } = waiting;
                 done.push(value)?;
-                Ok(self.go_on(alloc, index, expr, done, scope, place)?)
+                self.go_on(alloc, index, expr, done, scope, place)
             }
-            Frame::Turn(turns) => Ok(self.take(alloc, index, turns, value)?),
-            Frame::Back(place) => Ok(self.come_back(index, place, value)?),
+            Frame::Turn(turns) => self.take(alloc, index, turns, value),
+            Frame::Back(place) => self.come_back(index, place, value),
         }
     }
 }

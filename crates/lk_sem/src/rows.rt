@@ -13,7 +13,7 @@ pub fn rows_in(alloc: Global, args: &[Value]) -> Result<Option<List<Row>>, NoMem
     ensures { IfOk result (λ rows. rows ≡ rows_in args.now) }
 {
     match args {
-        [Value::List(values)] => Ok(each_row(alloc, values.as_slice())?),
+        [Value::List(values)] => each_row(alloc, values.as_slice()),
         _ => Ok(None),
     }
 }

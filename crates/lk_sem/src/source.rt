@@ -60,7 +60,7 @@ pub fn source_run(
     soundness_laws();
     let catalog = Catalog::new(alloc, program)?;
     match main_of(program) {
-        Some(main) => Ok(run_main(alloc, &catalog, main, arg, store, fuel)?),
+        Some(main) => run_main(alloc, &catalog, main, arg, store, fuel),
         None => unreachable!(),
     }
 }
@@ -151,14 +151,14 @@ fn run<'p>(
             Next::Read(back, site, args) => {
                 match read_at(alloc, catalog, store, site, args.as_slice()) {
                     Ok(rows) => machine.answered(alloc, catalog.index(), back, site, args, rows)?,
-                    Err(fault) => return Ok(refused(fault)?),
+                    Err(fault) => return refused(fault),
                 }
             }
             Next::Write(back, site, args) => {
                 match write_at(alloc, catalog, store, site, args.as_slice()) {
                     Ok(Written::Done) => machine.written(alloc, catalog.index(), back, site, args)?,
                     Ok(Written::Full(size)) => return Ok(SourceEnd::TableFull(size)),
-                    Err(fault) => return Ok(refused(fault)?),
+                    Err(fault) => return refused(fault),
                 }
             }
             Next::Stop(halt) => match halt.end() {

@@ -86,7 +86,7 @@ fn write_open<'p>(
         unreachable!()
     };
     match block.node.get() {
-        Node::Insert(table, _) => Ok(insert_rows(alloc, catalog, store, site, table, args)?),
+        Node::Insert(table, _) => insert_rows(alloc, catalog, store, site, table, args),
         Node::Update(change) => {
             update_rows(alloc, catalog, store, site, block, change, args)?;
             Ok(Written::Done)

@@ -1,4 +1,5 @@
 use Rattle.std.proofs.Common.{rules, refl, sym, subst, ◌∙◌}
+use Rattle.std.proofs.lemmas.Result.{IfOk-weaker}
 use Rattle.lk_sem.specs.Machine.{outcome}
 use Rattle.lk_sem.specs.SourceRuns.{HasFirstHistory, IsOverfull}
 use Rattle.lk_sem.specs.Standing.{Ends, Stands}
@@ -29,9 +30,9 @@ pub returns-in_err-next-in-Ok-clause-refused : goal.returns-in_err-next-in-Ok-cl
 returns-in_err-next-in-Ok-clause-refused g c =
     if_err _ c.from_residual-in_err-next-in-Ok.result (subst (HasFirstHistory c.args.catalog.now (outcome c.args.catalog.now c.args.first) c.args.machine.now.fuel ((goal.Store-dyn g c.args.store.now).tables c.args.store.now.1)) (sym c.read_at.ensures.tables) (first_history c.args.catalog.now c.args.machine.now c.loop-next.machine (outcome c.args.catalog.now c.args.first) c.args.machine.now.fuel c.requires.log refl c.requires.sound c.loop-next.next _ _ c.loop-next.invariant.stands))
 
-pub returns-in_err-refused-in-Err-clause-refused : goal.returns-in_err-refused-in-Err-clause-refused
-returns-in_err-refused-in-Err-clause-refused g c =
-    if_err _ c.from_residual-in_err-refused-in-Err.result (subst (HasFirstHistory c.args.catalog.now (outcome c.args.catalog.now c.args.first) c.args.machine.now.fuel ((goal.Store-dyn g c.args.store.now).tables c.args.store.now.1)) (sym c.read_at.ensures.tables) (first_history c.args.catalog.now c.args.machine.now c.loop-next.machine (outcome c.args.catalog.now c.args.first) c.args.machine.now.fuel c.requires.log refl c.requires.sound c.loop-next.next _ _ c.loop-next.invariant.stands))
+pub returns-in-Err-clause-refused : goal.returns-in-Err-clause-refused
+returns-in-Err-clause-refused g c =
+    if_err _ c.refused.result (subst (HasFirstHistory c.args.catalog.now (outcome c.args.catalog.now c.args.first) c.args.machine.now.fuel ((goal.Store-dyn g c.args.store.now).tables c.args.store.now.1)) (sym c.read_at.ensures.tables) (first_history c.args.catalog.now c.args.machine.now c.loop-next.machine (outcome c.args.catalog.now c.args.first) c.args.machine.now.fuel c.requires.log refl c.requires.sound c.loop-next.next _ _ c.loop-next.invariant.stands))
 
 pub write_at-requires-clause-writing : goal.write_at-requires-clause-writing
 write_at-requires-clause-writing g c =
@@ -98,18 +99,22 @@ loop-next-preserved g c = record {
 
 pub returns-in-Err-clause-ends : goal.returns-in-Err-clause-ends
 returns-in-Err-clause-ends g c =
-    ends_as _ _ _ _ _ _ _ _ _ c.read_at.ensures.tables c.in_ok-refused-in-Err.ensures.0 (ends_read c.args.catalog.now c.args.machine.now c.loop-next.machine (outcome c.args.catalog.now c.args.first) c.args.machine.now.fuel c.requires.log refl c.requires.sound c.loop-next.next _ _ c.loop-next.invariant.stands c.in-Read.back c.in-Read.site c.in-Read.args c.in-Read.is)
+    IfOk-weaker c.refused.result _ _
+    (λ end is. ends_as _ _ _ _ _ _ _ _ _ c.read_at.ensures.tables is.0 (ends_read c.args.catalog.now c.args.machine.now c.loop-next.machine (outcome c.args.catalog.now c.args.first) c.args.machine.now.fuel c.requires.log refl c.requires.sound c.loop-next.next _ _ c.loop-next.invariant.stands c.in-Read.back c.in-Read.site c.in-Read.args c.in-Read.is))
+    c.refused.ensures
 
 pub returns-in-Err-clause-passed : goal.returns-in-Err-clause-passed
-returns-in-Err-clause-passed g c = λ other. absurd (other c.in_ok-refused-in-Err.ensures.0)
+returns-in-Err-clause-passed g c = IfOk-weaker c.refused.result _ _ (λ end is other. absurd (other is.0)) c.refused.ensures
 
-pub returns-in_err-refused-in-Err-write_at-clause-refused : goal.returns-in_err-refused-in-Err-write_at-clause-refused
-returns-in_err-refused-in-Err-write_at-clause-refused g c =
-    if_err _ c.from_residual-in_err-refused-in-Err-write_at.result (subst (HasFirstHistory c.args.catalog.now (outcome c.args.catalog.now c.args.first) c.args.machine.now.fuel ((goal.Store-dyn g c.args.store.now).tables c.args.store.now.1)) (sym c.in-Err-write_at.ensures.refused) (first_history c.args.catalog.now c.args.machine.now c.loop-next.machine (outcome c.args.catalog.now c.args.first) c.args.machine.now.fuel c.requires.log refl c.requires.sound c.loop-next.next _ _ c.loop-next.invariant.stands))
+pub returns-in-Err-write_at-clause-refused : goal.returns-in-Err-write_at-clause-refused
+returns-in-Err-write_at-clause-refused g c =
+    if_err _ c.refused-in-Err-write_at.result (subst (HasFirstHistory c.args.catalog.now (outcome c.args.catalog.now c.args.first) c.args.machine.now.fuel ((goal.Store-dyn g c.args.store.now).tables c.args.store.now.1)) (sym c.in-Err-write_at.ensures.refused) (first_history c.args.catalog.now c.args.machine.now c.loop-next.machine (outcome c.args.catalog.now c.args.first) c.args.machine.now.fuel c.requires.log refl c.requires.sound c.loop-next.next _ _ c.loop-next.invariant.stands))
 
 pub returns-in-Err-write_at-clause-ends : goal.returns-in-Err-write_at-clause-ends
 returns-in-Err-write_at-clause-ends g c =
-    ends_as _ _ _ _ _ _ _ _ _ c.in-Err-write_at.ensures.refused c.in_ok-refused-in-Err-write_at.ensures.0 (ends_write c.args.catalog.now c.args.machine.now c.loop-next.machine (outcome c.args.catalog.now c.args.first) c.args.machine.now.fuel c.requires.log refl c.requires.sound c.loop-next.next _ _ c.loop-next.invariant.stands c.in-Write.back c.in-Write.site c.in-Write.args c.in-Write.is)
+    IfOk-weaker c.refused-in-Err-write_at.result _ _
+    (λ end is. ends_as _ _ _ _ _ _ _ _ _ c.in-Err-write_at.ensures.refused is.0 (ends_write c.args.catalog.now c.args.machine.now c.loop-next.machine (outcome c.args.catalog.now c.args.first) c.args.machine.now.fuel c.requires.log refl c.requires.sound c.loop-next.next _ _ c.loop-next.invariant.stands c.in-Write.back c.in-Write.site c.in-Write.args c.in-Write.is))
+    c.refused-in-Err-write_at.ensures
 
 pub returns-in-Err-write_at-clause-passed : goal.returns-in-Err-write_at-clause-passed
-returns-in-Err-write_at-clause-passed g c = λ other. absurd (other c.in_ok-refused-in-Err-write_at.ensures.0)
+returns-in-Err-write_at-clause-passed g c = IfOk-weaker c.refused-in-Err-write_at.result _ _ (λ end is other. absurd (other is.0)) c.refused-in-Err-write_at.ensures
