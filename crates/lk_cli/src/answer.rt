@@ -269,14 +269,14 @@ pub fn print_answer(alloc: Global, answer: &Result<Answer, Refusal>) -> Result<T
     ensures { IfOk result (IsPrintedFor answer.now) }
 {
     match answer {
-        Ok(Answer::Schemes(checked)) => Ok(print_schemes(
+        Ok(Answer::Schemes(checked)) => print_schemes(
             alloc,
             checked.program.program(),
             checked.typed.schemes.as_slice(),
-        )?),
-        Ok(Answer::Queries(checked)) => Ok(print_queries(alloc, checked.queries.as_slice())?),
-        Ok(Answer::Run(done)) => Ok(report(alloc, done)?),
-        Err(refusal) => Ok(print_refusal(alloc, refusal)?),
+        ),
+        Ok(Answer::Queries(checked)) => print_queries(alloc, checked.queries.as_slice()),
+        Ok(Answer::Run(done)) => report(alloc, done),
+        Err(refusal) => print_refusal(alloc, refusal),
     }
 }
 
@@ -285,7 +285,7 @@ fn print_refusal(alloc: Global, refusal: &Refusal) -> Result<Text, OutOfMemory>
     ensures { IfOk result (λ text. text ≡ refusal_text refusal.now) }
 {
     match refusal {
-        Refusal::Words => Ok(Text::from_str(alloc, "words\n")?),
+        Refusal::Words => Text::from_str(alloc, "words\n"),
         Refusal::ReadFault(name) => line_with(alloc, "read fault", name.as_str()),
         Refusal::NotUtf8(at) => {
             let line = format!(in alloc; "refused 1 NotUtf8 {}\n", *at)?;
@@ -294,18 +294,18 @@ fn print_refusal(alloc: Global, refusal: &Refusal) -> Result<Text, OutOfMemory>
         Refusal::BadToken(at) => refused_at(alloc, 2, "BadToken", *at),
         Refusal::Unexpected(at) => refused_at(alloc, 3, "Unexpected", *at),
         Refusal::TooNested(at) => refused_at(alloc, 4, "TooNested", *at),
-        Refusal::TextTooLong => Ok(Text::from_str(alloc, "refused 5 TextTooLong\n")?),
+        Refusal::TextTooLong => Text::from_str(alloc, "refused 5 TextTooLong\n"),
         Refusal::Unbound(at) => refused_at(alloc, 6, "Unbound", *at),
         Refusal::Twice(at) => refused_at(alloc, 7, "Twice", *at),
-        Refusal::NoMain => Ok(Text::from_str(alloc, "refused 8 NoMain\n")?),
+        Refusal::NoMain => Text::from_str(alloc, "refused 8 NoMain\n"),
         Refusal::TypeTooLarge(at) => refused_at(alloc, 10, "TypeTooLarge", *at),
         Refusal::IllTyped(at) => refused_at(alloc, 11, "IllTyped", *at),
         Refusal::Shape(kind, at) => refused_shape(alloc, *kind, *at),
-        Refusal::TooManyInstances => Ok(Text::from_str(alloc, "refused 13 TooManyInstances\n")?),
+        Refusal::TooManyInstances => Text::from_str(alloc, "refused 13 TooManyInstances\n"),
         Refusal::QueryTooLarge(size, at) => refused_size(alloc, *size, *at),
         Refusal::NoStore(name) => line_with(alloc, "store", name.as_str()),
         Refusal::Tables(fault) => line_with(alloc, "tables", word_of_tables(*fault)),
-        Refusal::StoreFault => Ok(Text::from_str(alloc, "store fault\n")?),
+        Refusal::StoreFault => Text::from_str(alloc, "store fault\n"),
         Refusal::NoMemory => Ok(Text::new(alloc)),
     }
 }

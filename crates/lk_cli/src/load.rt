@@ -38,7 +38,7 @@ pub fn rows_to_load<F: Files>(
     ensures refused { IfErr result (HasNoRows (seen F.contents F.failed F.faults files.old files.new) (option_map (λ name. name.now) file.entry) defs.now) }
 {
     match file {
-        Some(name) => Ok(rows_in_file(alloc, name, defs, files, sources)?),
+        Some(name) => rows_in_file(alloc, name, defs, files, sources),
         None => Ok(empty_tables(alloc, defs)?),
     }
 }
@@ -104,7 +104,7 @@ pub fn load(
 {
     store.begin(alloc)?;
     match put_all(alloc, defs, loaded, store) {
-        Ok(()) => Ok(commit(alloc, store)?),
+        Ok(()) => commit(alloc, store),
         Err(fault) => {
             store.abort();
             Err(fault)
@@ -120,7 +120,7 @@ fn commit(alloc: Global, store: &mut dyn Store) -> Result<(), OutFault>
     ensures refused { OnErr result (tables store.new ≡ kept store.old) }
     ensures cause { HasCause (faults store.old) (faults store.new) result }
 {
-    Ok(store.commit(alloc)?)
+    store.commit(alloc)
 }
 
 /// Gives the declared tables these rows where a transaction is under way.
@@ -164,7 +164,7 @@ fn put_rows(
     ensures kept { kept store.new ≡ kept store.old }
     ensures cause { HasCause (faults store.old) (faults store.new) result }
 {
-    Ok(store.rewrite(alloc, def, rows)?)
+    store.rewrite(alloc, def, rows)
 }
 
 // ---- the last scan

@@ -74,8 +74,8 @@ fn line_of_event(alloc: Global, event: &Event) -> Result<Text, NoMemory>
             let line = format!(in alloc; "print {}\n", printed.as_str())?;
             Ok(Text::from_string(line))
         }
-        Event::Enter => Ok(Text::from_str(alloc, "enter\n")?),
-        Event::Leave => Ok(Text::from_str(alloc, "leave\n")?),
+        Event::Enter => Text::from_str(alloc, "enter\n"),
+        Event::Leave => Text::from_str(alloc, "leave\n"),
         Event::Read(read) => {
             let args = values_text(alloc, read.args.as_slice())?;
             let answer = value_text(alloc, &rows_value(alloc, read.answer.as_slice())?)?;
@@ -109,7 +109,7 @@ fn line_of_end(alloc: Global, end: &End, used: u64) -> Result<Text, NoMemory>
             let line = format!(in alloc; "trap {} {}\n", used, name_of_trap(*trap))?;
             Ok(Text::from_string(line))
         }
-        End::Spent => Ok(Text::from_str(alloc, "spent\n")?),
+        End::Spent => Text::from_str(alloc, "spent\n"),
         End::TableFull(size) => {
             let line = format!(in alloc; "table-full {}\n", *size)?;
             Ok(Text::from_string(line))
