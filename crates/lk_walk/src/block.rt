@@ -57,7 +57,7 @@ fn end(alloc: Global, walker: &mut Walker, block: Block, number: u32) -> Result<
         None => {
             walker.names.pop();
             let own = only(alloc, Ty::Var(number), walker.next);
-            Ok(walker.leave(alloc, block.span, block.slot, own)?)
+            walker.leave(alloc, block.span, block.slot, own)
         }
         Some(first) => {
             let own = Own {
@@ -65,7 +65,7 @@ fn end(alloc: Global, walker: &mut Walker, block: Block, number: u32) -> Result<
                 equations: one(alloc, same(Ty::Var(first), unit(alloc)))?,
                 next: walker.next,
             };
-            Ok(walker.leave(alloc, block.span, block.slot, own)?)
+            walker.leave(alloc, block.span, block.slot, own)
         }
     }
 }

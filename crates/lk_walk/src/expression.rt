@@ -249,14 +249,14 @@ fn case<'p>(
             let ty = unit(alloc);
             let body = expr(alloc, context, walker, &case.body)?;
             tags.push(TyField { label, ty })?;
-            Ok(types.push(Ty::Var(body))?)
+            types.push(Ty::Var(body))
         }
         Some(name) => {
             let held = walker.number()?;
             let body = under(alloc, context, walker, &case.body, name, Ty::Var(held))?;
             let ty = Ty::Var(held);
             tags.push(TyField { label, ty })?;
-            Ok(types.push(Ty::Var(body))?)
+            types.push(Ty::Var(body))
         }
     }
 }
@@ -318,7 +318,7 @@ fn change<'p>(
     ensures { IfOk result (λ own. Inner at (change_walked at context.now.globals.now rows.now walker.old.names context.now.effects.now walker.old.next) walker.old walker.new (as_own own)) }
 {
     let Some(table) = context.globals.tables.get(alloc, rows.table.text.as_str())? else {
-        return Ok(never(alloc, walker.next)?);
+        return never(alloc, walker.next);
     };
     let effects = no_effects(alloc);
     let inner = Context {
@@ -333,7 +333,7 @@ fn change<'p>(
     let cond = expr(alloc, &inner, walker, &rows.cond)?;
     fields_in(alloc, &inner, walker, sets, &mut types)?;
     walker.names.pop();
-    Ok(change_own(
+    change_own(
         alloc,
         context.effects,
         table,
@@ -341,7 +341,7 @@ fn change<'p>(
         sets,
         types.as_slice(),
         walker.next,
-    )?)
+    )
 }
 
 /// Walks through an expression that binds no name.
@@ -357,7 +357,7 @@ fn plain<'p>(
     let node = e.node.get();
     let mut types = List::new(alloc);
     parts(alloc, context, walker, node, &mut types)?;
-    Ok(own_of(
+    own_of(
         alloc,
         context.globals,
         &walker.names,
@@ -365,7 +365,7 @@ fn plain<'p>(
         node,
         types,
         walker.next,
-    )?)
+    )
 }
 
 /// Walks through the parts of what binds no name, and notes their types.
@@ -459,7 +459,7 @@ fn part<'p>(
     ensures types { OnOk result (types.new ≡ types.old ++ type_at (walk_in context.now.globals.now e.now) context.now.effects.now walker.old ∷ []) }
 {
     let number = expr(alloc, context, walker, e)?;
-    Ok(types.push(Ty::Var(number))?)
+    types.push(Ty::Var(number))
 }
 
 /// Walks through expressions, and notes their types.

@@ -117,7 +117,7 @@ impl<'p> Walker<'p> {
         ensures { OnOk result (self.new ≡ told_by at (as_told told) self.old) }
     {
         self.next = told.next;
-        Ok(self.say(at, told.equations)?)
+        self.say(at, told.equations)
     }
 
     /// Enters a node. The answer is its place among the nodes.

@@ -48,8 +48,9 @@ node-returns-in_default t c =
     c.plain.ensures
 
 pub plain-returns : goal.plain-returns
-plain-returns t c = plain_inner c.args.context.now.globals.now c.args.e.now (out-Node c.get-node.result.now) c.args.context.now.effects.now c.args.walker.now c.parts.new.walker c.parts.new.types c.new-types.result (as_own c.in_ok-own_of.field-0)
-    (ap out-Node c.get-node.ensures) c.new-types.ensures c.in_ok-parts.ensures.walked c.in_ok-parts.ensures.types c.in_ok-own_of.ensures
+plain-returns t c = IfOk-weaker c.own_of.result _ _ (λ own is. plain_inner c.args.context.now.globals.now c.args.e.now (out-Node c.get-node.result.now) c.args.context.now.effects.now c.args.walker.now c.parts.new.walker c.parts.new.types c.new-types.result (as_own own)
+    (ap out-Node c.get-node.ensures) c.new-types.ensures c.in_ok-parts.ensures.walked c.in_ok-parts.ensures.types is)
+    c.own_of.ensures
 
 pub parts-returns-in_ok-fields_in-in-Extend-clause-walked : goal.parts-returns-in_ok-fields_in-in-Extend-clause-walked
 parts-returns-in_ok-fields_in-in-Extend-clause-walked t c =
@@ -79,9 +80,9 @@ lambda-returns t c = IfOk-weaker c.lambda_own.result _ _ (λ own is. lambda_inne
     c.lambda_own.ensures
 
 pub change-returns : goal.change-returns
-change-returns t c = change_inner c.args.at c.args.context.now.globals.now c.args.rows.now c.args.context.now.effects.now c.no_effects-effects.result c.args.walker.now
+change-returns t c = IfOk-weaker c.change_own.result _ _ (λ own is. change_inner c.args.at c.args.context.now.globals.now c.args.rows.now c.args.context.now.effects.now c.no_effects-effects.result c.args.walker.now
     (record { names = c.push.new.self; types = c.args.walker.now.types; steps = c.args.walker.now.steps; next = c.args.walker.now.next }) c.expr.new.walker c.fields_in.new.walker _
-    c.in-Some.table.now c.in_ok-row_of.field-0 c.in_ok-cond.cond c.fields_in.new.types (as_own c.in_ok-change_own.field-0)
+    c.in-Some.table.now c.in_ok-row_of.field-0 c.in_ok-cond.cond c.fields_in.new.types (as_own own)
     (ap (table_named c.args.context.now.globals.now.tables.now) (sym c.as_str.ensures) ∙ sym c.in_ok-table.ensures ∙ ap option_copied c.in-Some.is)
     c.in_ok-row_of.ensures c.no_effects-effects.ensures
     (ap (λ names. record { names = names; types = c.args.walker.now.types; steps = c.args.walker.now.steps; next = c.args.walker.now.next }) (c.in_ok-push.ensures ∙ ap (λ x. (x, c.in_ok-row_of.field-0) ∷ c.args.walker.now.names) c.as_str-2.ensures))
@@ -89,7 +90,8 @@ change-returns t c = change_inner c.args.at c.args.context.now.globals.now c.arg
     (c.in_ok-fields_in.ensures.walked ∙ ap (λ sets. went_all (map (walk_in c.args.context.now.globals.now) (map expr_of sets)) c.no_effects-effects.result c.expr.new.walker) c.as_slice-sets.ensures)
     (c.in_ok-fields_in.ensures.types ∙ ap₂ (λ sets none. types_all (map (walk_in c.args.context.now.globals.now) (map expr_of sets)) c.no_effects-effects.result c.expr.new.walker none) c.as_slice-sets.ensures c.new-types.ensures)
     (ap (λ names. record { names = names; types = c.fields_in.new.walker.types; steps = c.fields_in.new.walker.steps; next = c.fields_in.new.walker.next }) c.pop.ensures)
-    (c.in_ok-change_own.ensures ∙ ap₂ (λ sets types. set_own c.args.context.now.effects.now (row_of c.in-Some.table.now) (ty.Var c.in_ok-cond.cond) (labelled (labels_of sets) types) c.fields_in.new.walker.next) c.as_slice-sets.ensures c.as_slice.ensures)
+    (is ∙ ap₂ (λ sets types. set_own c.args.context.now.effects.now (row_of c.in-Some.table.now) (ty.Var c.in_ok-cond.cond) (labelled (labels_of sets) types) c.fields_in.new.walker.next) c.as_slice-sets.ensures c.as_slice.ensures))
+    c.change_own.ensures
 
 pub node-returns-in-Update : goal.node-returns-in-Update
 node-returns-in-Update t c = as_form c.args.context.now.globals.now c.args.e.now (change_walked c.args.e.now.span c.args.context.now.globals.now c.in-Update.rows) c.args.context.now.effects.now c.args.walker.now c.change.new.walker c.change.result as_own
