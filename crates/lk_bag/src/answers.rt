@@ -9,7 +9,8 @@ ghost use Rattle.std.specs.Prelude.{◌≡◌, IfOk, IfSome, IsPermutation, IsSo
 use crate::captured::names_in;
 use crate::rows::rows_in;
 use crate::sort::sorted;
-use crate::walk::{items_of, query_value, rows_under};
+use crate::values::items_of;
+use crate::walk::{query_value, rows_under};
 use lk_ast::{Expr, List, NoMemory, Node, Row, SortKey, TableRows, Value, copy_rows};
 use lk_index::Index;
 use std::alloc::Global;

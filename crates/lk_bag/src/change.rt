@@ -13,7 +13,8 @@ ghost use Rattle.std.specs.Option.{option_copied};
 ghost use Rattle.std.specs.Prelude.{◌≡◌, IfOk, [], map, find, not, unwrap_or};
 
 use crate::captured::names_in;
-use crate::walk::{is_true, query_value};
+use crate::values::is_true;
+use crate::walk::query_value;
 use lk_ast::{Base, Cell, ChangeExpr, Expr, List, NoMemory, PartExpr, Row, Text, Value, row_value};
 use lk_index::Index;
 use lk_locals::Locals;

@@ -9,6 +9,7 @@ mod order;
 mod rows;
 mod sort;
 mod tables;
+mod values;
 mod walk;
 
 pub use answers::answer;

@@ -3,27 +3,26 @@
 ghost use Rattle.lk_ast.specs.Children.{exprs_of};
 ghost use Rattle.lk_ast.specs.Tables.{rows_of};
 ghost use Rattle.lk_ast.specs.declared.expression.Node.{out-Node};
-ghost use Rattle.lk_ast.specs.declared.value.Value.TheVariants as value_at;
 ghost use Rattle.lk_bag.specs.Bag.{called, for_each, given, gives, items, value_of};
 ghost use Rattle.lk_bag.specs.Change.{is_true};
 ghost use Rattle.lk_bag.specs.Forms.{all_given, choice_given, form_given, operation_given};
 ghost use Rattle.lk_operators.specs.Operators.{operated};
-ghost use Rattle.lk_operators.specs.Values.{bool_in, unit};
-ghost use Rattle.lk_locals.specs.Names.{lookup};
-ghost use Rattle.std.specs.Prelude.{◌≡◌, ◌++◌, IfOk, OnOk, unwrap_or};
+ghost use Rattle.lk_operators.specs.Values.{bool_in};
+ghost use Rattle.lk_locals.specs.Names.{bind};
+ghost use Rattle.std.specs.Prelude.{◌≡◌, ◌++◌, ◌∷◌, [], IfOk, OnOk};
 
+use crate::values::{done, is_true, items_of, named, unit_value};
 use lk_ast::{
-    Base, Expr, List, NoMemory, Node, PartExpr, Row, TableRows, Text, Value, Word, copy_value,
-    first_statement, rows_value,
+    Base, Expr, List, NoMemory, Node, PartExpr, Row, TableRows, Text, Value, Word, first_statement,
+    rows_value,
 };
 use lk_index::Index;
 use lk_locals::Locals;
-use lk_operators::{Outcome, operate};
 use std::alloc::Global;
 
 /// How deep parts and calls may stand in one another, each of which takes a piece of the stack. The statements of a block
 /// are one level together.
-const ROOM: usize = 2048;
+const ROOM: usize = 4_096;
 
 /// What a query is over: a program with its index, and tables.
 #[derive(Drop)]
@@ -34,7 +33,7 @@ struct Over<'a, 'p> {
 }
 
 /// What an expression gives in a query over these tables, under these names. `NoMemory` where memory runs out, and where
-/// parts and calls stand more than 2,048 deep in one another, since each takes a piece of the stack.
+/// parts and calls stand more than 4,096 deep in one another, since each takes a piece of the stack.
 pub fn query_value<'p>(
     alloc: Global,
     index: &Index<'p>,
@@ -82,6 +81,7 @@ fn value<'p>(
 
 /// What a node gives.
 #[cycle(walk)]
+#[inline(never)]
 fn form<'p>(
     over: &Over<'_, 'p>,
     calls: usize,
@@ -93,29 +93,94 @@ fn form<'p>(
 {
     match node {
         Node::Name(name) => named(over.alloc, name, names),
-        Node::Call(name, args) => {
-            let args = values(over, calls, room, args.as_slice(), names)?;
-            call(over, calls, room, &name.text, args)
-        }
-        Node::Var(name, e, rest) => {
-            let bound = value(over, calls, room, e, names)?;
-            let inner = names.share()?.bind(over.alloc, name.text.as_str(), bound)?;
-            value(over, calls, room, rest, &inner)
-        }
+        Node::Call(name, args) => call_on(over, calls, room, &name.text, args.as_slice(), names),
+        Node::Var(name, e, rest) => variable(over, calls, room, name, e, rest, names),
         Node::Seq(_, e) | Node::Query(_, e) => value(over, calls, room, e, names),
         Node::ForList(name, e, body) | Node::ForTable(name, e, body) => {
-            let elements = value(over, calls, room, e, names)?;
-            let elements = items_of(over.alloc, elements);
-            for_each(over, calls, room, name, elements, body, names)
+            loop_over(over, calls, room, name, e, body, names)
         }
         Node::Table(name) => rows_value(over.alloc, rows_under(over.tables, &name.text)),
-        node => choice(over, calls, room, node, names),
+        Node::If(_, _, _) | Node::And(_, _) | Node::Or(_, _) | Node::Where(_, _) => choice(
+            over, calls, room, node, names,
+        ),
+        node => operation(over, calls, room, node, names),
     }
+}
+
+/// A call of the function of that name: what its arguments give, and then its body.
+#[cycle(walk)]
+#[inline(never)]
+fn call_on<'p>(
+    over: &Over<'_, 'p>,
+    calls: usize,
+    room: usize,
+    name: &Text,
+    args: &'p [Expr],
+    names: &Locals<'p>,
+) -> Result<Value, NoMemory>
+    ensures { IfOk result (λ value. value ≡ called over.now.index.now (rows_of over.now.tables.now) calls name.now (all_given (rows_of over.now.tables.now) (called over.now.index.now (rows_of over.now.tables.now) calls) args.now names.now)) }
+{
+    let args = values(over, calls, room, args, names)?;
+    call(over, calls, room, name, args)
+}
+
+/// What the rest of a block gives under one name more.
+#[cycle(walk)]
+#[inline(never)]
+fn variable<'p>(
+    over: &Over<'_, 'p>,
+    calls: usize,
+    room: usize,
+    name: &'p Word,
+    e: &'p Expr,
+    rest: &'p Expr,
+    names: &Locals<'p>,
+) -> Result<Value, NoMemory>
+    ensures { IfOk result (λ value. value ≡ given (rows_of over.now.tables.now) (called over.now.index.now (rows_of over.now.tables.now) calls) rest.now (bind name.now.text (given (rows_of over.now.tables.now) (called over.now.index.now (rows_of over.now.tables.now) calls) e.now names.now) names.now)) }
+{
+    let bound = value(over, calls, room, e, names)?;
+    let inner = names.share()?.bind(over.alloc, name.text.as_str(), bound)?;
+    value(over, calls, room, rest, &inner)
+}
+
+/// What a loop over a list gives.
+#[cycle(walk)]
+#[inline(never)]
+fn loop_over<'p>(
+    over: &Over<'_, 'p>,
+    calls: usize,
+    room: usize,
+    name: &'p Word,
+    e: &'p Expr,
+    body: &'p Expr,
+    names: &Locals<'p>,
+) -> Result<Value, NoMemory>
+    ensures { IfOk result (λ value. value ≡ for_each name.now.text (items (given (rows_of over.now.tables.now) (called over.now.index.now (rows_of over.now.tables.now) calls) e.now names.now)) (given (rows_of over.now.tables.now) (called over.now.index.now (rows_of over.now.tables.now) calls) body.now) names.now) }
+{
+    let elements = value(over, calls, room, e, names)?;
+    let elements = items_of(over.alloc, elements);
+    for_each(over, calls, room, name, elements, body, names)
+}
+
+/// Whether a condition holds.
+#[cycle(walk)]
+#[inline(never)]
+fn holds<'p>(
+    over: &Over<'_, 'p>,
+    calls: usize,
+    room: usize,
+    e: &'p Expr,
+    names: &Locals<'p>,
+) -> Result<bool, NoMemory>
+    ensures { IfOk result (λ truth. truth ≡ is_true (bool_in (given (rows_of over.now.tables.now) (called over.now.index.now (rows_of over.now.tables.now) calls) e.now names.now))) }
+{
+    Ok(is_true(&value(over, calls, room, e, names)?))
 }
 
 /// What a choice gives.
 #[cycle(walk)]
 #[tactic(auto, using(crate::proofs::Forms::chosen_by))]
+#[inline(never)]
 fn choice<'p>(
     over: &Over<'_, 'p>,
     calls: usize,
@@ -127,28 +192,28 @@ fn choice<'p>(
 {
     match node {
         Node::If(c, then, other) => {
-            if is_true(&value(over, calls, room, c, names)?) {
+            if holds(over, calls, room, c, names)? {
                 value(over, calls, room, then, names)
             } else {
                 value(over, calls, room, other, names)
             }
         }
         Node::And(a, b) => {
-            if is_true(&value(over, calls, room, a, names)?) {
+            if holds(over, calls, room, a, names)? {
                 value(over, calls, room, b, names)
             } else {
                 Ok(Value::Base(Base::Bool(false)))
             }
         }
         Node::Or(a, b) => {
-            if is_true(&value(over, calls, room, a, names)?) {
+            if holds(over, calls, room, a, names)? {
                 Ok(Value::Base(Base::Bool(true)))
             } else {
                 value(over, calls, room, b, names)
             }
         }
         Node::Where(c, e) => {
-            if is_true(&value(over, calls, room, c, names)?) {
+            if holds(over, calls, room, c, names)? {
                 value(over, calls, room, e, names)
             } else {
                 Ok(Value::List(List::new(over.alloc)))
@@ -160,6 +225,7 @@ fn choice<'p>(
 
 /// What an operation gives. What has no value in a query gives the unit value.
 #[cycle(walk)]
+#[inline(never)]
 fn operation<'p>(
     over: &Over<'_, 'p>,
     calls: usize,
@@ -186,12 +252,7 @@ fn operation<'p>(
         | Node::Lt(a, b)
         | Node::Le(a, b)
         | Node::Gt(a, b)
-        | Node::Ge(a, b) => {
-            let mut operands = List::new(over.alloc);
-            operands.push(value(over, calls, room, a, names)?)?;
-            operands.push(value(over, calls, room, b, names)?)?;
-            done(over.alloc, node, operands)
-        }
+        | Node::Ge(a, b) => two_operands(over, calls, room, node, a, b, names),
         Node::Neg(e)
         | Node::Not(e)
         | Node::Hd(e)
@@ -199,24 +260,10 @@ fn operation<'p>(
         | Node::Empty(e)
         | Node::IntToString(e)
         | Node::Project(e, _)
-        | Node::Tag(_, e) => {
-            let mut operands = List::new(over.alloc);
-            operands.push(value(over, calls, room, e, names)?)?;
-            done(over.alloc, node, operands)
-        }
-        Node::List(list) => {
-            let operands = values(over, calls, room, list.as_slice(), names)?;
-            done(over.alloc, node, operands)
-        }
-        Node::Record(parts) => {
-            let operands = part_values(over, calls, room, parts.as_slice(), names)?;
-            done(over.alloc, node, operands)
-        }
-        Node::Extend(parts, e) => {
-            let mut operands = part_values(over, calls, room, parts.as_slice(), names)?;
-            operands.push(value(over, calls, room, e, names)?)?;
-            done(over.alloc, node, operands)
-        }
+        | Node::Tag(_, e) => one_operand(over, calls, room, node, e, names),
+        Node::List(list) => list_of(over, calls, room, node, list.as_slice(), names),
+        Node::Record(parts) => record_of(over, calls, room, node, parts.as_slice(), names),
+        Node::Extend(parts, e) => extension(over, calls, room, node, parts.as_slice(), e, names),
         Node::Name(_)
         | Node::Function(_)
         | Node::Lambda(_)
@@ -240,8 +287,100 @@ fn operation<'p>(
     }
 }
 
+/// What an operation on one part gives.
+#[cycle(walk)]
+#[inline(never)]
+fn one_operand<'p>(
+    over: &Over<'_, 'p>,
+    calls: usize,
+    room: usize,
+    node: &Node,
+    e: &'p Expr,
+    names: &Locals<'p>,
+) -> Result<Value, NoMemory>
+    ensures { IfOk result (λ value. value ≡ value_of (operated (out-Node node.now) (all_given (rows_of over.now.tables.now) (called over.now.index.now (rows_of over.now.tables.now) calls) (e.now ∷ []) names.now))) }
+{
+    let mut operands = List::new(over.alloc);
+    operands.push(value(over, calls, room, e, names)?)?;
+    done(over.alloc, node, operands)
+}
+
+/// What an operation on two parts gives.
+#[cycle(walk)]
+#[inline(never)]
+fn two_operands<'p>(
+    over: &Over<'_, 'p>,
+    calls: usize,
+    room: usize,
+    node: &Node,
+    a: &'p Expr,
+    b: &'p Expr,
+    names: &Locals<'p>,
+) -> Result<Value, NoMemory>
+    ensures { IfOk result (λ value. value ≡ value_of (operated (out-Node node.now) (all_given (rows_of over.now.tables.now) (called over.now.index.now (rows_of over.now.tables.now) calls) (a.now ∷ b.now ∷ []) names.now))) }
+{
+    let mut operands = List::new(over.alloc);
+    operands.push(value(over, calls, room, a, names)?)?;
+    operands.push(value(over, calls, room, b, names)?)?;
+    done(over.alloc, node, operands)
+}
+
+/// What a list gives.
+#[cycle(walk)]
+#[inline(never)]
+fn list_of<'p>(
+    over: &Over<'_, 'p>,
+    calls: usize,
+    room: usize,
+    node: &Node,
+    list: &'p [Expr],
+    names: &Locals<'p>,
+) -> Result<Value, NoMemory>
+    ensures { IfOk result (λ value. value ≡ value_of (operated (out-Node node.now) (all_given (rows_of over.now.tables.now) (called over.now.index.now (rows_of over.now.tables.now) calls) list.now names.now))) }
+{
+    let operands = values(over, calls, room, list, names)?;
+    done(over.alloc, node, operands)
+}
+
+/// What a record gives.
+#[cycle(walk)]
+#[inline(never)]
+fn record_of<'p>(
+    over: &Over<'_, 'p>,
+    calls: usize,
+    room: usize,
+    node: &Node,
+    parts: &'p [PartExpr],
+    names: &Locals<'p>,
+) -> Result<Value, NoMemory>
+    ensures { IfOk result (λ value. value ≡ value_of (operated (out-Node node.now) (all_given (rows_of over.now.tables.now) (called over.now.index.now (rows_of over.now.tables.now) calls) (exprs_of parts.now) names.now))) }
+{
+    let operands = part_values(over, calls, room, parts, names)?;
+    done(over.alloc, node, operands)
+}
+
+/// What fields before a record give.
+#[cycle(walk)]
+#[inline(never)]
+fn extension<'p>(
+    over: &Over<'_, 'p>,
+    calls: usize,
+    room: usize,
+    node: &Node,
+    parts: &'p [PartExpr],
+    e: &'p Expr,
+    names: &Locals<'p>,
+) -> Result<Value, NoMemory>
+    ensures { IfOk result (λ value. value ≡ value_of (operated (out-Node node.now) (all_given (rows_of over.now.tables.now) (called over.now.index.now (rows_of over.now.tables.now) calls) (exprs_of parts.now ++ e.now ∷ []) names.now))) }
+{
+    let mut operands = part_values(over, calls, room, parts, names)?;
+    operands.push(value(over, calls, room, e, names)?)?;
+    done(over.alloc, node, operands)
+}
+
 /// What expressions give, each by itself.
 #[cycle(walk)]
+#[inline(never)]
 fn values<'p>(
     over: &Over<'_, 'p>,
     calls: usize,
@@ -260,6 +399,7 @@ fn values<'p>(
 
 /// What the expressions of `l = e, m = d` give.
 #[cycle(walk)]
+#[inline(never)]
 fn part_values<'p>(
     over: &Over<'_, 'p>,
     calls: usize,
@@ -278,6 +418,7 @@ fn part_values<'p>(
 
 /// The lists that a body gives for each of these elements in turn, one behind the other.
 #[cycle(walk)]
+#[inline(never)]
 fn for_each<'p>(
     over: &Over<'_, 'p>,
     calls: usize,
@@ -320,54 +461,6 @@ fn call<'p>(
     match none.bind_all(over.alloc, function.params.as_slice(), args)? {
         Some(inner) => Ok(value(over, calls - 1, room, &function.body, &inner)?),
         None => Ok(Value::List(List::new(over.alloc))),
-    }
-}
-
-/// The value of a name.
-fn named(alloc: Global, name: &Text, names: &Locals) -> Result<Value, NoMemory>
-    ensures { IfOk result (λ value. value ≡ unwrap_or (lookup names.now name.now) unit) }
-{
-    match names.get(name.as_str()) {
-        Some(value) => copy_value(alloc, value),
-        None => Ok(unit_value(alloc)),
-    }
-}
-
-/// What a node gives with the values of its parts.
-fn done(alloc: Global, node: &Node, values: List<Value>) -> Result<Value, NoMemory>
-    ensures { IfOk result (λ value. value ≡ value_of (operated (out-Node node.now) values)) }
-{
-    match operate(alloc, node, values)? {
-        Outcome::Value(value) => Ok(value),
-        Outcome::Trap(_) => Ok(unit_value(alloc)),
-        Outcome::NoRule => Ok(unit_value(alloc)),
-    }
-}
-
-/// The unit value.
-fn unit_value(alloc: Global) -> Value
-    ensures { result ≡ unit }
-{
-    Value::Fields(List::new(alloc))
-}
-
-/// Whether a value is `true`.
-pub fn is_true(value: &Value) -> bool
-    ensures { result ≡ is_true (bool_in value.now) }
-{
-    match value {
-        Value::Base(Base::Bool(truth)) => *truth,
-        _ => false,
-    }
-}
-
-/// The elements of a list, and none of another value.
-pub fn items_of(alloc: Global, value: Value) -> List<Value>
-    ensures { result ≡ items value }
-{
-    match value {
-        Value::List(elements) => elements,
-        _ => List::new(alloc),
     }
 }
 

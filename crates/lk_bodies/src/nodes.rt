@@ -17,7 +17,7 @@ struct At<'i, 'p> {
 }
 
 /// What is left of so many nodes behind those of a query and of the bodies that it calls, and `None` where there are more.
-/// `NoMemory` where parts and calls stand more than 2,048 deep in one another, since each takes a piece of the stack.
+/// `NoMemory` where parts and calls stand more than 4,096 deep in one another, since each takes a piece of the stack.
 pub fn count_nodes<'p>(index: &Index<'p>, e: &'p Expr, most: u32) -> Result<Option<u32>, NoMemory>
     ensures { IfOk result (λ found. found ≡ spent most (query_nodes index.now e.now)) }
 {

@@ -27,7 +27,7 @@ struct Found<'g, 'p> {
 }
 
 /// The local names that a query's body uses from outside, in text order, by the types of its nodes in text order.
-/// `NoMemory` also where parts stand more than 2,048 deep in one another.
+/// `NoMemory` also where parts stand more than 4,096 deep in one another.
 pub fn query_uses<'g, 'p>(
     alloc: Global,
     body: &'p Expr,

@@ -43,7 +43,7 @@ pub struct At<'o, 'g, 'p> {
 }
 
 /// The part of an expression, where so many calls may stand one in the other. `NoMemory` also where parts and calls stand more than
-/// 2,048 deep in one another.
+/// 4,096 deep in one another.
 pub fn walk_expr<'g, 'p>(
     over: &Over<'g, 'p>,
     calls: usize,
@@ -119,6 +119,7 @@ pub fn expr<'g, 'p>(
 /// The part of a node, by the types of the nodes from it on.
 #[cycle(walk)]
 #[tactic(auto, unfolding(crate::specs::Walk::walk, crate::specs::Walk::walk_node, crate::specs::Walk::walk_part))]
+#[inline(never)]
 fn node<'g, 'p>(
     at: &At<'_, 'g, 'p>,
     room: usize,
@@ -246,6 +247,7 @@ pub fn under<'g, 'p>(
 
 /// A call: the parts of the helper's body.
 #[cycle(walk)]
+#[inline(never)]
 fn call<'g, 'p>(
     at: &At<'_, 'g, 'p>,
     room: usize,
@@ -270,6 +272,7 @@ fn call<'g, 'p>(
 
 /// The body of a helper, whose parameters stand for these parts.
 #[cycle(walk)]
+#[inline(never)]
 fn enter<'g, 'p>(
     at: &At<'_, 'g, 'p>,
     room: usize,

@@ -76,7 +76,7 @@ impl<'g, 'p> Inliner<'g, 'p> {
     }
 
     /// What stands at a site. `TooManyNodes` where with the bodies of what it calls it has more than 65,536 nodes.
-    /// `NoMemory` where memory runs out, or where parts and calls stand more than 2,048 deep in one another.
+    /// `NoMemory` where memory runs out, or where parts and calls stand more than 4,096 deep in one another.
     pub fn inline(&self, alloc: Global, site: &QuerySite<'g, 'p>) -> Result<Inlined, InlineError>
         ensures inlined { IfOk result (λ found. inlined_at self.now.program.now self.now.helpers (shown site.now) ≡ Some found) }
         ensures counted { IfOk result (λ _. query_nodes self.now.program.now site.now.expr.now ≤ 65536) }

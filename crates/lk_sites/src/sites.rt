@@ -14,7 +14,7 @@ use lk_types::Ground;
 use std::alloc::Global;
 
 /// How deep parts may stand in one another, each of which takes a piece of the stack.
-const ROOM: usize = 2048;
+const ROOM: usize = 4_096;
 
 /// The next label, what is still to come in the body that is visited, and what was found so far.
 #[derive(Drop)]
@@ -26,7 +26,7 @@ struct Tour<'g, 'p> {
 }
 
 /// The queries, readings of tables, updates and deletions of a ground program's instances, each once, in the order of their labels.
-/// `NoMemory` where parts stand more than 2,048 deep in one another, since each takes a piece of the stack, and where there are 2^32
+/// `NoMemory` where parts stand more than 4,096 deep in one another, since each takes a piece of the stack, and where there are 2^32
 /// labels.
 pub fn query_sites<'g, 'p>(
     alloc: Global,

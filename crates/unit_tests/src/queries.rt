@@ -38,14 +38,14 @@ fn is_answered(alloc: Global, program: &Program, query: &Expr) -> Result<bool, N
     Ok(answer(alloc, &index, &[], query, &[]).is_ok())
 }
 
-// One level more than 2,048 ends as want of memory.
+// One level more than 4,096 ends as want of memory.
 #[test]
 fn as_deep_as_may_be(rt: HostRuntime) -> Result<(), Fail> {
     let alloc = rt.alloc();
     let program = Program {
         decls: List::new(alloc),
     };
-    assert!(rt; is_answered(alloc, &program, &negations(alloc, 2_045)?)?);
-    assert!(rt; !is_answered(alloc, &program, &negations(alloc, 2_046)?)?);
+    assert!(rt; is_answered(alloc, &program, &negations(alloc, 4_093)?)?);
+    assert!(rt; !is_answered(alloc, &program, &negations(alloc, 4_094)?)?);
     Ok(())
 }

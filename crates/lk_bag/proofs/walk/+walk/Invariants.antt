@@ -10,19 +10,46 @@ use Rattle.lk_bag.proofs.walk.+walk.Given as goal
 
 -- each part has less room than what it stands in
 abbrev level : ℕ → ℕ
-level room = room * 5
+level room = room * 8
 
 abbrev pub decreases-value : goal.decreases-value
 decreases-value l = level l.room
 
 abbrev pub decreases-form : goal.decreases-form
-decreases-form l = level l.room + 4
+decreases-form l = level l.room + 7
 
 abbrev pub decreases-choice : goal.decreases-choice
-decreases-choice l = level l.room + 3
+decreases-choice l = level l.room + 6
 
 abbrev pub decreases-operation : goal.decreases-operation
-decreases-operation l = level l.room + 2
+decreases-operation l = level l.room + 5
+
+abbrev pub decreases-call_on : goal.decreases-call_on
+decreases-call_on l = level l.room + 4
+
+abbrev pub decreases-variable : goal.decreases-variable
+decreases-variable l = level l.room + 4
+
+abbrev pub decreases-loop_over : goal.decreases-loop_over
+decreases-loop_over l = level l.room + 4
+
+abbrev pub decreases-holds : goal.decreases-holds
+decreases-holds l = level l.room + 4
+
+abbrev pub decreases-one_operand : goal.decreases-one_operand
+decreases-one_operand l = level l.room + 4
+
+abbrev pub decreases-two_operands : goal.decreases-two_operands
+decreases-two_operands l = level l.room + 4
+
+abbrev pub decreases-list_of : goal.decreases-list_of
+decreases-list_of l = level l.room + 4
+
+abbrev pub decreases-record_of : goal.decreases-record_of
+decreases-record_of l = level l.room + 4
+
+abbrev pub decreases-extension : goal.decreases-extension
+decreases-extension l = level l.room + 4
 
 abbrev pub decreases-values : goal.decreases-values
 decreases-values l = level l.room + 1
