@@ -1,6 +1,7 @@
 -- A node more, with all that is said of it.
 use Rattle.std.proofs.Common.{◌≡◌, ℕ, ◌<◌, List, [], ◌∷◌, ◌++◌, length, ◌∙◌, ap, sym}
 use Rattle.lk_types.specs.Each.{Each}
+use Rattle.lk_arena.proofs.Covering.{covers_push}
 use Rattle.lk_arena.proofs.Growth.{HasNode-push, WeakNodes-push, built_push, IsArena-push, more_count, new_class, new_shape, old_class, old_shape}
 use Rattle.lk_arena.proofs.Kinded.{kinds_add}
 use Rattle.lk_arena.proofs.Weights.{weight-push}
@@ -21,6 +22,7 @@ adds shapes classes s more names n arena parts distinct filled a b c = record {
   old_shapes = λ i h. ap (λ ss. shape_at ss i) a ∙ old_shape shapes classes s arena parts i h;
   old_classes = λ i h. ap (λ cs. class_at cs i) b ∙ old_class shapes classes s arena parts i h;
   back = WeakNodes-push shapes classes s more names n arena parts a b c;
+  covers = covers_push shapes classes s more names arena parts a b;
   built = built_push shapes classes s more names n arena parts a b c;
   forth = HasNode-push shapes classes s more names n arena parts a b c;
   kinds = λ kind k kinded own. kinds_add shapes classes s arena parts kind k kinded own more names n a b c;

@@ -1,14 +1,16 @@
 -- Fields before another row in the place of a row of which nothing was known.
-use Rattle.std.proofs.Common.{◌≡◌, ◌≢◌, ℕ, ◌<◌, ⊎_elim, List, ◌∷◌, length, length-set, map, set, refl, sym, subst, arith}
+use Rattle.std.proofs.Common.{◌≡◌, ◌≢◌, ℕ, ◌+◌, ◌<◌, ◌≤◌, ⊎_elim, List, [], ◌∷◌, length, length-set, map, set, refl, sym, ◌∙◌, ap, subst, arith}
 use Rattle.std.proofs.lemmas.Bool.{cases_eq}
 use Rattle.std.proofs.lemmas.List.{get_or-set_same, get_or-set_other}
 use Rattle.lk_types.proofs.Members.{each_to_map}
 use Rattle.lk_types.specs.Each.{Each}
+use Rattle.lk_arena.proofs.Covering.{row_covered}
 use Rattle.lk_arena.proofs.Growth.{HasFields-some}
 use Rattle.lk_arena.proofs.Kinded.{kinds_bind}
 use Rattle.lk_arena.proofs.Weights.{weight-bind}
+use Rattle.lk_arena.specs.Covering.{fields_count, Covers, IsCovered}
 use Rattle.lk_arena.specs.Measures.{weight}
-use Rattle.lk_arena.specs.Shapes.{shape_at, parts_of, IsArena, IsBuilt, IsDistinct, IsRowOf, FitsNodes, WeakNodes, HasFields, fields_in}
+use Rattle.lk_arena.specs.Shapes.{shape_at, is_loose_shape, parts_of, IsArena, IsBuilt, IsDistinct, IsRowOf, FitsNodes, WeakNodes, HasFields, fields_in}
 use Rattle.lk_arena.specs.Steps.{CanBind, Binds}
 use Rattle.lk_arena.specs.Values.{Value}
 use Rattle.lk_arena.specs.declared.node.Field.{Field}
@@ -60,6 +62,31 @@ module _ (shapes new : List Shape) (classes names : List ℕ) (node : ℕ) (fiel
       respects = rw same at fits.respects;
     }
 
+  module _ (c : ℕ → ℕ) (covers : Covers new names c) where
+    bound_count : c node ≡ fields_count c fields + c tail
+    bound_count = row_covered c (shape_at new node) fields tail (c node) bound_at (covers.builds node (let b = can.below in omega (arith, count)) (rw same can.named))
+
+    -- fields count something
+    bound_some : 1 ≤ c node
+    bound_some = let n = bound_count in let s = some_count fields can.some in omega arith
+      where
+        some_count : (fs : List Field) → length fs ≢ 0 → 1 ≤ fields_count c fs
+        some_count [] some = absurd (some refl)
+        some_count (f ∷ fs) some = omega arith
+
+    bound_covers : Covers shapes classes c
+    bound_covers = record {
+      builds = λ i h named. ⊎_elim
+          (λ (e : i ≡ node). subst (λ k. IsCovered (shape_at shapes k) c (c k)) (sym e) (subst (λ s. IsCovered s c (c node)) (sym can.loose) bound_some))
+          (λ (ne : i ≢ node). subst (λ s. IsCovered s c (c i)) (bound_other i ne) (covers.builds i (omega (arith, count)) (rw same named)))
+          (cases_eq i node);
+      same = rw same at covers.same;
+      loose = λ i h loose. ⊎_elim
+          (λ (e : i ≡ node). subst (λ k. 1 ≤ c k) (sym e) bound_some)
+          (λ (ne : i ≢ node). covers.loose i (omega (arith, count)) (ap is_loose_shape (bound_other i ne) ∙ loose))
+          (cases_eq i node);
+    }
+
   bound_forth : (v : ℕ → Value) → FitsNodes shapes classes v → IsRowOf fields v (v tail) (v node) → FitsNodes new names v
   bound_forth v fits row = record {
     builds = each_shape (λ i s. IsBuilt s v (v i)) row (λ i h ne. fits.builds i h);
@@ -77,6 +104,7 @@ module _ (shapes new : List Shape) (classes names : List ℕ) (node : ℕ) (fiel
     others = bound_other;
     back = bound_back;
     row = bound_row;
+    covers = λ c covers. (bound_covers c covers, bound_count c covers);
     forth = bound_forth;
     kinds = kinds_bind shapes new classes names node fields tail count same bound_at bound_other;
     lighter = bound_lighter;

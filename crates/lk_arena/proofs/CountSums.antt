@@ -108,20 +108,20 @@ module _ (closed : ℕ) (small : closed ≤ 1) (kind : ℕ → Kind) (f : ℕ �
 -- ---- one after another
 
 -- the counts of the first classes of the order
-abbrev pub AreDone : ℕ → List Shape → List ℕ → List ℕ → List Count → ℕ → Type 0
-AreDone closed shapes classes order counts done =
-    (kind : ℕ → Kind) (f : ℕ → ℕ) → AreKinded shapes classes kind → AreCounted closed shapes classes kind f →
+abbrev pub AreDone : (ℕ → ℕ) → List Shape → List ℕ → List ℕ → List Count → ℕ → Type 0
+AreDone ends shapes classes order counts done =
+    (kind : ℕ → Kind) (f : ℕ → ℕ) → AreKinded shapes classes kind → AreCounted ends shapes classes kind f →
     (k : ℕ) → k < done → class_at classes (get_or order k 0) ≡ get_or order k 0 →
     IsCountOf (kind (get_or order k 0)) (get_or counts (get_or order k 0) no_count) (f (get_or order k 0))
 
-module _ (closed : ℕ) (shapes : List Shape) (classes order : List ℕ) (named : AreClasses (length shapes) classes) (first : IsPartsFirst shapes classes order) where
+module _ (ends : ℕ → ℕ) (shapes : List Shape) (classes order : List ℕ) (named : AreClasses (length shapes) classes) (first : IsPartsFirst shapes classes order) where
   -- the nodes of a class have one count
-  module _ (kind : ℕ → Kind) (f : ℕ → ℕ) (kinded : AreKinded shapes classes kind) (count : AreCounted closed shapes classes kind f) where
+  module _ (kind : ℕ → Kind) (f : ℕ → ℕ) (kinded : AreKinded shapes classes kind) (count : AreCounted ends shapes classes kind f) where
     same_count : (p : ℕ) → p < length shapes → f (class_at classes p) ≡ f p
     same_count p l =
         let c = class_at classes p in
-        count c (named.below p l) ∙ ap (λ s. counted closed (kind c) (shape_at shapes s) f) (named.named p l)
-        ∙ ap (λ k. counted closed k (shape_at shapes c) f) (kinded p l).0 ∙ sym (count p l)
+        count c (named.below p l) ∙ ap (λ s. counted (ends s) (kind c) (shape_at shapes s) f) (named.named p l)
+        ∙ ap (λ k. counted (ends c) k (shape_at shapes c) f) (kinded p l).0 ∙ sym (count p l)
 
     of_class : (counts : List Count) (p : ℕ) → p < length shapes →
         IsCountOf (kind (class_at classes p)) (count_at classes counts p) (f (class_at classes p)) → IsCountOf (kind p) (count_at classes counts p) (f p)
@@ -129,10 +129,10 @@ module _ (closed : ℕ) (shapes : List Shape) (classes order : List ℕ) (named 
         subst (λ k. IsCountOf k (count_at classes counts p) (f p)) (kinded p l).0 (subst (λ n. IsCountOf (kind (class_at classes p)) (count_at classes counts p) n) (same_count p l) c)
 
   pub counts_more :
-      (counts : List Count) (done : ℕ) (count : Count) → closed ≤ 1 → AreNodes shapes → length counts ≡ length shapes → done < length order → AreDone closed shapes classes order counts done →
-      count.as_type ≡ saturated (type_count closed (count_at classes counts) (shape_at shapes (get_or order done 0))) →
-      count.as_effects ≡ saturated (effect_count closed (count_at classes counts) (shape_at shapes (get_or order done 0))) →
-      AreDone closed shapes classes order (set counts (get_or order done 0) count) (done + 1)
+      (counts : List Count) (done : ℕ) (count : Count) → ends (get_or order done 0) ≤ 1 → AreNodes shapes → length counts ≡ length shapes → done < length order → AreDone ends shapes classes order counts done →
+      count.as_type ≡ saturated (type_count (ends (get_or order done 0)) (count_at classes counts) (shape_at shapes (get_or order done 0))) →
+      count.as_effects ≡ saturated (effect_count (ends (get_or order done 0)) (count_at classes counts) (shape_at shapes (get_or order done 0))) →
+      AreDone ends shapes classes order (set counts (get_or order done 0) count) (done + 1)
   counts_more counts done count small nodes size h are e r kind f kinded count_is k l name =
       let node = get_or order done 0 in
       let below : node < length shapes = Each-get_or (λ i. i < length shapes) order done 0 h first.nodes in
@@ -151,8 +151,8 @@ module _ (closed : ℕ) (shapes : List Shape) (classes order : List ℕ) (named 
       (parts_of (shape_at shapes node)) (first.parts done h) (nodes node below) in
       let here : IsCountOf (kind node) count (f node) =
       subst (λ n. IsCountOf (kind node) count n)
-      (sym (count_is node below ∙ ap (λ s. counted closed (kind node) (shape_at shapes s) f) (ap (class_at classes) (sym is) ∙ name ∙ is)))
-      (count_shape closed small kind f of (kind node) (shape_at shapes node) count (kinded node below).1 parts e r) in
+      (sym (count_is node below ∙ ap (λ s. counted (ends s) (kind node) (shape_at shapes s) f) (ap (class_at classes) (sym is) ∙ name ∙ is)))
+      (count_shape (ends node) small kind f of (kind node) (shape_at shapes node) count (kinded node below).1 parts e r) in
       rw is (rw (get_or-set_same counts node count no_count (omega arith)) here))
       (λ (ne : get_or order k 0 ≡ node → ⊥).
       let less : k < done = ⊎_elim (λ (same : k ≡ done). absurd (ne (ap (λ n. get_or order n 0) same))) (λ (apart : k ≡ done → ⊥). omega arith) (cases_eq k done) in
@@ -160,8 +160,8 @@ module _ (closed : ℕ) (shapes : List Shape) (classes order : List ℕ) (named 
       (cases_eq (get_or order k 0) node)
 
   pub all_counts :
-      (counts : List Count) → AreDone closed shapes classes order counts (length order) →
-      (kind : ℕ → Kind) (f : ℕ → ℕ) → AreKinded shapes classes kind → AreCounted closed shapes classes kind f →
+      (counts : List Count) → AreDone ends shapes classes order counts (length order) →
+      (kind : ℕ → Kind) (f : ℕ → ℕ) → AreKinded shapes classes kind → AreCounted ends shapes classes kind f →
       (i : ℕ) → i < length shapes → IsCountOf (kind i) (get_or counts (class_at classes i) no_count) (f i)
   all_counts counts are kind f kinded count i l =
       let c = class_at classes i in

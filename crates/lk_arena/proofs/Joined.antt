@@ -2,6 +2,8 @@
 use Rattle.std.proofs.Common.{◌≡◌, ◌≢◌, ℕ, ◌<◌, true, false, List, ◌++◌, length, refl, sym, subst}
 use Rattle.lk_types.proofs.Members.{each_both}
 use Rattle.lk_types.specs.Each.{Each}
+use Rattle.lk_arena.proofs.Covering.{covers_less}
+use Rattle.lk_arena.proofs.CoveringRows.{joined_count}
 use Rattle.lk_arena.proofs.Flats.{AreNodePairs-common, flats_common, flats_rest, flats_left, flats_right, HasFit-more, WeakFits-less}
 use Rattle.lk_arena.proofs.Kinded.{common_kinds, fields_missing}
 use Rattle.lk_arena.proofs.Joins.{EqualKinds-same, AreNodePairs-more}
@@ -54,6 +56,10 @@ module _ (shapes : List Shape) (classes : List ℕ) (a b : ℕ) (fs gs : List Fi
               let less = WeakFits-less shapes' classes' queue' (common fs gs) v fits in
               let both = joins.tails v m less.0 e in
               rows_rebuilt v fs gs (v s) (v t) both.0 x row (rw lefts_are at both.1) (rw rights_are at both.2) less.1 (AreFound-from_distinct fs left.distinct);
+          covers = λ c covers.
+              let less = covers_less shapes' classes' queue' (common fs gs) c covers in
+              let both = joins.covers c less.0 in
+              (both.0, joined_count c fs gs (c s) (c t) left.distinct right.distinct less.1 (rw (lefts_are, rights_are) at both.1));
           forth = λ v fits e.
               HasFit-more shapes shapes' classes' queue' (common fs gs) v (AreNodePairs-common (length shapes) fs gs left.nodes right.nodes)
               (flats_common shapes classes a b fs gs s t left right v fits.nodes e)

@@ -2,6 +2,9 @@ pub mod Adding
 pub mod Binding
 pub mod Chains
 pub mod CountSums
+pub mod Counted
+pub mod Covering
+pub mod CoveringRows
 pub mod Distinct
 pub mod EachLemmas
 pub mod Flats
@@ -15,6 +18,7 @@ pub mod Loose
 pub mod Mades
 pub mod Merged
 pub mod Noted
+pub mod OnceOpen
 pub mod Ordered
 pub mod Pairs
 pub mod Placed

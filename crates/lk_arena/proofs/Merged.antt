@@ -1,8 +1,10 @@
 -- Two classes become one: why what the shape of the one that is given up said holds still.
 use Rattle.lk_types.proofs.Members.{each_both}
-use Rattle.std.proofs.Common.{◌≡◌, ℕ, ◌<◌, true, false, List, ◌++◌, length, refl, sym, ◌∙◌, ap, subst, arith}
+use Rattle.std.proofs.Common.{◌≡◌, ℕ, ◌+◌, ◌<◌, true, false, List, ◌++◌, length, refl, sym, ◌∙◌, ap, subst, arith}
+use Rattle.lk_arena.proofs.Covering.{covers_less, covers_whole, covers_with, loose_covered, made_covered, row_covered}
 use Rattle.lk_arena.proofs.Flats.{IsFlatOf-later, Fits-with, HasFit-at, WeakFits-with, WeakFits-less}
 use Rattle.lk_arena.proofs.Kinded.{made_kinds}
+use Rattle.lk_arena.specs.Covering.{fields_count, CountLoose, IsCovered, IsFlatCounted}
 use Rattle.lk_arena.specs.Kinds.{AreFieldsOf, HasKind, IsFlatKinded}
 use Rattle.lk_arena.proofs.Loose.{loose_built}
 use Rattle.lk_arena.proofs.Mades.{made_again, made_parts, parts_below}
@@ -34,8 +36,9 @@ module _ (from to : ℕ) (shapes : List Shape) (classes : List ℕ) (apart : Are
 
     -- no pair waits
     pub merges_alone : ((v : ℕ → Value) → v from ≡ v to → IsBuilt (shape_at shapes to) v (v from) → IsBuilt (shape_at shapes from) v (v from))
+        → ((c : ℕ → ℕ) → CountLoose shapes c → IsCovered (shape_at shapes to) c (c from) → IsCovered (shape_at shapes from) c (c from))
         → Merges from to shapes classes queue shapes' classes' queue
-    merges_alone again = record {
+    merges_alone again counted = record {
       arena = unites.arena;
       longer = let c = count in omega arith;
       pairs = subst (λ n. AreNodePairs n queue) (sym count) pairs;
@@ -43,6 +46,10 @@ module _ (from to : ℕ) (shapes : List Shape) (classes : List ℕ) (apart : Are
           let p = unites.part v fits.nodes in
           let w = whole v fits.nodes (again v p.2 (subst (IsBuilt (shape_at shapes to) v) (sym p.2) p.3)) in
           (WeakFits-with shapes classes queue v w.0 fits.equates, w.1);
+      covers = λ c covers.
+          let p = unites.covers c covers.nodes in
+          let at_from : IsCovered (shape_at shapes to) c (c from) = subst (IsCovered (shape_at shapes to) c) (sym p.3) p.4 in
+          (covers_with shapes classes queue c (covers_whole shapes classes from c p.0 p.1 p.2 (counted c p.2 at_from)) covers.equal, p.3);
       forth = λ v fits e. (v, (λ i h. refl), Fits-with shapes' classes' queue v (unites.forth v fits.nodes e) fits.equates);
       kinds = λ kind kinded equal e. (kind, (λ i h. refl), unites.kinds kind kinded e, equal);
       lighter = unites.lighter;
@@ -50,10 +57,13 @@ module _ (from to : ℕ) (shapes : List Shape) (classes : List ℕ) (apart : Are
 
     pub merges_loose : is_loose_shape (shape_at shapes from) ≡ true → is_row_shape (shape_at shapes from) ≡ is_row_shape (shape_at shapes to)
         → Merges from to shapes classes queue shapes' classes' queue
-    merges_loose loose kinds = merges_alone (λ v e built. loose_built (shape_at shapes from) (shape_at shapes to) v (v from) loose kinds built)
+    merges_loose loose kinds =
+        merges_alone (λ v e built. loose_built (shape_at shapes from) (shape_at shapes to) v (v from) loose kinds built)
+        (λ c some covered. loose_covered c (shape_at shapes from) (c from) loose (some from apart.from_below loose))
 
     pub merges_equal : (s : Shape) → shape_at shapes from ≡ s → shape_at shapes to ≡ s → Merges from to shapes classes queue shapes' classes' queue
-    merges_equal s is is' = merges_alone (λ v e built. subst (λ s. IsBuilt s v (v from)) (is' ∙ sym is) built)
+    merges_equal s is is' =
+        merges_alone (λ v e built. subst (λ s. IsBuilt s v (v from)) (is' ∙ sym is) built) (λ c some covered. subst (λ s. IsCovered s c (c from)) (is' ∙ sym is) covered)
 
     -- the parts wait as pairs
     module _ (h : Head) (ps qs : List ℕ) (is : shape_at shapes from ≡ Made h ps) (is' : shape_at shapes to ≡ Made h qs) (lengths : length ps ≡ length qs) (queue' : List Pair)
@@ -72,6 +82,12 @@ module _ (from to : ℕ) (shapes : List Shape) (classes : List ℕ) (apart : Are
                 let p = unites.part v less.0.nodes in
                 let w = whole v less.0.nodes (made_again shapes from to h h ps qs is is' refl lengths v less.1 p.2 p.3) in
                 (WeakFits-with shapes classes queue v w.0 less.0.equates, w.1);
+            covers = λ c covers.
+                let less = covers_less shapes' classes' queue (paired ps qs) c covers in
+                let p = unites.covers c less.0.nodes in
+                let at_from : IsCovered (shape_at shapes to) c (c from) = subst (IsCovered (shape_at shapes to) c) (sym p.3) p.4 in
+                let built = made_covered c (shape_at shapes from) (shape_at shapes to) h h ps qs (c from) is is' lengths less.1 at_from in
+                (covers_with shapes classes queue c (covers_whole shapes classes from c p.0 p.1 p.2 built) less.0.equal, p.3);
             forth = λ v fits e.
                 let parts = made_parts shapes classes from to h h ps qs is is' apart.from_below apart.to_below v fits.nodes e in (
                   v,
@@ -119,7 +135,8 @@ module _ (from to : ℕ) (shapes : List Shape) (classes : List ℕ) (apart : Are
       pub never_joined : NeverSame shapes' classes' from to → NeverSame shapes classes from to
       never_joined never v fits e = never v (unites.forth v fits e) e
 
-      module _ (left_kinds : IsFlatKinded shapes classes from fs s) (right_kinds : IsFlatKinded shapes classes to gs t) (shapes'' : List Shape) (classes'' : List ℕ) (queue'' : List Pair)
+      module _ (left_kinds : IsFlatKinded shapes classes from fs s) (right_kinds : IsFlatKinded shapes classes to gs t) (left_counts : IsFlatCounted from shapes classes from fs s)
+          (right_counts : IsFlatCounted from shapes classes to gs t) (shapes'' : List Shape) (classes'' : List ℕ) (queue'' : List Pair)
           (joins : JoinsRows from to fs gs s t shapes' classes' queue shapes'' classes'' queue'') where
         pub merges_rows : Merges from to shapes classes queue shapes'' classes'' queue''
         merges_rows = record {
@@ -135,6 +152,17 @@ module _ (from to : ℕ) (shapes : List Shape) (classes : List ℕ) (apart : Are
               let built = but_front from shapes classes from fs s left left_end.0 left_end.1 v p.0 p.1 (v to) other in
               let w = whole v before.nodes (subst (IsBuilt (shape_at shapes from) v) (sym p.2) built) in
               (WeakFits-with shapes classes queue v w.0 before.equates, w.1);
+          covers = λ c covers.
+              let before = joins.covers c covers in
+              let p = unites.covers c before.0.nodes in
+              let same = before.1 in
+              let whole = row_covered c (shape_at shapes to) right.own right.first (c to) right.shape_is p.4 in
+              let l = left_counts c p.0 p.1 left.own left.first left.shape_is in
+              let r = right_counts c p.0 p.1 right.own right.first right.shape_is in
+              let e = p.3 in
+              let built : IsCovered (shape_at shapes from) c (c from) =
+              subst (λ s. IsCovered s c (c from)) (sym left.shape_is) (let it : c from ≡ fields_count c left.own + c left.first = omega arith in it) in
+              (covers_with shapes classes queue c (covers_whole shapes classes from c p.0 p.1 p.2 built) before.0.equal, p.3);
           forth = λ v fits e.
               HasFit-at shapes shapes' shapes'' classes'' queue'' v unites.kept
               (joins.forth v (Fits-with shapes' classes' queue v (unites.forth v fits.nodes e) fits.equates) e);
@@ -154,6 +182,7 @@ merges_turned from to shapes classes queue shapes' classes' queue' merges = reco
   longer = merges.longer;
   pairs = merges.pairs;
   back = λ v fits. let b = merges.back v fits in (b.0, sym b.1);
+  covers = λ c covers. let b = merges.covers c covers in (b.0, sym b.1);
   forth = λ v fits e. merges.forth v fits (sym e);
   kinds = λ kind kinded equal e. merges.kinds kind kinded equal (sym e);
   lighter = merges.lighter;

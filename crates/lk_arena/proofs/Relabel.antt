@@ -3,6 +3,7 @@ use Rattle.std.proofs.Common.{◌≡◌, ◌≢◌, ℕ, zero, suc, ◌<◌, Lis
 use Rattle.std.proofs.lemmas.Bool.{cases_eq}
 use Rattle.std.proofs.lemmas.Bool.Decides.{nat_tests}
 use Rattle.lk_classes.specs.Classes.{AreClasses, class_at, relabeled}
+use Rattle.lk_arena.specs.Covering.{SameCounts}
 use Rattle.lk_arena.specs.Shapes.{shape_at, Respects, IsArena, FitsNodes, IsBuilt, BuildsBut, WeakNodes}
 use Rattle.lk_arena.specs.Steps.{AreApart}
 use Rattle.lk_arena.specs.Values.{Value}
@@ -82,6 +83,17 @@ module _ (shapes : List Shape) (old new : List ℕ) (from to : ℕ) (arena : IsA
   relabel_forth v fits e = record { builds = fits.builds; respects = Respects-new (length shapes) old new from to arena.named d r v fits.respects e }
 
 -- ---- values that fit at the names of classes
+
+-- numbers of the nodes
+module _ (n : ℕ) (old new : List ℕ) (from to : ℕ) (classes : AreClasses n old) (d : AreApart n old from to) (r : IsRelabeled old new from to) (c : ℕ → ℕ) (same : SameCounts new c) where
+  pub count_from_to : c from ≡ c to
+  count_from_to = same from (let b : from < n = d.from_below in omega (arith, r.count, classes.count)) ∙ ap c (new_from n old new from to classes d r)
+
+  pub same_counts_old : SameCounts old c
+  same_counts_old i l =
+      let h : i < n = omega (arith, classes.count) in
+      let e : c i ≡ c (class_at new i) = same i (omega (arith, r.count)) in
+      ⊎_elim (λ p. e ∙ ap c p.1 ∙ sym count_from_to ∙ ap c (sym p.0)) (λ p. e ∙ ap c p.1) (class_cases n old new from to classes d r i h)
 
 -- with what fits at the hole
 pub weak_whole : (ss : List Shape) (cs : List ℕ) (hole : ℕ) (v : ℕ → Value) → BuildsBut hole ss cs v → Respects cs v → IsBuilt (shape_at ss hole) v (v hole) → WeakNodes ss cs v

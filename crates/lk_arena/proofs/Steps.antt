@@ -1,7 +1,9 @@
 -- Pairs taken one after another, from the end of a list.
 use Rattle.lk_types.proofs.Members.{each_both, each_front, each_back}
 use Rattle.std.proofs.Common.{◌≡◌, ℕ, ◌<◌, ◌≤◌, List, [], ◌∷◌, ◌++◌, length, refl, sym, ◌∙◌, ap, subst, arith}
+use Rattle.lk_arena.proofs.Covering.{covers_with}
 use Rattle.lk_arena.proofs.Flats.{Fits-with, WeakFits-with}
+use Rattle.lk_arena.specs.Covering.{EqualCounts}
 use Rattle.lk_arena.specs.Kinds.{Kind, AreKinded, EqualKinds}
 use Rattle.lk_classes.specs.Classes.{class_at}
 use Rattle.lk_arena.specs.Shapes.{AreNodePairs, Equates, Fits, HasFit, IsArena, NeverSame, Respects}
@@ -15,6 +17,7 @@ use Rattle.lk_arena.specs.declared.node.Shape.{Shape}
 pub same_trans : (classes : List ℕ) (a b c : List Pair) → SamePairs classes a b → SamePairs classes b c → SamePairs classes a c
 same_trans classes a b c first second = record {
   back = λ v respects e. first.back v respects (second.back v respects e);
+  counts = λ c same e. first.counts c same (second.counts c same e);
   forth = λ v respects e. second.forth v respects (first.forth v respects e);
   kinds = λ kind named e. second.kinds kind named (first.kinds kind named e);
 }
@@ -44,6 +47,9 @@ module _ (shapes : List Shape) (classes : List ℕ) (arena : IsArena shapes clas
     joined : Equates rest v → v p.left ≡ v p.right → Equates all v
     joined e last = subst (λ ps. Equates ps v) (sym taken) (each_both (λ p. v p.left ≡ v p.right) rest (p ∷ []) e (last, tt))
 
+  counts_joined : (c : ℕ → ℕ) → EqualCounts rest c → c p.left ≡ c p.right → EqualCounts all c
+  counts_joined c e last = subst (λ ps. EqualCounts ps c) (sym taken) (each_both (λ p. c p.left ≡ c p.right) rest (p ∷ []) e (last, tt))
+
   kinds_both : (kind : ℕ → Kind) → EqualKinds all kind → EqualKinds rest kind × (kind p.left ≡ kind p.right)
   kinds_both kind e =
       let h : EqualKinds (rest ++ p ∷ []) kind = subst (λ ps. EqualKinds ps kind) taken e in
@@ -54,6 +60,7 @@ module _ (shapes : List Shape) (classes : List ℕ) (arena : IsArena shapes clas
   last_same same = record {
     back = λ v respects e. joined v respects e (named v respects p.left last_within.0 ∙ ap v same ∙ sym (named v respects p.right last_within.1));
     forth = λ v respects e. (both v respects e).0;
+    counts = λ c named e. counts_joined c e (named p.left (in_classes p.left last_within.0) ∙ ap c same ∙ sym (named p.right (in_classes p.right last_within.1)));
     kinds = λ kind named e. (kinds_both kind e).0;
   }
 
@@ -65,6 +72,8 @@ module _ (shapes : List Shape) (classes : List ℕ) (arena : IsArena shapes clas
     forth = λ v respects e.
         let h = both v respects e in
         (ap v l ∙ sym (named v respects p.left last_within.0) ∙ h.1 ∙ named v respects p.right last_within.1 ∙ ap v (sym r), h.0);
+    counts = λ c same e.
+        counts_joined c e.1 (same p.left (in_classes p.left last_within.0) ∙ ap c (sym l) ∙ e.0 ∙ ap c r ∙ sym (same p.right (in_classes p.right last_within.1)));
     kinds = λ kind same e.
         let h = kinds_both kind e in
         (ap kind l ∙ sym (same p.left (in_classes p.left last_within.0)) ∙ h.1 ∙ same p.right (in_classes p.right last_within.1) ∙ ap kind (sym r), h.0);
@@ -88,6 +97,7 @@ module _ (left right : ℕ) (shapes : List Shape) (classes : List ℕ) where
         longer = omega arith;
         pairs = ((l, r), tt);
         back = λ v fits. (fits.nodes, fits.equates.0);
+        covers = λ c covers. covers.nodes;
         forth = λ v fits e. (v, (λ i h. refl), Fits-with shapes classes (record { left = left; right = right } ∷ []) v fits (e, tt));
         kinds = λ kind kinded e. (kind, (λ i h. refl), kinded, (e, tt));
       })
@@ -103,6 +113,7 @@ module _ (left right : ℕ) (shapes : List Shape) (classes : List ℕ) where
       longer = leads.longer;
       pairs = within;
       back = λ v fits. leads.back v (WeakFits-with shapes' classes' queue v fits.nodes (same.back v fits.nodes.respects fits.equates));
+      covers = λ c covers. leads.covers c (covers_with shapes' classes' queue c covers.nodes (same.counts c covers.nodes.same covers.equal));
       forth = λ v fits e.
           HasFit-trans shapes shapes' shapes' classes' classes' queue queue' v leads.longer (leads.forth v fits e)
           (λ w h. (w, (λ i b. refl), Fits-with shapes' classes' queue' w h.nodes (same.forth w h.nodes.respects h.equates)));
@@ -124,6 +135,9 @@ module _ (left right : ℕ) (shapes : List Shape) (classes : List ℕ) where
         back = λ v fits.
             let b = merges.back v fits in
             leads.back v (WeakFits-with shapes' classes' queue v b.0.nodes (same.back v b.0.nodes.respects (b.1, b.0.equates)));
+        covers = λ c covers.
+            let b = merges.covers c covers in
+            leads.covers c (covers_with shapes' classes' queue c b.0.nodes (same.counts c b.0.nodes.same (b.1, b.0.equal)));
         forth = λ v fits e.
             HasFit-trans shapes shapes' shapes'' classes' classes'' queue queue'' v leads.longer (leads.forth v fits e)
             (λ w h. let t = same.forth w h.nodes.respects h.equates in merges.forth w (Fits-with shapes' classes' rest w h.nodes t.1) t.0);

@@ -1,12 +1,14 @@
 -- The tails of two rows become fields before one row: both are one already, neither has more fields, one has, or both.
-use Rattle.std.proofs.Common.{◌≡◌, ◌≢◌, ℕ, ◌<◌, List, [], ◌∷◌, ◌++◌, length, refl, sym, ◌∙◌, subst, arith}
+use Rattle.std.proofs.Common.{◌≡◌, ◌≢◌, ℕ, ◌+◌, ◌<◌, List, [], ◌∷◌, ◌++◌, length, refl, sym, ◌∙◌, ap, subst, arith}
 use Rattle.std.proofs.lemmas.List.{nil_from_length}
 use Rattle.lk_types.proofs.Members.{each_both, each_front, each_back, each_weaker}
 use Rattle.lk_types.specs.Each.{Each}
 use Rattle.lk_arena.proofs.Chains.{IsRowOf-nil, IsRowOf-nil_same}
+use Rattle.lk_arena.proofs.Covering.{covers_less, covers_with}
 use Rattle.lk_arena.proofs.Growth.{IsRowOf-same}
 use Rattle.lk_arena.proofs.Joins.{Equates-same, EqualKinds-same, AreNodePairs-more}
 use Rattle.lk_arena.proofs.Kinded.{open_kind, fields_same}
+use Rattle.lk_arena.specs.Covering.{fields_count}
 use Rattle.lk_arena.specs.Kinds.{AreFieldsOf}
 use Rattle.lk_classes.specs.Classes.{class_at}
 use Rattle.lk_arena.specs.Openings.{OpenRow}
@@ -27,6 +29,9 @@ module _ (left right : ℕ) (lefts rights : List Field) (shapes : List Shape) (c
   no_fields_before : (fs : List Field) (v : ℕ → Value) (m : OpenRow) (x : Value) → length fs ≡ 0 → x ≡ OfRow m → IsRowOf fs v x x
   no_fields_before fs v m x none is = subst (λ fs. IsRowOf fs v x x) (sym (nil_from_length fs none)) (IsRowOf-nil v m x is)
 
+  none_count : (c : ℕ → ℕ) (fs : List Field) (x : ℕ) → length fs ≡ 0 → x ≡ fields_count c fs + x
+  none_count c fs x none = let no : fields_count c fs ≡ 0 = ap (fields_count c) (nil_from_length fs none) in omega arith
+
   -- ---- one tail
 
   pub join_same : left ≡ right → JoinsTails left right lefts rights shapes classes queue shapes classes queue
@@ -42,6 +47,7 @@ module _ (left right : ℕ) (lefts rights : List Field) (shapes : List Shape) (c
           subst (λ i. IsRowOf lefts v (v right) (v i)) (sym same) (no_fields_before lefts v m (v right) none.0 is),
           no_fields_before rights v m (v right) none.1 is,
         );
+        covers = λ c covers. (covers, (c right, ap c same ∙ none_count c lefts (c right) none.0, none_count c rights (c right) none.1));
         forth = λ v m fits row row'. (v, (λ i h. refl), fits);
         kinds = λ kind k kinded equal l r f g. (kind, (λ i h. refl), kinded, equal);
         lighter = omega arith;
@@ -65,6 +71,9 @@ module _ (left right : ℕ) (lefts rights : List Field) (shapes : List Shape) (c
               subst (λ x. IsRowOf lefts v (v right) x) (sym e) (no_fields_before lefts v m (v right) none is),
               no_fields_before rights v m (v right) none' is,
             );
+        covers = λ c covers.
+            let less = covers_less shapes classes queue (pair ∷ []) c covers in
+            (less.0, (c right, less.1.0 ∙ none_count c lefts (c right) none, none_count c rights (c right) none'));
         forth = λ v m fits row row'.
             let e : v left ≡ v right = same_row lefts v (v left) (OfRow m) none row ∙ sym (same_row rights v (v right) (OfRow m) none' row') in (
               v,
@@ -86,6 +95,9 @@ module _ (left right : ℕ) (lefts rights : List Field) (shapes : List Shape) (c
       pairs = subst (λ n. AreNodePairs n queue) (sym bound.count) pairs;
       back = λ v fits. record { nodes = bound.back v fits.nodes; equates = fits.equates };
       tails = λ v m fits is. (v right, bound.row v fits.nodes, no_fields_before rights v m (v right) none is);
+      covers = λ c covers.
+          let b = bound.covers c covers.nodes in
+          (covers_with shapes classes queue c b.0 covers.equal, (c right, b.1, none_count c rights (c right) none));
       forth = λ v m fits row row'.
           let e : v right ≡ OfRow m = same_row rights v (v right) (OfRow m) none row' in (
             v,
@@ -106,6 +118,9 @@ module _ (left right : ℕ) (lefts rights : List Field) (shapes : List Shape) (c
       tails = λ v m fits is.
           let row = bound.row v fits.nodes in
           (v left, no_fields_before lefts v row.tail (v left) none row.tail_is, row);
+      covers = λ c covers.
+          let b = bound.covers c covers.nodes in
+          (covers_with shapes classes queue c b.0 covers.equal, (c left, none_count c lefts (c left) none, b.1));
       forth = λ v m fits row row'.
           let e : v left ≡ OfRow m = same_row lefts v (v left) (OfRow m) none row in (
             v,
@@ -157,6 +172,10 @@ module _ (left right : ℕ) (lefts rights : List Field) (shapes : List Shape) (c
         pairs = AreNodePairs-more (length shapes) (length shapes₃) queue (let c = first.count in let d = second.count in omega (arith, more)) pairs;
         back = λ v fits. record { nodes = new.back v (first.back v (second.back v fits.nodes)); equates = fits.equates };
         tails = λ v m fits is. (v fresh, first.row v (second.back v fits.nodes), second.row v fits.nodes);
+        covers = λ c covers.
+            let b = second.covers c covers.nodes in
+            let a = first.covers c b.0 in
+            (covers_with shapes classes queue c (new.covers c a.0) covers.equal, (c fresh, a.1, b.1));
         forth = λ v m fits row row'.
             let h = new.forth v (OfRow m) fits.nodes (m, refl) in
             let w = h.0 in

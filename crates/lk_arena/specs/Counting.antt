@@ -1,8 +1,9 @@
 -- How many nodes there are in what a class stands for, by the counts of its parts: a constructor and a type of which nothing is
 -- known count one each, a row one for each field and what the field's type counts, a row of effects one for each effect, the end of
--- a row one where it is open and `closed` where it is closed. Counts are saturated, since types that share parts may have a great many
--- nodes.
-use Rattle.std.specs.Prelude.{◌≡◌, ℕ, ◌+◌, ◌<◌, List, [], ◌∷◌, length, map, slice_index_or as get_or, take, min}
+-- a row one where it is open. Where it is closed it counts a number of its class (`closed`, or `ends` for all classes), since a bound
+-- on the counts of fewer equations takes one for the ends that were open with these. Counts are saturated, since types that share
+-- parts may have a great many nodes.
+use Rattle.std.specs.Prelude.{◌≡◌, ℕ, ◌+◌, ◌<◌, ◌≤◌, List, [], ◌∷◌, length, map, slice_index_or as get_or, take, min}
 use Rattle.lk_classes.specs.Classes.{class_at}
 use Rattle.lk_types.specs.Each.{Each, OneOf}
 use Rattle.lk_types.specs.Sizes.{most_nodes}
@@ -32,10 +33,10 @@ counted closed OfEffects Empty count = closed
 counted closed OfEffects (shape.Row fs t) count = length fs + count t
 counted closed _ _ count = 0
 
--- the counts are those that follow from each other
-abbrev pub AreCounted : ℕ → List Shape → List ℕ → (ℕ → Kind) → (ℕ → ℕ) → Type 0
-AreCounted closed shapes classes kind count =
-    (i : ℕ) → i < length shapes → count i ≡ counted closed (kind i) (shape_at shapes (class_at classes i)) count
+-- the counts are those that follow from each other, where the closed ends of a class count what `ends` says of its name
+abbrev pub AreCounted : (ℕ → ℕ) → List Shape → List ℕ → (ℕ → Kind) → (ℕ → ℕ) → Type 0
+AreCounted ends shapes classes kind count =
+    (i : ℕ) → i < length shapes → count i ≡ counted (ends (class_at classes i)) (kind i) (shape_at shapes (class_at classes i)) count
 
 -- from the first number that is too many on, only that
 abbrev pub saturated : ℕ → ℕ
@@ -81,9 +82,23 @@ effect_count closed of (shape.Row fs t) = length fs + (of t).as_effects
 effect_count closed of _ = 0
 
 -- the counts of all nodes, each at the number that names its class
-abbrev pub AreCountsOf : ℕ → List Shape → List ℕ → List Count → Type 0
-AreCountsOf closed shapes classes counts =
-    (kind : ℕ → Kind) (f : ℕ → ℕ) → AreKinded shapes classes kind → AreCounted closed shapes classes kind f → (i : ℕ) → i < length shapes → IsCountOf (kind i) (count_at classes counts i) (f i)
+abbrev pub AreCountsOf : (ℕ → ℕ) → List Shape → List ℕ → List Count → Type 0
+AreCountsOf ends shapes classes counts =
+    (kind : ℕ → Kind) (f : ℕ → ℕ) → AreKinded shapes classes kind → AreCounted ends shapes classes kind f → (i : ℕ) → i < length shapes → IsCountOf (kind i) (count_at classes counts i) (f i)
+
+-- ---- what closed ends count
+
+abbrev pub end_at : List ℕ → ℕ → ℕ
+end_at ends c = get_or ends c 0
+
+-- a number for each node, at the most one
+pub record AreEnds (shapes : List Shape) (ends : List ℕ) : Type 0 where
+  pub count : length ends ≡ length shapes
+  pub small : Each (λ n. n ≤ 1) ends
+
+-- one for each class with a node that is an open row by itself
+abbrev pub CountOnceOpen : List Shape → List ℕ → (ℕ → ℕ) → Type 0
+CountOnceOpen shapes classes ends = (i : ℕ) → i < length shapes → shape_at shapes i ≡ Open → 1 ≤ ends (class_at classes i)
 
 -- ---- an order of the nodes in which parts come first
 

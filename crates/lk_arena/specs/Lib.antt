@@ -1,4 +1,5 @@
 pub mod Counting
+pub mod Covering
 pub mod Kinds
 pub mod Lookups
 pub mod Measures

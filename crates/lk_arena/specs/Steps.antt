@@ -3,6 +3,7 @@
 -- values that fit at all nodes, which get values for the new ones. Kinds that fit at first fit afterwards too.
 use Rattle.std.specs.Prelude.{◌≡◌, ◌≢◌, ℕ, ◌+◌, ◌<◌, ◌≤◌, true, false, List, [], ◌∷◌, length}
 use Rattle.lk_types.specs.Each.{Each}
+use Rattle.lk_arena.specs.Covering.{fields_count, CountLoose, CountTails, Covers, CoversAll, CoversBut, EqualCounts, IsCovered, SameCounts}
 use Rattle.lk_arena.specs.Openings.{OpenRow}
 use Rattle.lk_arena.specs.Kinds.{Kind, AreFieldsOf, AreKinded, EqualKinds, HasKind, HasKinds}
 use Rattle.lk_arena.specs.Measures.{weight, worth}
@@ -46,6 +47,7 @@ pub record Binds (node : ℕ) (fields : List Field) (tail : ℕ) (shapes : List 
   pub others : (i : ℕ) → i ≢ node → shape_at shapes' i ≡ shape_at shapes i
   pub back : (v : ℕ → Value) → WeakNodes shapes' classes' v → WeakNodes shapes classes v
   pub row : (v : ℕ → Value) → WeakNodes shapes' classes' v → IsRowOf fields v (v tail) (v node)
+  pub covers : (c : ℕ → ℕ) → Covers shapes' classes' c → Covers shapes classes c × (c node ≡ fields_count c fields + c tail)
   pub forth : (v : ℕ → Value) → FitsNodes shapes classes v → IsRowOf fields v (v tail) (v node) → FitsNodes shapes' classes' v
   pub kinds : (kind : ℕ → Kind) → AreKinded shapes classes kind → AreFieldsOf kind (kind node) fields → kind tail ≡ kind node → AreKinded shapes' classes' kind
   pub lighter : weight shapes' classes' < weight shapes classes
@@ -60,6 +62,7 @@ pub record Adds (s : Shape) (n : ℕ) (shapes : List Shape) (classes : List ℕ)
   pub old_shapes : (i : ℕ) → i < length shapes → shape_at shapes' i ≡ shape_at shapes i
   pub old_classes : (i : ℕ) → i < length shapes → class_at classes' i ≡ class_at classes i
   pub back : (v : ℕ → Value) → WeakNodes shapes' classes' v → WeakNodes shapes classes v
+  pub covers : (c : ℕ → ℕ) → Covers shapes' classes' c → Covers shapes classes c
   pub built : (v : ℕ → Value) → WeakNodes shapes' classes' v → IsBuilt s v (v n)
   pub forth : (v : ℕ → Value) (x : Value) → FitsNodes shapes classes v → IsBuilt s v x → HasNode shapes shapes' classes' v n x
   pub kinds : (kind : ℕ → Kind) (k : Kind) → AreKinded shapes classes kind → HasKind kind k s
@@ -74,6 +77,8 @@ pub record Unites (from to : ℕ) (shapes : List Shape) (classes : List ℕ) (sh
   pub names : (i : ℕ) → i < length shapes → class_at classes i ≡ i → i ≢ from → class_at classes' i ≡ i
   pub part : (v : ℕ → Value) → WeakNodes shapes' classes' v
       → BuildsBut from shapes classes v × Respects classes v × (v from ≡ v to) × IsBuilt (shape_at shapes to) v (v to)
+  pub covers : (c : ℕ → ℕ) → Covers shapes' classes' c
+      → CoversBut from shapes classes c × SameCounts classes c × CountLoose shapes c × (c from ≡ c to) × IsCovered (shape_at shapes to) c (c to)
   pub before : (v : ℕ → Value) → FitsNodes shapes' classes' v → FitsNodes shapes classes v
   pub forth : (v : ℕ → Value) → FitsNodes shapes classes v → v from ≡ v to → FitsNodes shapes' classes' v
   pub kinds : (kind : ℕ → Kind) → AreKinded shapes classes kind → kind from ≡ kind to → AreKinded shapes' classes' kind
@@ -107,6 +112,7 @@ pub record JoinsTails (left right : ℕ) (lefts rights : List Field) (shapes : L
   pub pairs : AreNodePairs (length shapes') queue'
   pub back : (v : ℕ → Value) → WeakFits shapes' classes' queue' v → WeakFits shapes classes queue v
   pub tails : (v : ℕ → Value) (row : OpenRow) → WeakFits shapes' classes' queue' v → v right ≡ OfRow row → HasTail lefts rights v (v left) (v right)
+  pub covers : (c : ℕ → ℕ) → CoversAll shapes' classes' queue' c → CoversAll shapes classes queue c × CountTails lefts rights c (c left) (c right)
   pub forth : (v : ℕ → Value) (row : OpenRow) → Fits shapes classes queue v → IsRowOf lefts v (OfRow row) (v left) → IsRowOf rights v (OfRow row) (v right)
       → HasFit shapes shapes' classes' queue' v
   pub kinds : (kind : ℕ → Kind) (k : Kind) → AreKinded shapes classes kind → EqualKinds queue kind → kind left ≡ k → kind right ≡ k → AreFieldsOf kind k lefts
@@ -122,6 +128,7 @@ pub record JoinsRows (left_row right_row : ℕ) (lefts rights : List Field) (lef
   pub back : (v : ℕ → Value) → WeakFits shapes' classes' queue' v → WeakFits shapes classes queue v
   pub rebuilt : (v : ℕ → Value) (row : OpenRow) (x : Value) → WeakFits shapes' classes' queue' v → v right ≡ OfRow row → IsRowOf rights v (v right) x
       → IsRowOf lefts v (v left) x
+  pub covers : (c : ℕ → ℕ) → CoversAll shapes' classes' queue' c → CoversAll shapes classes queue c × (fields_count c lefts + c left ≡ fields_count c rights + c right)
   pub forth : (v : ℕ → Value) → Fits shapes classes queue v → v left_row ≡ v right_row → HasFit shapes shapes' classes' queue' v
   pub kinds : (kind : ℕ → Kind) (k : Kind) → AreKinded shapes classes kind → EqualKinds queue kind → kind left ≡ k → kind right ≡ k → AreFieldsOf kind k lefts
       → AreFieldsOf kind k rights → HasKinds shapes shapes' classes' queue' kind
@@ -133,6 +140,7 @@ pub record Merges (from to : ℕ) (shapes : List Shape) (classes : List ℕ) (qu
   pub longer : length shapes ≤ length shapes'
   pub pairs : AreNodePairs (length shapes') queue'
   pub back : (v : ℕ → Value) → WeakFits shapes' classes' queue' v → WeakFits shapes classes queue v × (v from ≡ v to)
+  pub covers : (c : ℕ → ℕ) → CoversAll shapes' classes' queue' c → CoversAll shapes classes queue c × (c from ≡ c to)
   pub forth : (v : ℕ → Value) → Fits shapes classes queue v → v from ≡ v to → HasFit shapes shapes' classes' queue' v
   pub kinds : (kind : ℕ → Kind) → AreKinded shapes classes kind → EqualKinds queue kind → kind from ≡ kind to → HasKinds shapes shapes' classes' queue' kind
   pub lighter : weight shapes' classes' < weight shapes classes
@@ -142,6 +150,7 @@ pub record Merges (from to : ℕ) (shapes : List Shape) (classes : List ℕ) (qu
 -- where nodes of one class have one value, the pairs of both lists say the same
 pub record SamePairs (classes : List ℕ) (pairs pairs' : List Pair) : Type 0 where
   pub back : (v : ℕ → Value) → Respects classes v → Equates pairs' v → Equates pairs v
+  pub counts : (c : ℕ → ℕ) → SameCounts classes c → EqualCounts pairs' c → EqualCounts pairs c
   pub forth : (v : ℕ → Value) → Respects classes v → Equates pairs v → Equates pairs' v
   pub kinds : (kind : ℕ → Kind) → ((i : ℕ) → i < length classes → kind i ≡ kind (class_at classes i)) → EqualKinds pairs kind → EqualKinds pairs' kind
 
@@ -151,5 +160,6 @@ pub record Leads (left right : ℕ) (shapes : List Shape) (classes : List ℕ) (
   pub longer : length shapes ≤ length shapes'
   pub pairs : AreNodePairs (length shapes') queue'
   pub back : (v : ℕ → Value) → WeakFits shapes' classes' queue' v → WeakNodes shapes classes v × (v left ≡ v right)
+  pub covers : (c : ℕ → ℕ) → CoversAll shapes' classes' queue' c → Covers shapes classes c
   pub forth : (v : ℕ → Value) → FitsNodes shapes classes v → v left ≡ v right → HasFit shapes shapes' classes' queue' v
   pub kinds : (kind : ℕ → Kind) → AreKinded shapes classes kind → kind left ≡ kind right → HasKinds shapes shapes' classes' queue' kind

@@ -3,7 +3,7 @@
 ghost use Rattle.std.specs.Prelude.{◌≡◌, ◌<◌, ◌≤◌, ◌+◌, length, IfOk};
 ghost use Rattle.lk_classes.specs.Classes.{AreClasses};
 ghost use Rattle.lk_types.specs.Each.{Each};
-ghost use Rattle.lk_arena.specs.Counting.{count_at as the_count_at, effect_count, field_sum, part_sum, saturated, type_count, type_sum, AreCountsOf, IsPartsFirst};
+ghost use Rattle.lk_arena.specs.Counting.{count_at as the_count_at, effect_count, end_at, field_sum, part_sum, saturated, type_count, type_sum, AreCountsOf, AreEnds, IsPartsFirst};
 ghost use Rattle.lk_arena.specs.Shapes.{parts_of, AllBelow, AreNodes};
 
 use crate::node::{Field, Head, Shape};
@@ -130,20 +130,20 @@ fn count_of(shape: &Shape, classes: &Classes, counts: &[Count], closed: usize) -
 }
 
 /// The counts of the classes, each at the number that names it, by an order in which parts come first. A closed end of a row counts
-/// `closed`.
+/// what stands in `ends` at the name of its class.
 pub fn counts(
     alloc: Global,
     shapes: &[Shape],
     classes: &Classes,
     order: &[usize],
-    closed: usize,
+    ends: &[usize],
 ) -> Result<Vec<Count>, NoMemory>
     requires nodes { AreNodes shapes.now }
     requires classes { AreClasses (length shapes.now) classes.now }
     requires order { IsPartsFirst shapes.now classes.now order.now }
-    requires closed { closed ≤ 1 }
+    requires ends { AreEnds shapes.now ends.now }
     ensures count { IfOk result (λ counts. length counts.items ≡ length shapes.now) }
-    ensures counts { IfOk result (λ counts. AreCountsOf closed shapes.now classes.now counts.items) }
+    ensures counts { IfOk result (λ counts. AreCountsOf (end_at ends.now) shapes.now classes.now counts.items) }
 {
     let none = Count {
         as_type: 0,
@@ -151,7 +151,7 @@ pub fn counts(
     };
     let mut counts = vec![in alloc; none; shapes.len()]?;
     for node in order {
-        counts[*node] = count_of(&shapes[*node], classes, counts.as_slice(), closed);
+        counts[*node] = count_of(&shapes[*node], classes, counts.as_slice(), ends[*node]);
     }
     Ok(counts)
 }

@@ -2,6 +2,7 @@
 
 ghost use Rattle.std.specs.Prelude.{◌≡◌, ◌<◌, length, IfOk, IfSome, IfNone};
 ghost use Rattle.lk_classes.specs.Classes.{class_at};
+ghost use Rattle.lk_arena.specs.Covering.{IsFlatCounted};
 ghost use Rattle.lk_arena.specs.Kinds.{IsFlatKinded};
 ghost use Rattle.lk_arena.specs.Shapes.{shape_at, IsArena, IsEnd, IsFlatBut, NeverSame};
 ghost use Rattle.lk_arena.specs.Ways.{HasWay};
@@ -38,6 +39,7 @@ pub fn flat_row<'a>(
     requires shape { shape_at arena.now.shapes row ≡ Shape.Row own.now first }
     ensures flat { IfOk result (λ found. IfSome found (λ flat. (flat.row ≡ row) × IsFlatBut hole arena.now.shapes arena.now.classes row flat.fields flat.tail × IsEnd hole arena.now.shapes flat.tail)) }
     ensures kinds { IfOk result (λ found. IfSome found (λ flat. IsFlatKinded arena.now.shapes arena.now.classes row flat.fields flat.tail)) }
+    ensures counts { IfOk result (λ found. IfSome found (λ flat. IsFlatCounted hole arena.now.shapes arena.now.classes row flat.fields flat.tail)) }
     ensures way { IfOk result (λ found. IfSome found (λ flat. HasWay arena.now.shapes arena.now.classes own.now (class_at arena.now.classes first) flat.fields flat.tail)) }
     ensures none { IfOk result (λ found. IfNone found (NeverSame arena.now.shapes arena.now.classes row hole)) }
 {

@@ -37,3 +37,13 @@ pub fn is_empty_row(shape: &Shape) -> bool
         _ => false,
     }
 }
+
+/// Whether it is a row of which nothing is known.
+pub fn is_open(shape: &Shape) -> bool
+    ensures { IsTrue result ↔ (shape.now ≡ Shape.Open) }
+{
+    match shape {
+        Shape::Open => true,
+        _ => false,
+    }
+}

@@ -2,6 +2,7 @@
 
 ghost use Rattle.std.specs.List.{cons_option};
 ghost use Rattle.std.specs.Prelude.{◌≡◌, ◌<◌, ℕ, List, [], ◌++◌, length, IfOk, IfNone, IfSome, OnOk, IsTrue, true, false};
+ghost use Rattle.lk_arena.specs.Covering.{IsFlatCounted};
 ghost use Rattle.lk_arena.specs.Kinds.{IsFlatKinded};
 ghost use Rattle.lk_arena.specs.Shapes.{shape_at, is_loose_shape, IsArena, IsEnd, IsFlatBut, NeverBoth, NeverSame, AreNodePairs};
 ghost use Rattle.lk_arena.specs.Steps.{AreApart, Leads, Merges, SamePairs, Unites, paired};
@@ -109,6 +110,7 @@ fn merge_rows(
     requires flat { IsFlatBut left.now.row arena.old.shapes arena.old.classes left.now.row left.now.fields left.now.tail }
     requires end { IsEnd left.now.row arena.old.shapes left.now.tail }
     requires kinds { IsFlatKinded arena.old.shapes arena.old.classes left.now.row left.now.fields left.now.tail }
+    requires counts { IsFlatCounted left.now.row arena.old.shapes arena.old.classes left.now.row left.now.fields left.now.tail }
     requires known { is_loose_shape (shape_at arena.old.shapes to) ≡ false }
     ensures merged { IfOk result (λ merged. IsTrue merged → Merges left.now.row to arena.old.shapes arena.old.classes queue.old arena.new.shapes arena.new.classes queue.new) }
     ensures never { IfOk result (λ merged. (merged ≡ false) → NeverSame arena.old.shapes arena.old.classes left.now.row to) }

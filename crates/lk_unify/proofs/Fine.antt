@@ -1,8 +1,6 @@
--- How large the sides of equations are under what is read back of the nodes. Where each end of a row counts one no side gets smaller
--- by more equations.
-use Rattle.std.proofs.Common.{◌≡◌, ℕ, ◌+◌, ◌<◌, ◌≤◌, List, inl, inr, map, take, Some, sym, ◌∙◌, ap, subst, arith}
+-- How large the sides of equations are under what is read back of the nodes.
+use Rattle.std.proofs.Common.{◌≡◌, ℕ, ◌+◌, ◌<◌, ◌≤◌, List, inl, inr, map, Some, sym, ◌∙◌, ap, subst, arith}
 use Rattle.std.specs.FinMap as fin
-use Rattle.std.specs.Option.{option_map}
 use Rattle.lk_types.proofs.Members.{each_of_in}
 use Rattle.lk_types.proofs.Unfold.{nodes_variable}
 use Rattle.lk_types.specs.Each.{Each, OneOf}
@@ -19,24 +17,17 @@ use Rattle.lk_types.specs.declared.ty.Variable.TheVariants as variable
 use Rattle.lk_unify.proofs.Bindings.{all_read, names_of, puts_at, IsRead}
 use Rattle.lk_arena.proofs.EachLemmas.{Each-zip, OneOf-with}
 use Rattle.lk_unify.proofs.Instances.{PutsAt}
-use Rattle.lk_unify.proofs.Loadeds.{each_first}
-use Rattle.lk_unify.proofs.OpenCounts.{count_nodes, row_count_nodes, count_below}
+use Rattle.lk_unify.proofs.OpenCounts.{count_nodes, row_count_nodes}
 use Rattle.lk_unify.proofs.OpenSizes.{opening_size, opened_nodes}
 use Rattle.lk_unify.proofs.OpenUnfold.{count_rolled}
 use Rattle.lk_arena.proofs.Sizes.{no_entries}
 use Rattle.lk_unify.proofs.SolvedForm.{own_solves, solution_of}
-use Rattle.lk_unify.proofs.ValueCounts.{own_least}
-use Rattle.lk_unify.proofs.Within.{own_agrees, own_of_nodes}
 use Rattle.lk_arena.specs.Counting.{sum_of}
-use Rattle.lk_arena.specs.Kinds.{OfTypes}
-use Rattle.lk_unify.specs.Loading.{Agrees}
-use Rattle.lk_unify.specs.Nodes.{count, value_count}
+use Rattle.lk_unify.specs.Nodes.{count}
 use Rattle.lk_arena.specs.Openings.{Opening, IsOpenMet, opened, only_tail, row_type, effects_type, field_type}
 use Rattle.lk_unify.specs.Reading.{opening_by, subst_of}
-use Rattle.lk_arena.specs.Shapes.{FitsNodes, WeakNodes}
 use Rattle.lk_unify.specs.Small.{OwnNodes}
-use Rattle.lk_unify.specs.Solving.{HasNodes, IsSide}
-use Rattle.lk_arena.specs.Values.{Value, Plain}
+use Rattle.lk_arena.specs.Values.{Value}
 use Rattle.lk_unify.specs.declared.loader.Loader.{Loader}
 
 some_once : {A : Type 0} (a b : A) → Some a ≡ Some b → a ≡ b
@@ -106,34 +97,3 @@ module _ (es : List Equation) (o : OwnNodes es) where
     its_solution solution,
     OneOf-with (IsSideOf o (λ n. most_nodes < n)) (IsOpenMet (opening_by o.loader o.values)) (IsBeyond (subst_by o.loader o.values)) its_beyond es beyond (own_solves es o),
   )
-
--- ---- the first equations
-
-module _ (es : List Equation) (o : OwnNodes es) (k : ℕ) (part : HasNodes (take k es)) (solution : HasSolution (take k es)) where
-  abbrev pub p : OwnNodes (take k es)
-  p = own_of_nodes part solution
-
-  abbrev pub ρ : Opening
-  ρ = opening_by o.loader o.values
-
-  -- what all equations put for the variables gives values of the nodes of the first ones
-  values : (v : ℕ → Value) × FitsNodes part.loader.arena.shapes part.loader.arena.classes v × Agrees part.loader ρ v
-  values = part.says.forth ρ (each_first (IsOpenMet ρ) k es (own_solves es o))
-
-  weak_values : WeakNodes part.loader.arena.shapes part.loader.arena.classes values.0
-  weak_values = record { builds = λ i b named. values.1.builds i b; respects = values.1.respects }
-
-  side_value : (v : ℕ → Value) (ρ : Opening) (e : Equation) (n : ℕ) (t : Ty) → IsSide part.loader e n → WeakNodes part.loader.arena.shapes part.loader.arena.classes v → Agrees part.loader ρ v →
-      opened ρ e.left ≡ Some t → v n ≡ Plain t
-  side_value v ρ e n t side fits agrees is = sym (some_once (Plain t) (v n) (sym (ap (option_map Plain) is) ∙ side.meaning v ρ fits agrees))
-
-  -- a side counts no more than under all equations
-  pub side_below : (e : Equation) (n : ℕ) (t u : Ty) → IsSide part.loader e n → part.kind n ≡ OfTypes → opened (opening_by p.loader p.values) e.left ≡ Some t → opened ρ e.left ≡ Some u → count 0 t ≤ count 1 u
-  side_below e n t u side types is whole =
-      let least : value_count 1 (part.kind n) (p.values n) ≤ value_count 1 (part.kind n) (values.0 n) =
-      own_least part.loader.arena.shapes part.loader.arena.classes part.kind p.rank p.name p.values values.0 part.says.whole.arena part.kinded.nodes p.ranked p.own weak_values n side.below in
-      let at_types : value_count 1 OfTypes (p.values n) ≤ value_count 1 OfTypes (values.0 n) = subst (λ k. value_count 1 k (p.values n) ≤ value_count 1 k (values.0 n)) types least in
-      let ours : value_count 1 OfTypes (p.values n) ≡ count 1 t = ap (value_count 1 OfTypes) (side_value p.values (opening_by p.loader p.values) e n t side p.own.fits (own_agrees p) is) in
-      let theirs : value_count 1 OfTypes (values.0 n) ≡ count 1 u = ap (value_count 1 OfTypes) (side_value values.0 ρ e n u side weak_values values.2 whole) in
-      let open_ends = count_below t in
-      omega arith

@@ -5,18 +5,25 @@ use Rattle.std.proofs.lemmas.List.{length-take-le, take_all}
 use Rattle.std.specs.Prelude.{IfNone, IfSome}
 use Rattle.lk_types.specs.Solutions.{HasSolution}
 use Rattle.lk_types.specs.declared.equation.Equation.{Equation}
-use Rattle.lk_unify.proofs.Decided.{any_solution}
+use Rattle.lk_unify.proofs.Decided.{any_solution, says_all}
 use Rattle.lk_unify.proofs.FineSides.{all_few}
 use Rattle.lk_unify.proofs.FineSides as sides
 use Rattle.lk_unify.proofs.Firsts.{all_first, first_of_first, none_first, one_more, solution_first}
 use Rattle.lk_unify.proofs.Joined.{end_first, equations_first, equations_joined, joined_first, joined_length, sizings_first, sizings_joined}
 use Rattle.lk_unify.proofs.SideCounts.{beyond_more, by_late, within_less}
 use Rattle.lk_unify.proofs.SideTypes.{has_few, has_many, own_sides}
-use Rattle.lk_unify.proofs.Within.{loaded_first, own_of_nodes}
+use Rattle.lk_unify.proofs.Within.{loaded_first, own_of_nodes, ranking}
+use Rattle.lk_arena.proofs.Counted.{count_by, counts_cover, counts_exist, types_some}
+use Rattle.lk_arena.specs.Counting.{count_at, saturated, AreCounted, CountOnceOpen, IsCountOf}
+use Rattle.lk_arena.specs.Kinds.{Kind, OfTypes}
+use Rattle.lk_arena.specs.Order.{IsRanked}
+use Rattle.lk_arena.specs.Shapes.{IsArena}
+use Rattle.lk_arena.specs.declared.counting.Count.{Count}
+use Rattle.lk_arena.specs.declared.node.Shape.{Shape}
 use Rattle.lk_unify.specs.Constraints.{end_of, equations_of, matters, AllFine, AreLarge, IsFirstLarge, IsFirstUnmet}
 use Rattle.lk_unify.specs.Nodes.{count}
-use Rattle.lk_unify.specs.SideSizes.{is_late, joined, last_by, sizings_of, AllMakeFew, CountFew, CountMany, HasFew, HasMany, IsFirstMany, MakeFew}
-use Rattle.lk_unify.specs.Solving.{AreLoaded, HasNodes, IsFirstWithout}
+use Rattle.lk_unify.specs.SideSizes.{is_late, joined, last_by, sizings_of, AllMakeFew, AreAllWithin, CountFew, CountMany, HasFew, HasMany, IsFirstMany, MakeFew}
+use Rattle.lk_unify.specs.Solving.{AreLoaded, HadNodes, HasNodes, IsFirstWithout}
 use Rattle.lk_unify.specs.declared.constraint.Constraint.{Constraint}
 use Rattle.lk_unify.specs.declared.constraint.Sizing.{Sizing}
 use Rattle.lk_unify.specs.declared.constraint.Sizing.TheVariants.{Late}
@@ -41,17 +48,37 @@ module _ (es : List Equation) (ss : List Sizing) (same : length ss ≡ length es
   solved : HasSolution es → HasSolution (equations_of cs)
   solved solution = subst HasSolution (sym (equations_joined es ss same)) solution
 
-  -- of all that are loaded none has one too large, though each end counts one
-  pub surely : (all : Loaded) → AreLoaded all.loader all.sides es (length es) → HasSolution es → CountFew 1 (Some Late) all ss → AllMakeFew (joined es ss)
-  surely all loaded solution counted =
-      all_few cs
-      (subst (λ es. HasFew 1 (Some Late) es (sizings_of cs)) equations (subst (λ ss. HasFew 1 (Some Late) es ss) (sym (sizings_joined es ss same))
-      (has_few all.loader all.sides es loaded solution 1 counted.0 counted.1 (Some Late) ss counted.2)))
-      (solved solution)
-      (subst (λ es. (j : ℕ) → j ≤ length es → HasNodes (take j es)) equations loaded.before)
-    where
-      equations : es ≡ equations_of cs
-      equations = sym (equations_joined es ss same)
+  -- of all that are loaded none has one too large, though each end that was open once counts one
+  module _ (all : Loaded) (loaded : AreLoaded all.loader all.sides es (length es)) (solution : HasSolution es) (ends : ℕ → ℕ)
+      (once : CountOnceOpen all.loader.arena.shapes all.loader.arena.classes ends) where
+    abbrev shapes : List Shape
+    shapes = all.loader.arena.shapes
+
+    abbrev classes : List ℕ
+    classes = all.loader.arena.classes
+
+    abbrev arena : IsArena shapes classes
+    arena = loaded.says.whole.arena
+
+    ranked : (rank : ℕ → ℕ) × IsRanked shapes classes rank
+    ranked = ranking all.loader es (says_all all.loader all.sides es loaded) solution
+
+    abbrev c : ℕ → ℕ
+    c = count_by shapes classes arena loaded.kind ranked.0 ranked.1 ends
+
+    counted : AreCounted ends shapes classes loaded.kind c
+    counted = counts_exist shapes classes arena loaded.kind ranked.0 ranked.1 ends
+
+    of_kind : (k : Kind) (count : Count) (n : ℕ) → k ≡ OfTypes → IsCountOf k count n → count.as_type ≡ saturated n
+    of_kind k count n is of = subst (λ k. IsCountOf k count n) is of
+
+    pub surely : CountFew ends (Some Late) all ss → AllMakeFew (joined es ss)
+    surely few =
+        all_few all.loader loaded.kind all.sides c (λ n. (count_at classes few.0 n).as_type)
+        (counts_cover shapes classes arena loaded.kind loaded.kinded.nodes ends c counted once) (types_some shapes classes arena loaded.kind loaded.kinded.nodes ends c counted)
+        (λ n below is. of_kind (loaded.kind n) (count_at classes few.0 n) (c n) is (few.1 loaded.kind c loaded.kinded.nodes counted n below)) cs
+        (subst (λ ss. AreAllWithin (Some Late) ss (map (λ n. (count_at classes few.0 n).as_type) all.sides)) (sym (sizings_joined es ss same)) few.2)
+        (solved solution) (subst (λ es. (j : ℕ) → j ≤ length es → HadNodes (take j es) all.loader loaded.kind all.sides) (sym (equations_joined es ss same)) loaded.before)
 
   pub whole_few : AllMakeFew (joined es ss) → AllMakeFew (take (length es) (joined es ss))
   whole_few few = subst AllMakeFew (sym (take_all (length es) cs (let l = joined_length es ss same in omega arith))) few
@@ -78,28 +105,28 @@ module _ (es : List Equation) (ss : List Sizing) (same : length ss ≡ length es
     abbrev part : AreLoaded all.loader all.sides (take (k + 1) es) (length (take (k + 1) es))
     part = loaded_first all.loader all.sides es (k + 1) (omega arith) loaded
 
-    pub one_more_few : CountFew 0 (last_by (is_late s)) all (take (k + 1) ss) → AllMakeFew (take (k + 1) (joined es ss))
+    pub one_more_few : CountFew (λ p. 0) (last_by (is_late s)) all (take (k + 1) ss) → AllMakeFew (take (k + 1) (joined es ss))
     one_more_few counted =
-        let has : HasFew 0 (last_by (is_late s)) (take (k + 1) es) (take (k + 1) ss) =
-        has_few all.loader all.sides (take (k + 1) es) part (solution_first es (k + 1) solution) 0 counted.0 counted.1 (last_by (is_late s)) (take (k + 1) ss) counted.2 in
-        let here : HasFew 0 (end_of (take (k + 1) cs)) (take (k + 1) es) (take (k + 1) ss) =
+        let has : HasFew (last_by (is_late s)) (take (k + 1) es) (take (k + 1) ss) =
+        has_few all.loader all.sides (take (k + 1) es) part (solution_first es (k + 1) solution) counted.0 counted.1 (last_by (is_late s)) (take (k + 1) ss) counted.2 in
+        let here : HasFew (end_of (take (k + 1) cs)) (take (k + 1) es) (take (k + 1) ss) =
         (has.0, within_less (last_by (is_late s)) (end_of (take (k + 1) cs)) (λ t m. sym (matters_as t) ∙ m) (take (k + 1) ss) (map (count 0) has.0.types) has.1) in
         one_more MakeFew cs k below_all few
-        (subst (λ es. HasFew 0 (end_of (take (k + 1) cs)) es (sizings_of (take (k + 1) cs))) (sym (equations_first es ss (k + 1) same))
-        (subst (λ ss. HasFew 0 (end_of (take (k + 1) cs)) (take (k + 1) es) ss) (sym (sizings_first es ss (k + 1) same)) here))
+        (subst (λ es. HasFew (end_of (take (k + 1) cs)) es (sizings_of (take (k + 1) cs))) (sym (equations_first es ss (k + 1) same))
+        (subst (λ ss. HasFew (end_of (take (k + 1) cs)) (take (k + 1) es) ss) (sym (sizings_first es ss (k + 1) same)) here))
 
-    pub first_many : CountMany 0 (last_by (is_late s)) all (take (k + 1) ss) → IsFirstMany (joined es ss) k
+    pub first_many : CountMany (λ p. 0) (last_by (is_late s)) all (take (k + 1) ss) → IsFirstMany (joined es ss) k
     first_many counted =
-        let has : HasMany 0 (last_by (is_late s)) (take (k + 1) es) (take (k + 1) ss) =
-        has_many all.loader all.sides (take (k + 1) es) part (solution_first es (k + 1) solution) 0 counted.0 counted.1 (last_by (is_late s)) (take (k + 1) ss) counted.2 in
-        let here : HasMany 0 (end_of (take (k + 1) cs)) (take (k + 1) es) (take (k + 1) ss) =
+        let has : HasMany (last_by (is_late s)) (take (k + 1) es) (take (k + 1) ss) =
+        has_many all.loader all.sides (take (k + 1) es) part (solution_first es (k + 1) solution) counted.0 counted.1 (last_by (is_late s)) (take (k + 1) ss) counted.2 in
+        let here : HasMany (end_of (take (k + 1) cs)) (take (k + 1) es) (take (k + 1) ss) =
         (has.0, beyond_more (end_of (take (k + 1) cs)) (last_by (is_late s)) (λ t m. matters_as t ∙ m) (take (k + 1) ss) (map (count 0) has.0.types) has.1) in
         record {
           within = below_all;
           few = few;
           many =
-              subst (λ es. HasMany 0 (end_of (take (k + 1) cs)) es (sizings_of (take (k + 1) cs))) (sym (equations_first es ss (k + 1) same))
-              (subst (λ ss. HasMany 0 (end_of (take (k + 1) cs)) (take (k + 1) es) ss) (sym (sizings_first es ss (k + 1) same)) here);
+              subst (λ es. HasMany (end_of (take (k + 1) cs)) es (sizings_of (take (k + 1) cs))) (sym (equations_first es ss (k + 1) same))
+              (subst (λ ss. HasMany (end_of (take (k + 1) cs)) (take (k + 1) es) ss) (sym (sizings_first es ss (k + 1) same)) here);
         }
 
   -- ---- which are fine

@@ -35,6 +35,7 @@ module _ (e : Equation) where
       right_below = r.below;
       kinds = kinds_both a b c (λ j. j left ≡ OfTypes) (λ j. j right ≡ OfTypes) l.to.longer r.to.longer l.kinds r.kinds;
       back = two.back;
+      covers = two.covers;
       sides = λ v ρ fits agrees. both_some (type_meaning e.left ρ) (type_meaning e.right ρ) (v left, v right) (two.is v ρ fits agrees);
       is = λ v ρ fits agrees same.
           let s = both_some (type_meaning e.left ρ) (type_meaning e.right ρ) (v left, v right) (two.is v ρ fits agrees) in

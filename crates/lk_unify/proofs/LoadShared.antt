@@ -9,7 +9,7 @@ use Rattle.lk_types.specs.declared.ty.Ty.TheVariants as ty
 use Rattle.lk_types.specs.declared.ty.Variable.{Variable}
 use Rattle.lk_unify.proofs.EffectSets.{same_set}
 use Rattle.lk_unify.proofs.LoadKinds.{put, kinded_nodes, new_kind, old_kind}
-use Rattle.lk_unify.proofs.LoadSteps.{some_once, added_arena, added_back, added_below, added_built, added_made, added_node, one_longer, same_names, weak}
+use Rattle.lk_unify.proofs.LoadSteps.{some_once, added_arena, added_back, added_covers, added_below, added_built, added_made, added_node, one_longer, same_names, weak}
 use Rattle.lk_unify.proofs.LoadTypes.{plains_once}
 use Rattle.lk_unify.proofs.RowsBefore.{before_once}
 use Rattle.lk_arena.proofs.RowAlgebra.{bool_cases, row_same}
@@ -71,6 +71,7 @@ makes_found l kind s n whole found =
       below = made.below;
       names = λ x. refl;
       back = λ v h. h;
+      covers = λ c h. h;
       built = made.built;
       forth = λ v x fits built. (v, (λ i h. refl), fits, built_value s v (v n) x made.known (made.built v (weak l v fits)) built);
       kinds = λ k kinded has. (k, (λ i h. refl), kinded, kinded.made found.0 (record { kind = kind; shape = s; node = n }) found.1);
@@ -136,6 +137,7 @@ module _ (b c d : Loader) (kind : NodeKind) (s : Shape) (k : ℕ) (can : CanMake
     below = added_below b c s k can.whole add can.parts;
     names = same_names_all;
     back = added_back b c s k can.whole add can.parts;
+    covers = added_covers b c s k can.whole add can.parts;
     built = added_built b c s k can.whole add can.parts;
     forth = added_node b c s k can.whole add can.parts;
     kinds = kinds;

@@ -11,9 +11,10 @@ use Rattle.lk_arena.specs.Openings.{Opening}
 use Rattle.lk_types.specs.Variables.{same_variable}
 use Rattle.lk_types.specs.declared.ty.TyField.{TyField}
 use Rattle.lk_types.specs.declared.ty.Variable.{Variable}
+use Rattle.lk_arena.proofs.Covering.{covers_push}
 use Rattle.lk_arena.proofs.Growth.{HasNode-push, WeakNodes-push, built_push, IsArena-push, more_count}
 use Rattle.lk_arena.specs.Kinds.{Kind}
-use Rattle.lk_unify.specs.Loading.{node_for, made_at, Agrees, IsLoader, IsMade, LoadsTo, Loads, LoadsAll, LoadsFields, Loaded, LoadedAll, LoadedFields, Makes, NeverMeans, Adds, fields_meaning}
+use Rattle.lk_unify.specs.Loading.{node_for, made_at, Agrees, CoversBack, IsLoader, IsMade, LoadsTo, Loads, LoadsAll, LoadsFields, Loaded, LoadedAll, LoadedFields, Makes, NeverMeans, Adds, fields_meaning}
 use Rattle.lk_arena.specs.Shapes.{parts_of, fields_in, IsArena, IsBuilt, IsDistinct, HasFields, HasNode, FitsNodes, WeakNodes, SameBelow}
 use Rattle.lk_arena.specs.Values.{Value}
 use Rattle.lk_unify.specs.declared.loader.Loader.{Loader}
@@ -53,6 +54,7 @@ loads_nothing l a whole = record {
   kept = λ x n e. e;
   local = λ v w s. refl;
   back = λ v f. f;
+  covers = λ c f. f;
   is = λ v ρ f g. refl;
   forth = λ v ρ x fits agrees e. (v, (λ i h. refl), fits, agrees, some_once a x e);
 }
@@ -65,6 +67,7 @@ loads_both a b c m r n q f g = record {
   kept = λ x k e. g.kept x k (f.kept x k e);
   local = λ v w s. (λ i. (f.local v w (λ k h. s k (let y = g.longer in omega arith)) i, g.local v w s i));
   back = λ v h. f.back v (g.back v h);
+  covers = λ c h. f.covers c (g.covers c h);
   is = λ v ρ h agrees. (λ i. both (f.is v ρ (g.back v h) (agrees_before b c ρ v g.kept agrees) i) (g.is v ρ h agrees i));
   forth = λ v ρ x fits agrees e.
       let s = both_some (m ρ) (n ρ) x e in
@@ -87,6 +90,7 @@ loads_as old new m r f n q l meaning read = record {
   kept = l.kept;
   local = λ v w s. read w ∙ ap f (l.local v w s) ∙ sym (read v);
   back = l.back;
+  covers = l.covers;
   is = λ v ρ h agrees. meaning ρ ∙ ap (option_map f) (l.is v ρ h agrees) ∙ ap Some (sym (read v));
   forth = λ v ρ x fits agrees e.
       let s = mapped f (m ρ) x (sym (meaning ρ) ∙ e) in
@@ -135,6 +139,9 @@ module _ (b c : Loader) (s : Shape) (k : ℕ) (whole : IsLoader b) (add : Adds b
   pub added_back : (v : ℕ → Value) → WeakNodes c.arena.shapes c.arena.classes v → WeakNodes b.arena.shapes b.arena.classes v
   added_back = WeakNodes-push b.arena.shapes b.arena.classes s c.arena.shapes c.arena.classes k whole.arena parts add.shapes added_classes add.number
 
+  pub added_covers : CoversBack b c
+  added_covers = covers_push b.arena.shapes b.arena.classes s c.arena.shapes c.arena.classes whole.arena parts add.shapes added_classes
+
   pub added_built : (v : ℕ → Value) → WeakNodes c.arena.shapes c.arena.classes v → IsBuilt s v (v k)
   added_built = built_push b.arena.shapes b.arena.classes s c.arena.shapes c.arena.classes k whole.arena parts add.shapes added_classes add.number
 
@@ -166,6 +173,7 @@ module _ {A : Type 0} (a b c : Loader) (m : Opening → Option A) (r : (ℕ → 
     kept = λ y j e. makes.names y ∙ l.kept y j e;
     local = λ v w same. same k makes.below;
     back = λ v h. l.back v (makes.back v h);
+    covers = λ c h. l.covers c (makes.covers c h);
     is = λ v ρ h agrees. says v (v k) ρ (l.is v ρ (makes.back v h) (agrees_old ρ v agrees)) (makes.built v h);
     forth = λ v ρ y fits agrees e.
         let z = builds y ρ e in

@@ -12,7 +12,8 @@ use Rattle.lk_types.specs.declared.ty.Variable.{Variable}
 use Rattle.lk_types.specs.declared.ty.Variable.TheVariants as variable
 use Rattle.lk_unify.proofs.LoadKinds.{put, old_kind, new_kind, kinded_nodes}
 use Rattle.lk_types.proofs.SameVariable.{agrees, test_is, same_is, same_self}
-use Rattle.lk_unify.proofs.LoadSteps.{some_once, one_longer, same_names, added_below, added_back, added_made, added_node, added_arena}
+use Rattle.lk_unify.proofs.LoadSteps.{some_once, one_longer, same_names, added_below, added_back, added_covers, added_made, added_node, added_arena}
+use Rattle.lk_arena.specs.Covering.{Covers}
 use Rattle.lk_arena.specs.Kinds.{Kind, HasKind, AreKinded}
 use Rattle.lk_unify.specs.Loading.{KindsTo, kind_of, made_at, node_for, value_of, shape_for, IsLoader, IsMade, Loads, Adds}
 use Rattle.lk_arena.specs.Shapes.{parts_of, fields_in, IsArena, IsBuilt, IsDistinct, HasFields, FitsNodes, WeakNodes}
@@ -64,6 +65,7 @@ loads_known l x n whole is = record {
     kept = λ y k e. e;
     local = λ v w same. same n (whole.named x n is);
     back = λ v h. h;
+    covers = λ c h. h;
     is = λ v ρ h agrees. ap Some (sym (agrees.at x n is));
     forth = λ v ρ y fits agrees e. (v, (λ i h. refl), fits, agrees, agrees.at x n is ∙ some_once (value_of ρ x) y e);
   };
@@ -153,6 +155,7 @@ module _ (b c d : Loader) (x : Variable) (k : ℕ) (whole : IsLoader b) (none : 
       kept = kept_names;
       local = λ v w same. same k below;
       back = λ v h. added_back b c (shape_for x) k whole add parts v (subst (λ a. WeakNodes a.shapes a.classes v) arena h);
+      covers = λ q h. added_covers b c (shape_for x) k whole add parts q (subst (λ a. Covers a.shapes a.classes q) arena h);
       is = λ v ρ h agrees. ap Some (sym (agrees.at x k new_name));
       forth = λ v ρ y fits agrees e.
           let s : value_of ρ x ≡ y = some_once (value_of ρ x) y e in

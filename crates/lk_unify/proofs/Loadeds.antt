@@ -1,5 +1,5 @@
 -- Equations that are made into nodes one after another.
-use Rattle.std.proofs.Common.{◌≡◌, ℕ, zero, suc, ◌+◌, ◌<◌, ◌≤◌, List, [], ◌∷◌, ◌++◌, ◌⊎◌, inl, inr, ⊎_elim, length, take, get_or, refl, sym, subst, ◌∙◌, ap, arith}
+use Rattle.std.proofs.Common.{◌≡◌, ℕ, zero, suc, ◌+◌, ◌<◌, ◌≤◌, List, [], ◌∷◌, ◌++◌, ◌⊎◌, inl, inr, ⊎_elim, length, take, get_or, refl, sym, subst, ◌∙◌, ap, arith, append_assoc, append-nil}
 use Rattle.std.proofs.lemmas.List.{take_more}
 use Rattle.std.specs.Prelude.{IsSome}
 use Rattle.lk_types.proofs.Members.{each_both, each_front, each_back}
@@ -13,7 +13,7 @@ use Rattle.lk_unify.proofs.Solving.{bound_still}
 use Rattle.lk_arena.specs.Kinds.{Kind, OfTypes}
 use Rattle.lk_unify.specs.Loading.{node_for, IsKinded, SameKinds}
 use Rattle.lk_arena.specs.Openings.{IsOpenMet, OpenSolves, as_opening}
-use Rattle.lk_unify.specs.Solving.{Says, HasNodes, AddsEquation, AddsSide, AreBound, AreLoaded, AreSides, IsSide, IsStart, NeverMeets}
+use Rattle.lk_unify.specs.Solving.{Says, HadNodes, HasNodes, AddsEquation, AddsSide, AreBound, AreLoaded, AreSides, IsSide, IsStart, NeverMeets}
 use Rattle.lk_unify.specs.declared.loader.Loader.{Loader}
 use Rattle.lk_unify.specs.declared.solvable.Loaded.{Loaded}
 
@@ -93,7 +93,7 @@ last_or_before j k h = ⊎_elim (λ l. inl (omega arith)) (λ e. ⊎_elim (λ sa
     order (suc m) (suc n) = ⊎_elim (λ l. inl (omega arith)) (λ e. ⊎_elim (λ same. inr (inl (ap suc same))) (λ more. inr (inr (omega arith))) e) (order m n)
 
 module _ (l : Loader) (all : List Equation) (bound : AreBound l (equation_variables all)) (kind : ℕ → Kind) (kinded : IsKinded l kind) where
-  nodes_of : (k : ℕ) → Says l (take k all) → (sides : List ℕ) → AreSides l (take k all) sides → Each (λ n. kind n ≡ OfTypes) sides → HasNodes (take k all)
+  abbrev nodes_of : (k : ℕ) → Says l (take k all) → (sides : List ℕ) → AreSides l (take k all) sides → Each (λ n. kind n ≡ OfTypes) sides → HasNodes (take k all)
   nodes_of k says sides are types = record {
     loader = l;
     says = says;
@@ -105,6 +105,23 @@ module _ (l : Loader) (all : List Equation) (bound : AreBound l (equation_variab
     types = types;
   }
 
+  all_nodes : (k : ℕ) → Says l (take k all) → (sides : List ℕ) → AreSides l (take k all) sides → Each (λ n. kind n ≡ OfTypes) sides → HadNodes (take k all) l kind sides
+  all_nodes k says sides are types =
+      (nodes_of k says sides are types, record { longer = omega arith; covers = λ c h. h; kinds = λ i h. refl; first = ([], sym (append-nil sides)) })
+
+-- those from before were there before the new ones
+still_before : (es : List Equation) (old new : Loader) (e : Equation) (node : ℕ) (adds : AddsEquation old new e node) (kind more : ℕ → Kind) → SameKinds (length old.arena.shapes) kind more →
+    (sides : List ℕ) → HadNodes es old kind sides → HadNodes es new more (sides ++ node ∷ [])
+still_before es old new e node adds kind more same sides had = (
+  had.0,
+  record {
+    longer = omega (arith, had.1.longer, adds.longer);
+    covers = λ c h. had.1.covers c (adds.covers c h);
+    kinds = λ i h. same i (omega (arith, had.1.longer)) ∙ had.1.kinds i h;
+    first = (had.1.first.0 ++ node ∷ [], ap (λ ns. ns ++ node ∷ []) had.1.first.1 ∙ append_assoc had.0.sides had.1.first.0 (node ∷ []));
+  },
+)
+
 pub loaded_none : (l : Loader) (es : List Equation) → IsStart l → AreBound l (equation_variables es) → AreLoaded l [] es 0
 loaded_none l es start bound = record {
   says = says;
@@ -113,7 +130,7 @@ loaded_none l es start bound = record {
   kind = start.kind;
   kinded = start.kinded;
   types = tt;
-  before = λ j h. subst (λ j. HasNodes (take j es)) (sym (zero_only j h)) (nodes_of l es bound start.kind start.kinded 0 says [] tt tt);
+  before = λ j h. subst (λ j. HadNodes (take j es) l start.kind []) (sym (zero_only j h)) (all_nodes l es bound start.kind start.kinded 0 says [] tt tt);
 }
   where
     says : Says l (take 0 es)
@@ -129,7 +146,10 @@ loaded_more old new sides es k e node below at loaded adds = record {
   kinded = kinds.2;
   types = types;
   before = λ j h.
-      ⊎_elim (λ l. loaded.before j l) (λ same. subst (λ j. HasNodes (take j es)) (sym same) (nodes_of new es bound kinds.0 kinds.2 (k + 1) says (sides ++ node ∷ []) are types)) (last_or_before j k h);
+      ⊎_elim
+      (λ l. still_before (take j es) old new e node adds loaded.kind kinds.0 kinds.1 sides (loaded.before j l))
+      (λ same. subst (λ j. HadNodes (take j es) new kinds.0 (sides ++ node ∷ [])) (sym same) (all_nodes new es bound kinds.0 kinds.2 (k + 1) says (sides ++ node ∷ []) are types))
+      (last_or_before j k h);
 }
   where
     first : take (k + 1) es ≡ take k es ++ e ∷ []

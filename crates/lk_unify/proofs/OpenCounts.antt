@@ -1,6 +1,5 @@
--- What types count: with 0 how large they are, with 1 one at least; a row by its entries, its fields and its tail; effects by their
--- row.
-use Rattle.std.proofs.Common.{◌≡◌, ℕ, ◌+◌, ◌≤◌, List, [], ◌∷◌, length, map, refl, sym, ◌∙◌, ap, ap₂, arith}
+-- What types count where closed ends count nothing: as many as they have nodes.
+use Rattle.std.proofs.Common.{◌≡◌, ℕ, ◌+◌, List, [], ◌∷◌, length, map, refl, sym, ◌∙◌, ap, ap₂, arith}
 use Rattle.std.specs.List.{fold, sum}
 use Rattle.lk_types.proofs.Members.{each_weaker}
 use Rattle.lk_types.proofs.Unfold.{nodes_int, nodes_bool, nodes_text, nodes_list, nodes_fields, nodes_tags, nodes_function, nodes_variable, nodes_field}
@@ -32,10 +31,6 @@ sum_is xs = let e : fold (λ a x. a + x) 0 xs ≡ 0 + sum_of xs = sum_from 0 xs 
 pub sums_same : {A : Type 0} (f g : A → ℕ) (xs : List A) → Each (λ x. f x ≡ g x) xs → sum_of (map f xs) ≡ sum_of (map g xs)
 sums_same f g [] e = refl
 sums_same f g (x ∷ xs) e = ap₂ (λ a b. a + b) e.0 (sums_same f g xs e.1)
-
-pub sums_below : {A : Type 0} (f g : A → ℕ) (xs : List A) → Each (λ x. f x ≤ g x) xs → sum_of (map f xs) ≤ sum_of (map g xs)
-sums_below f g [] e = omega arith
-sums_below f g (x ∷ xs) e = let here = e.0 in let below = sums_below f g xs e.1 in omega arith
 
 -- ---- rows that are rolled
 
@@ -99,77 +94,3 @@ count_nodes = every_type SameSize SameRowSize same_sizes
 
 pub row_count_nodes : (r : TyRow) → row_count 0 r ≡ row_nodes_with one r
 row_count_nodes = every_row SameSize SameRowSize same_sizes
-
--- ---- one at least, and no less with 1
-
-abbrev HasSize : ℕ → Ty → Type 0
-HasSize closed t = 1 ≤ count closed t
-
-abbrev Anything : TyRow → Type 0
-Anything r = Unit {0}
-
-some_sizes : (closed : ℕ) → Hereditary (HasSize closed) Anything
-some_sizes closed = record {
-  at_int = let e = count_int closed in omega arith;
-  at_bool = let e = count_bool closed in omega arith;
-  at_text = let e = count_text closed in omega arith;
-  at_list = λ t h. (let e = count_list closed t in omega arith);
-  at_fields = λ r h. (let e = count_fields closed r in omega arith);
-  at_tags = λ r h. (let e = count_tags closed r in omega arith);
-  at_function = λ ps es t each h. (let e = count_function closed ps es t in omega arith);
-  at_variable = λ n. (let e = count_variable closed n in omega arith);
-  at_row = λ fs tail each. tt;
-}
-
-pub count_some : (closed : ℕ) (t : Ty) → 1 ≤ count closed t
-count_some closed = every_type (HasSize closed) Anything (some_sizes closed)
-
-end_counts_one : (tail : RowTail) → end_count 1 tail ≡ 1
-end_counts_one Closed = refl
-end_counts_one (Var n) = refl
-
-pub row_count_some : (r : TyRow) → 1 ≤ row_count 1 r
-row_count_some r = let e = count_row 1 r in let tail = end_counts_one (out-TyRow r).tail in omega arith
-
-pub end_count_below : (tail : RowTail) → end_count 0 tail ≤ end_count 1 tail
-end_count_below Closed = omega arith
-end_count_below (Var n) = omega arith
-
-abbrev NoLess : Ty → Type 0
-NoLess t = count 0 t ≤ count 1 t
-
-abbrev NoLessRow : TyRow → Type 0
-NoLessRow r = row_count 0 r ≤ row_count 1 r
-
-one_more_below : (f : TyField) → NoLess f.ty → 1 + count 0 f.ty ≤ 1 + count 1 f.ty
-one_more_below f h = omega arith
-
-no_less : Hereditary NoLess NoLessRow
-no_less = record {
-  at_int = let a = count_int 0 in let b = count_int 1 in omega arith;
-  at_bool = let a = count_bool 0 in let b = count_bool 1 in omega arith;
-  at_text = let a = count_text 0 in let b = count_text 1 in omega arith;
-  at_list = λ t h. (let a = count_list 0 t in let b = count_list 1 t in omega arith);
-  at_fields = λ r h. (let a = count_fields 0 r in let b = count_fields 1 r in omega arith);
-  at_tags = λ r h. (let a = count_tags 0 r in let b = count_tags 1 r in omega arith);
-  at_function = λ ps es t each h.
-      (let a = count_function 0 ps es t in
-      let b = count_function 1 ps es t in
-      let params = sums_below (count 0) (count 1) ps each in
-      let tail = end_count_below es.tail in
-      omega arith);
-  at_variable = λ n. (let a = count_variable 0 n in let b = count_variable 1 n in omega arith);
-  at_row = λ fs tail each.
-      (let a = count_rolled 0 fs tail in
-      let b = count_rolled 1 fs tail in
-      let fields = sums_below (λ (f : TyField). 1 + count 0 f.ty) (λ f. 1 + count 1 f.ty) fs
-      (each_weaker (λ (f : TyField). NoLess f.ty) (λ f. 1 + count 0 f.ty ≤ 1 + count 1 f.ty) one_more_below fs each) in
-      let end = end_count_below tail in
-      omega arith);
-}
-
-pub count_below : (t : Ty) → count 0 t ≤ count 1 t
-count_below = every_type NoLess NoLessRow no_less
-
-pub row_count_below : (r : TyRow) → row_count 0 r ≤ row_count 1 r
-row_count_below = every_row NoLess NoLessRow no_less

@@ -1,14 +1,21 @@
 -- Numbers of which some matter, by the sizings beside them: all within what a type may have, or one beyond.
-use Rattle.std.proofs.Common.{◌≡◌, ℕ, zero, suc, ◌+◌, ◌<◌, ◌≤◌, true, inl, inr, List, [], ◌∷◌, length, map, take, get_or, Option, Some, None, refl, subst, arith}
+use Rattle.std.proofs.Common.{◌≡◌, ℕ, zero, suc, ◌+◌, ◌<◌, ◌≤◌, true, inl, inr, List, [], ◌∷◌, ◌++◌, length, map, take, get_or, Option, Some, None, refl, sym, ◌∙◌, ap, subst, arith}
+use Rattle.std.specs.Prelude.{replicate}
+use Rattle.lk_classes.specs.Classes.{class_at}
 use Rattle.lk_types.specs.Sizes.{most_nodes}
 use Rattle.lk_types.specs.declared.ty.Ty.{Ty}
 use Rattle.lk_unify.proofs.OpenCounts.{count_nodes}
+use Rattle.lk_arena.specs.Counting.{counted, end_at, AreCountsOf}
+use Rattle.lk_arena.specs.Shapes.{shape_at}
+use Rattle.lk_arena.specs.declared.counting.Count.{Count}
+use Rattle.lk_arena.specs.declared.node.Shape.{Shape}
 use Rattle.lk_unify.specs.Constraints.{matters, AreFew, AreTooMany}
 use Rattle.lk_unify.specs.Nodes.{count}
-use Rattle.lk_unify.specs.SideSizes.{is_late, last_by, sizings_of, AreAllWithin, IsOneBeyond}
+use Rattle.lk_unify.specs.SideSizes.{is_late, last_by, sizings_of, AreAllWithin, CountFew, CountMany, IsOneBeyond}
 use Rattle.lk_unify.specs.declared.constraint.Constraint.{Constraint}
 use Rattle.lk_unify.specs.declared.constraint.Sizing.{Sizing}
 use Rattle.lk_unify.specs.declared.constraint.Sizing.TheVariants.{Always, Late, Never}
+use Rattle.lk_unify.specs.declared.solvable.Loaded.{Loaded}
 
 -- ---- which matter
 
@@ -55,11 +62,11 @@ module _ (end : Option Sizing) (f : ℕ → ℕ) (d : Sizing) where
   beyond_at (s ∷ ss) (n ∷ ns) (suc i) below under is more = inr (beyond_at ss ns i (omega arith) (omega arith) is more)
 
 -- the first of them
-pub within_first : (end : Option Sizing) (k : ℕ) (ss : List Sizing) (ns : List ℕ) → AreAllWithin end ss ns → AreAllWithin end (take k ss) (take k ns)
-within_first end zero ss ns all = tt
-within_first end (suc k) [] ns all = tt
-within_first end (suc k) (s ∷ ss) [] all = tt
-within_first end (suc k) (s ∷ ss) (n ∷ ns) all = (all.0, within_first end k ss ns all.1)
+pub within_first : (end : Option Sizing) (f : ℕ → ℕ) (k : ℕ) (ss : List Sizing) (ns rest : List ℕ) → AreAllWithin end ss (map f (ns ++ rest)) → AreAllWithin end (take k ss) (map f ns)
+within_first end f zero ss ns rest all = tt
+within_first end f (suc k) [] ns rest all = tt
+within_first end f (suc k) (s ∷ ss) [] rest all = tt
+within_first end f (suc k) (s ∷ ss) (n ∷ ns) rest all = (all.0, within_first end f k ss ns rest all.1)
 
 -- where fewer sizes matter
 module _ (end less : Option Sizing) (fewer : (s : Sizing) → matters less s ≡ true → matters end s ≡ true) where
@@ -87,3 +94,22 @@ module _ (end : Option Sizing) where
   too_many (c ∷ cs) [] one = one
   too_many (c ∷ cs) (t ∷ ts) (inl is) = inl (is.0, subst (λ n. most_nodes < n) (count_nodes t) is.1)
   too_many (c ∷ cs) (t ∷ ts) (inr one) = inr (too_many cs ts one)
+
+-- ---- as counts of classes
+
+none_at : (n c : ℕ) → end_at (replicate n 0) c ≡ 0
+none_at zero c = refl
+none_at (suc n) zero = refl
+none_at (suc n) (suc c) = none_at n c
+
+-- a list of noughts is as good as their function
+none_counts : (n : ℕ) (shapes : List Shape) (classes : List ℕ) (counts : List Count) → AreCountsOf (end_at (replicate n 0)) shapes classes counts → AreCountsOf (λ p. 0) shapes classes counts
+none_counts n shapes classes counts are kind f kinded counted_f i below =
+    are kind f kinded (λ j under. counted_f j under ∙ ap (λ e. counted e (kind j) (shape_at shapes (class_at classes j)) f) (sym (none_at n (class_at classes j)))) i below
+
+module _ (n : ℕ) (end : Option Sizing) (all : Loaded) (ss : List Sizing) where
+  pub none_few : CountFew (end_at (replicate n 0)) end all ss → CountFew (λ p. 0) end all ss
+  none_few few = (few.0, none_counts n all.loader.arena.shapes all.loader.arena.classes few.0 few.1, few.2)
+
+  pub none_many : CountMany (end_at (replicate n 0)) end all ss → CountMany (λ p. 0) end all ss
+  none_many many = (many.0, none_counts n all.loader.arena.shapes all.loader.arena.classes many.0 many.1, many.2)

@@ -104,7 +104,7 @@ all_if_ok es count (Err e) many first = tt
 
 -- ---- their counts
 
-module _ (closed : ℕ) {es : List Equation} (o : OwnNodes es) (counts : List Count) (counted : AreCountsOf closed o.loader.arena.shapes o.loader.arena.classes counts) (end : Option Sizing) where
+module _ (closed : ℕ) {es : List Equation} (o : OwnNodes es) (counts : List Count) (counted : AreCountsOf (λ p. closed) o.loader.arena.shapes o.loader.arena.classes counts) (end : Option Sizing) where
   abbrev count_of : ℕ → ℕ
   count_of n = (count_at o.loader.arena.classes counts n).as_type
 
@@ -151,17 +151,17 @@ module _ (l : Loader) (sides : List ℕ) (es : List Equation) (loaded : AreLoade
   pub sides_as_many : length sides ≡ length es
   sides_as_many = sides_many l es sides (whole_sides l sides es loaded)
 
-  module _ (solution : HasSolution es) (closed : ℕ) (counts : List Count) (counted : AreCountsOf closed l.arena.shapes l.arena.classes counts) (end : Option Sizing) (ss : List Sizing) where
+  module _ (solution : HasSolution es) (counts : List Count) (counted : AreCountsOf (λ p. 0) l.arena.shapes l.arena.classes counts) (end : Option Sizing) (ss : List Sizing) where
     abbrev own : OwnNodes es
     own = own_nodes l sides es loaded solution
 
-    pub has_few : AreAllWithin end ss (map (λ n. (count_at l.arena.classes counts n).as_type) sides) → HasFew closed end es ss
+    pub has_few : AreAllWithin end ss (map (λ n. (count_at l.arena.classes counts n).as_type) sides) → HasFew end es ss
     has_few all =
-        (own_sides own sides (whole_sides l sides es loaded), types_within closed own counts counted end es sides ss (whole_sides l sides es loaded) loaded.types all)
+        (own_sides own sides (whole_sides l sides es loaded), types_within 0 own counts counted end es sides ss (whole_sides l sides es loaded) loaded.types all)
 
-    pub has_many : IsOneBeyond end ss (map (λ n. (count_at l.arena.classes counts n).as_type) sides) → HasMany closed end es ss
+    pub has_many : IsOneBeyond end ss (map (λ n. (count_at l.arena.classes counts n).as_type) sides) → HasMany end es ss
     has_many one =
-        (own_sides own sides (whole_sides l sides es loaded), type_beyond closed own counts counted end es sides ss (whole_sides l sides es loaded) loaded.types one)
+        (own_sides own sides (whole_sides l sides es loaded), type_beyond 0 own counts counted end es sides ss (whole_sides l sides es loaded) loaded.types one)
 
   -- ---- as they are read
 

@@ -55,9 +55,9 @@ pub all_small : (es : List Equation) (ss : List Sizing) → length ss ≡ length
 all_small es ss same all solution few k h =
     let whole = joined_length es ss same in
     let end : Option Sizing = end_of (take k (joined es ss)) in
-    let has : HasFew 0 end (take k es) (take k ss) =
-    subst (λ xs. HasFew 0 end xs (take k ss)) (equations_first es ss k same)
-    (subst (λ ys. HasFew 0 end (equations_of (take k (joined es ss))) ys) (sizings_first es ss k same) (few k (omega arith))) in
+    let has : HasFew end (take k es) (take k ss) =
+    subst (λ xs. HasFew end xs (take k ss)) (equations_first es ss k same)
+    (subst (λ ys. HasFew end (equations_of (take k (joined es ss))) ys) (sizings_first es ss k same) (few k (omega arith))) in
     let many : length (take k ss) ≡ k = length-take-le k ss (omega arith) in
     let as_many : length (take k es) ≡ k = length-take-le k es h in
     fine (take k es) has.0.own
@@ -68,9 +68,9 @@ first_too_large es ss same all solution k first =
     let whole = joined_length es ss same in
     let under = first.within in
     let end : Option Sizing = end_of (take (k + 1) (joined es ss)) in
-    let has : HasMany 0 end (take (k + 1) es) (take (k + 1) ss) =
-    subst (λ xs. HasMany 0 end xs (take (k + 1) ss)) (equations_first es ss (k + 1) same)
-    (subst (λ ys. HasMany 0 end (equations_of (take (k + 1) (joined es ss))) ys) (sizings_first es ss (k + 1) same) first.many) in
+    let has : HasMany end (take (k + 1) es) (take (k + 1) ss) =
+    subst (λ xs. HasMany end xs (take (k + 1) ss)) (equations_first es ss (k + 1) same)
+    (subst (λ ys. HasMany end (equations_of (take (k + 1) (joined es ss))) ys) (sizings_first es ss (k + 1) same) first.many) in
     let many : length (take k ss) ≡ k = length-take-le k ss (omega arith) in
     let as_many : length (take k es) ≡ k = length-take-le k es (omega arith) in
     record {

@@ -65,6 +65,7 @@ module _ (b m : Loader) (e : Equation) (p : Pair) (loads : LoadsEquation b m e p
       back = λ v ρ fits agrees.
           let at_m = back v ρ fits agrees in
           (loads.back v at_m.0, record { at = λ x n is. at_m.2.at x n (loads.kept x n is) });
+      covers = λ q h. loads.covers q (leads.covers q (record { nodes = h; equal = tt }));
       met = λ v ρ fits agrees.
           let at_m = back v ρ fits agrees in
           (loads.is v ρ at_m.0 at_m.2 at_m.1, (loads.sides v ρ at_m.0 at_m.2).0);

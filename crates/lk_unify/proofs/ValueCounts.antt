@@ -1,15 +1,14 @@
 -- What the values of nodes count. Where each class of which nothing is known is a variable, the counts follow from each other by the
--- shapes; and no values that fit count less.
-use Rattle.std.proofs.Common.{◌≡◌, ℕ, zero, suc, ◌+◌, ◌<◌, ◌≤◌, true, false, List, length, map, refl, sym, ◌∙◌, ap, ap₂, subst, arith}
+-- shapes.
+use Rattle.std.proofs.Common.{◌≡◌, ℕ, ◌+◌, ◌<◌, true, false, List, length, map, refl, sym, ◌∙◌, ap, ap₂, subst, arith}
 use Rattle.std.specs.FinMap as fin
 use Rattle.lk_classes.specs.Classes.{class_at}
-use Rattle.lk_types.proofs.Members.{each_weaker, each_from_map}
+use Rattle.lk_types.proofs.Members.{each_weaker}
 use Rattle.lk_types.specs.Each.{Each}
 use Rattle.lk_types.specs.declared.ty.RowTail.{RowTail}
 use Rattle.lk_types.specs.declared.ty.RowTail.TheVariants.{Closed, Var}
 use Rattle.lk_types.specs.declared.ty.Ty.TheVariants as ty
-use Rattle.lk_arena.proofs.EachLemmas.{Each-zip}
-use Rattle.lk_unify.proofs.OpenCounts.{sums_same, sums_below, count_some, row_count_some}
+use Rattle.lk_unify.proofs.OpenCounts.{sums_same}
 use Rattle.lk_unify.proofs.OpenUnfold.{count_variable}
 use Rattle.lk_unify.proofs.RowCounts.{its_rows, plain_count, row_count_fields, row_count_end, entries_by_fields, made_count}
 use Rattle.lk_arena.proofs.Sizes.{no_entries}
@@ -18,8 +17,7 @@ use Rattle.lk_arena.specs.Kinds.{Kind, OfTypes, OfFields, OfEffects, OfUnit, OfN
 use Rattle.lk_unify.specs.Models.{IsOwn}
 use Rattle.lk_unify.specs.Nodes.{count, row_count, end_count, value_count}
 use Rattle.lk_arena.specs.Openings.{only_tail, row_type}
-use Rattle.lk_arena.specs.Order.{IsRanked}
-use Rattle.lk_arena.specs.Shapes.{shape_at, parts_of, fields_in, is_loose_shape, IsArena, IsBuilt, IsRowOf, IsDistinct, WeakNodes}
+use Rattle.lk_arena.specs.Shapes.{shape_at, fields_in, is_loose_shape, IsArena, IsBuilt, IsRowOf, IsDistinct, WeakNodes}
 use Rattle.lk_arena.specs.Values.{Value, Plain, OfRow}
 use Rattle.lk_arena.specs.declared.node.Field.{Field}
 use Rattle.lk_arena.specs.declared.node.Shape.{Shape}
@@ -32,10 +30,6 @@ entries_count_end : (closed : ℕ) (tail : RowTail) → value_count closed OfEff
 entries_count_end closed tail =
     let a : length (fin.entries (only_tail tail).fields) ≡ 0 = ap length no_entries in
     omega arith
-
-end_some : (tail : RowTail) → end_count 1 tail ≡ 1
-end_some Closed = refl
-end_some (Var n) = refl
 
 module _ (closed : ℕ) (kind : ℕ → Kind) (w : ℕ → Value) where
   abbrev pub of_node : ℕ → ℕ
@@ -122,78 +116,10 @@ module _ (shapes : List Shape) (classes : List ℕ) (kind : ℕ → Kind) (arena
     own_shape k (Made g ps) x n h d b free loose = built_count closed kind u k (Made g ps) x h d refl b
     own_shape k (shape.Row fs t) x n h d b free loose = built_count closed kind u k (shape.Row fs t) x h d refl b
 
-    pub own_counted : AreCounted closed shapes classes kind (of_node closed kind u)
+    pub own_counted : AreCounted (λ p. closed) shapes classes kind (of_node closed kind u)
     own_counted i b =
         let c = class_at classes i in
         let below = arena.named.below i b in
         let named = arena.named.named i b in
         ap (value_count closed (kind i)) (class_value u own.fits i b)
         ∙ own_shape (kind i) (shape_at shapes c) (u c) (name c) (class_kind i b) (class_distinct i b) (class_built u own.fits i b) (own.types c below named) (own.rows c below named)
-
-  -- ---- the least values
-
-  module _ (v : ℕ → Value) (fits : WeakNodes shapes classes v) where
-    least_shape : (k : Kind) (s : Shape) (x : Value) → HasKind kind k s → IsDistinct (fields_in s) → IsBuilt s v x → counted 1 k s (of_node 1 kind v) ≤ value_count 1 k x
-    least_shape OfTypes Free x k d b =
-        let a : value_count 1 OfTypes x ≡ count 1 b.0 = ap (value_count 1 OfTypes) b.1 in let h = count_some 1 b.0 in omega arith
-    least_shape OfFields Open x k d b =
-        let a : value_count 1 OfFields x ≡ row_count 1 (row_type b.0) = ap (value_count 1 OfFields) b.1 in let h = row_count_some (row_type b.0) in omega arith
-    least_shape OfEffects Open x k d b =
-        let a : value_count 1 OfEffects x ≡ length (fin.entries b.0.fields) + end_count 1 b.0.tail = ap (value_count 1 OfEffects) b.1 in
-        let h = end_some b.0.tail in
-        omega arith
-    least_shape OfFields Free x k d b = absurd k
-    least_shape OfEffects Free x k d b = absurd k
-    least_shape OfTypes Open x k d b = absurd k
-    least_shape OfUnit s x k d b = omega arith
-    least_shape OfNothing s x k d b = omega arith
-    least_shape k Empty x h d b = let e = built_count 1 kind v k Empty x h d refl b in omega arith
-    least_shape k (Made g ps) x h d b = let e = built_count 1 kind v k (Made g ps) x h d refl b in omega arith
-    least_shape k (shape.Row fs t) x h d b = let e = built_count 1 kind v k (shape.Row fs t) x h d refl b in omega arith
-
-    least_class : (i : ℕ) → i < length shapes → counted 1 (kind i) (shape_at shapes (class_at classes i)) (of_node 1 kind v) ≤ of_node 1 kind v i
-    least_class i b =
-        let c = class_at classes i in
-        let a = ap (value_count 1 (kind i)) (class_value v fits i b) in
-        let e = least_shape (kind i) (shape_at shapes c) (v c) (class_kind i b) (class_distinct i b) (class_built v fits i b) in
-        omega arith
-
--- counts of parts that are no less make counts that are no less
-counted_below : (closed : ℕ) (k : Kind) (s : Shape) (f g : ℕ → ℕ) → Each (λ p. f p ≤ g p) (parts_of s) → counted closed k s f ≤ counted closed k s g
-counted_below closed OfTypes Free f g e = omega arith
-counted_below closed OfTypes Open f g e = omega arith
-counted_below closed OfTypes Empty f g e = omega arith
-counted_below closed OfTypes (Made h ps) f g e = let a = sums_below f g ps e in omega arith
-counted_below closed OfTypes (shape.Row fs t) f g e = omega arith
-counted_below closed OfFields Free f g e = omega arith
-counted_below closed OfFields Open f g e = omega arith
-counted_below closed OfFields Empty f g e = omega arith
-counted_below closed OfFields (Made h ps) f g e = omega arith
-counted_below closed OfFields (shape.Row fs t) f g e =
-    let a = e.0 in
-    let b = sums_below (λ (x : Field). 1 + f x.node) (λ x. 1 + g x.node) fs
-    (each_weaker (λ (x : Field). f x.node ≤ g x.node) (λ x. 1 + f x.node ≤ 1 + g x.node) (λ x h. omega arith) fs (each_from_map (λ p. f p ≤ g p) (λ (x : Field). x.node) fs e.1)) in
-    omega arith
-counted_below closed OfEffects Free f g e = omega arith
-counted_below closed OfEffects Open f g e = omega arith
-counted_below closed OfEffects Empty f g e = omega arith
-counted_below closed OfEffects (Made h ps) f g e = omega arith
-counted_below closed OfEffects (shape.Row fs t) f g e = let a = e.0 in omega arith
-counted_below closed OfUnit s f g e = omega arith
-counted_below closed OfNothing s f g e = omega arith
-
-module _ (shapes : List Shape) (classes : List ℕ) (kind : ℕ → Kind) (rank name : ℕ → ℕ) (u v : ℕ → Value)
-    (arena : IsArena shapes classes) (kinded : AreKinded shapes classes kind) (ranked : IsRanked shapes classes rank) (own : IsOwn shapes classes name u) (fits : WeakNodes shapes classes v) where
-  least_below : (n i : ℕ) → i < length shapes → rank (class_at classes i) < n → value_count 1 (kind i) (u i) ≤ value_count 1 (kind i) (v i)
-  least_below zero i b h = absurd (omega arith)
-  least_below (suc n) i b h =
-      let c = class_at classes i in
-      let a = own_counted shapes classes kind arena kinded name u own 1 i b in
-      let e = counted_below 1 (kind i) (shape_at shapes c) (of_node 1 kind u) (of_node 1 kind v)
-      (Each-zip (λ p. rank (class_at classes p) < rank c) (λ p. p < length shapes) (λ p. of_node 1 kind u p ≤ of_node 1 kind v p) (λ p r l. least_below n p l (omega arith))
-      (parts_of (shape_at shapes c)) (ranked c (arena.named.below i b) (arena.named.named i b)) (arena.nodes c (arena.named.below i b))) in
-      let f = least_class shapes classes kind arena kinded v fits i b in
-      omega arith
-
-  pub own_least : (i : ℕ) → i < length shapes → value_count 1 (kind i) (u i) ≤ value_count 1 (kind i) (v i)
-  own_least i b = least_below (suc (rank (class_at classes i))) i b (omega arith)

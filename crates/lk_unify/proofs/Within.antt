@@ -36,7 +36,7 @@ use Rattle.lk_arena.specs.Order.{IsRanked}
 use Rattle.lk_unify.specs.Reading.{type_in, row_in, effects_in, value_or, opening_by, own_variable, number_of, IsNaming}
 use Rattle.lk_arena.specs.Shapes.{WeakNodes}
 use Rattle.lk_unify.specs.Small.{OwnNodes}
-use Rattle.lk_unify.specs.Solving.{Says, HasNodes, HasValues, AreBound, AreLoaded, AreSides, IsSide}
+use Rattle.lk_unify.specs.Solving.{Says, HadNodes, HasNodes, HasValues, AreBound, AreLoaded, AreSides, IsSide}
 use Rattle.lk_arena.specs.Values.{Value, Plain, OfRow, effect_row}
 use Rattle.lk_arena.specs.declared.counting.Count.{Count}
 use Rattle.lk_unify.specs.declared.loader.Loader.{Loader}
@@ -165,7 +165,7 @@ own_agrees o = record {
 
 -- ---- how large the sides are, by the counts of the classes
 
-module _ (closed : ℕ) {es : List Equation} (o : OwnNodes es) (counts : List Count) (counted : AreCountsOf closed o.loader.arena.shapes o.loader.arena.classes counts) where
+module _ (closed : ℕ) {es : List Equation} (o : OwnNodes es) (counts : List Count) (counted : AreCountsOf (λ p. closed) o.loader.arena.shapes o.loader.arena.classes counts) where
   abbrev pub side_count : ℕ → ℕ
   side_count n = (count_at o.loader.arena.classes counts n).as_type
 
@@ -206,7 +206,7 @@ loaded_first l sides es k within loaded = record {
   kind = loaded.kind;
   kinded = loaded.kinded;
   types = loaded.types;
-  before = λ j h. subst HasNodes (sym (first_of_first es j k (omega (arith, as_many, h)))) (loaded.before j (omega (arith, as_many, h)));
+  before = λ j h. subst (λ es. HadNodes es l loaded.kind sides) (sym (first_of_first es j k (omega (arith, as_many, h)))) (loaded.before j (omega (arith, as_many, h)));
 }
   where
     as_many : length (take k es) ≡ k

@@ -18,6 +18,7 @@ use Rattle.lk_types.specs.declared.ty.TyField.{TyField}
 use Rattle.lk_types.specs.declared.ty.TyRow.{TyRow}
 use Rattle.lk_types.specs.declared.ty.Variable.{Variable}
 use Rattle.lk_types.specs.declared.ty.Variable.TheVariants as variable
+use Rattle.lk_arena.specs.Covering.{Covers}
 use Rattle.lk_arena.specs.Kinds.{Kind, OfTypes, OfFields, OfEffects, OfUnit, OfNothing, AreKinded, HasKind}
 use Rattle.lk_arena.specs.Openings.{OpenRow, OpenEffects, Opening, IsOpenMet, opened, row_opened, effects_opened, only_tail, unit_type}
 use Rattle.lk_arena.specs.Shapes.{fields_in, is_loose_shape, parts_of, AllBelow, HasFields, HasNode, IsArena, IsBuilt, IsDistinct, SameBelow, FitsNodes, WeakNodes}
@@ -75,6 +76,12 @@ shape_for (variable.Effects n) = Open
 -- the nodes of the variables have the values that stand for them
 pub record Agrees (l : Loader) (ρ : Opening) (v : ℕ → Value) : Type 0 where
   pub at : (x : Variable) (n : ℕ) → node_for l x ≡ Some n → v n ≡ value_of ρ x
+
+-- ---- what covers nodes
+
+-- numbers that cover the nodes of the second cover those of the first
+abbrev pub CoversBack : Loader → Loader → Type 0
+CoversBack old new = (c : ℕ → ℕ) → Covers new.arena.shapes new.arena.classes c → Covers old.arena.shapes old.arena.classes c
 
 -- ---- nodes that are used again
 
@@ -154,6 +161,7 @@ pub record LoadsTo {A : Type 0} (old new : Loader) (meaning : Opening → Option
   pub kept : (x : Variable) (n : ℕ) → node_for old x ≡ Some n → node_for new x ≡ Some n
   pub local : (v w : ℕ → Value) → SameBelow (length new.arena.shapes) v w → read w ≡ read v
   pub back : (v : ℕ → Value) → WeakNodes new.arena.shapes new.arena.classes v → WeakNodes old.arena.shapes old.arena.classes v
+  pub covers : CoversBack old new
   pub is : (v : ℕ → Value) (ρ : Opening) → WeakNodes new.arena.shapes new.arena.classes v → Agrees new ρ v → meaning ρ ≡ Some (read v)
   pub forth : (v : ℕ → Value) (ρ : Opening) (x : A) → FitsNodes old.arena.shapes old.arena.classes v → Agrees old ρ v → meaning ρ ≡ Some x → Brings old new ρ v read x
 
@@ -226,6 +234,7 @@ pub record Makes (old new : Loader) (kind : Kind) (s : Shape) (n : ℕ) : Type 0
   pub below : n < length new.arena.shapes
   pub names : (x : Variable) → node_for new x ≡ node_for old x
   pub back : (v : ℕ → Value) → WeakNodes new.arena.shapes new.arena.classes v → WeakNodes old.arena.shapes old.arena.classes v
+  pub covers : CoversBack old new
   pub built : (v : ℕ → Value) → WeakNodes new.arena.shapes new.arena.classes v → IsBuilt s v (v n)
   pub forth : (v : ℕ → Value) (x : Value) → FitsNodes old.arena.shapes old.arena.classes v → IsBuilt s v x → HasNode old.arena.shapes new.arena.shapes new.arena.classes v n x
   pub kinds : (k : ℕ → Kind) → IsKinded old k → HasKind k kind s → BringsKinds old new k (λ j. j n ≡ kind)
@@ -268,6 +277,7 @@ pub record LoadsEquation (old new : Loader) (e : Equation) (p : Pair) : Type 0 w
   pub right_below : p.right < length new.arena.shapes
   pub kinds : KindsTo old new (λ j. (j p.left ≡ OfTypes) × (j p.right ≡ OfTypes))
   pub back : (v : ℕ → Value) → WeakNodes new.arena.shapes new.arena.classes v → WeakNodes old.arena.shapes old.arena.classes v
+  pub covers : CoversBack old new
   pub sides : (v : ℕ → Value) (ρ : Opening) → WeakNodes new.arena.shapes new.arena.classes v → Agrees new ρ v → (type_meaning e.left ρ ≡ Some (v p.left)) × (type_meaning e.right ρ ≡ Some (v p.right))
   pub is : (v : ℕ → Value) (ρ : Opening) → WeakNodes new.arena.shapes new.arena.classes v → Agrees new ρ v → v p.left ≡ v p.right → IsOpenMet ρ e
   pub forth : (v : ℕ → Value) (ρ : Opening) → FitsNodes old.arena.shapes old.arena.classes v → Agrees old ρ v → IsOpenMet ρ e → BringsSame old new ρ v p

@@ -1,5 +1,4 @@
--- How many nodes types, rows and effects have, where the end of a closed row counts `closed`. With 0 it is how large they are; with
--- 1 it is a number that never falls when types are put for variables, since each end counts one.
+-- How many nodes types, rows and effects have, where the end of a closed row counts `closed`. With 0 it is how large they are.
 use Rattle.std.specs.Prelude.{ℕ, ◌+◌, length}
 use Rattle.lk_types.specs.declared.ty.Effects.{Effects}
 use Rattle.lk_types.specs.declared.ty.RowTail.{RowTail}

@@ -50,34 +50,34 @@ pub record OwnSides (equations : List Equation) : Type 0 where
   pub types : List Ty
   pub makes : Makes (opening_by own.loader own.values) equations types
 
--- of these types none whose size matters has more nodes than a type may have, where the end of a closed row counts `closed`
-abbrev pub HasFew : ℕ → Option Sizing → List Equation → List Sizing → Type 0
-HasFew closed end equations sizings = (o : OwnSides equations) × AreAllWithin end sizings (map (count closed) o.types)
+-- of these types none whose size matters has more nodes than a type may have
+abbrev pub HasFew : Option Sizing → List Equation → List Sizing → Type 0
+HasFew end equations sizings = (o : OwnSides equations) × AreAllWithin end sizings (map (count 0) o.types)
 
 -- some has more
-abbrev pub HasMany : ℕ → Option Sizing → List Equation → List Sizing → Type 0
-HasMany closed end equations sizings = (o : OwnSides equations) × IsOneBeyond end sizings (map (count closed) o.types)
+abbrev pub HasMany : Option Sizing → List Equation → List Sizing → Type 0
+HasMany end equations sizings = (o : OwnSides equations) × IsOneBeyond end sizings (map (count 0) o.types)
 
--- the same, by the counts of the classes of nodes that are loaded
-abbrev pub CountFew : ℕ → Option Sizing → Loaded → List Sizing → Type 0
-CountFew closed end all sizings =
-    (counts : List Count) × AreCountsOf closed all.loader.arena.shapes all.loader.arena.classes counts ×
+-- the same, by the counts of the classes of nodes that are loaded, where closed ends count what `ends` says
+abbrev pub CountFew : (ℕ → ℕ) → Option Sizing → Loaded → List Sizing → Type 0
+CountFew ends end all sizings =
+    (counts : List Count) × AreCountsOf ends all.loader.arena.shapes all.loader.arena.classes counts ×
     AreAllWithin end sizings (map (λ n. (count_at all.loader.arena.classes counts n).as_type) all.sides)
 
-abbrev pub CountMany : ℕ → Option Sizing → Loaded → List Sizing → Type 0
-CountMany closed end all sizings =
-    (counts : List Count) × AreCountsOf closed all.loader.arena.shapes all.loader.arena.classes counts ×
+abbrev pub CountMany : (ℕ → ℕ) → Option Sizing → Loaded → List Sizing → Type 0
+CountMany ends end all sizings =
+    (counts : List Count) × AreCountsOf ends all.loader.arena.shapes all.loader.arena.classes counts ×
     IsOneBeyond end sizings (map (λ n. (count_at all.loader.arena.classes counts n).as_type) all.sides)
 
 -- ---- constraints
 
 -- nodes of theirs make no type too large whose size matters
 abbrev pub MakeFew : List Constraint → Type 0
-MakeFew constraints = HasFew 0 (end_of constraints) (equations_of constraints) (sizings_of constraints)
+MakeFew constraints = HasFew (end_of constraints) (equations_of constraints) (sizings_of constraints)
 
 -- they make one
 abbrev pub MakeMany : List Constraint → Type 0
-MakeMany constraints = HasMany 0 (end_of constraints) (equations_of constraints) (sizings_of constraints)
+MakeMany constraints = HasMany (end_of constraints) (equations_of constraints) (sizings_of constraints)
 
 -- each first part makes none
 abbrev pub AllMakeFew : List Constraint → Type 0

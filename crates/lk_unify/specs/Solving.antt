@@ -6,7 +6,7 @@ use Rattle.lk_types.specs.Variables.{equation_variables}
 use Rattle.lk_types.specs.declared.equation.Equation.{Equation}
 use Rattle.lk_types.specs.declared.ty.Variable.{Variable}
 use Rattle.lk_arena.specs.Kinds.{Kind, OfTypes}
-use Rattle.lk_unify.specs.Loading.{node_for, type_meaning, IsLoader, IsKinded, SameKinds, Agrees}
+use Rattle.lk_unify.specs.Loading.{node_for, type_meaning, CoversBack, IsLoader, IsKinded, SameKinds, Agrees}
 use Rattle.lk_arena.specs.Openings.{Opening, IsOpenMet, OpenSolves}
 use Rattle.lk_arena.specs.Shapes.{FitsNodes, WeakNodes}
 use Rattle.lk_arena.specs.Values.{Value}
@@ -68,6 +68,7 @@ pub record AddsEquation (old new : Loader) (e : Equation) (node : ℕ) : Type 0 
   pub kept : (x : Variable) (n : ℕ) → node_for old x ≡ Some n → node_for new x ≡ Some n
   pub kinds : (k : ℕ → Kind) → IsKinded old k → (j : ℕ → Kind) × SameKinds (length old.arena.shapes) k j × IsKinded new j × (j node ≡ OfTypes)
   pub back : (v : ℕ → Value) (ρ : Opening) → WeakNodes new.arena.shapes new.arena.classes v → Agrees new ρ v → WeakNodes old.arena.shapes old.arena.classes v × Agrees old ρ v
+  pub covers : CoversBack old new
   pub met : (v : ℕ → Value) (ρ : Opening) → WeakNodes new.arena.shapes new.arena.classes v → Agrees new ρ v → IsOpenMet ρ e × (type_meaning e.left ρ ≡ Some (v node))
   pub forth : (v : ℕ → Value) (ρ : Opening) → FitsNodes old.arena.shapes old.arena.classes v → Agrees old ρ v → IsOpenMet ρ e →
       (w : ℕ → Value) × FitsNodes new.arena.shapes new.arena.classes w × Agrees new ρ w
@@ -82,6 +83,17 @@ NeverMeets l e = (v : ℕ → Value) (ρ : Opening) → FitsNodes l.arena.shapes
 
 -- ---- a list of equations
 
+-- the nodes are those of some equations, to which others came
+pub record IsBefore (equations : List Equation) (nodes : HasNodes equations) (l : Loader) (kind : ℕ → Kind) (sides : List ℕ) : Type 0 where
+  pub longer : length nodes.loader.arena.shapes ≤ length l.arena.shapes
+  pub covers : CoversBack nodes.loader l
+  pub kinds : SameKinds (length nodes.loader.arena.shapes) nodes.kind kind
+  pub first : (rest : List ℕ) × (sides ≡ nodes.sides ++ rest)
+
+-- there were nodes that said just this
+abbrev pub HadNodes : List Equation → Loader → (ℕ → Kind) → List ℕ → Type 0
+HadNodes equations l kind sides = (nodes : HasNodes equations) × IsBefore equations nodes l kind sides
+
 -- The first k equations are nodes, with one for the sides of each, and all variables have nodes. The equations before were nodes too.
 pub record AreLoaded (l : Loader) (sides : List ℕ) (equations : List Equation) (k : ℕ) : Type 0 where
   pub says : Says l (take k equations)
@@ -90,7 +102,7 @@ pub record AreLoaded (l : Loader) (sides : List ℕ) (equations : List Equation)
   pub kind : ℕ → Kind
   pub kinded : IsKinded l kind
   pub types : Each (λ n. kind n ≡ OfTypes) sides
-  pub before : (j : ℕ) → j ≤ k → HasNodes (take j equations)
+  pub before : (j : ℕ) → j ≤ k → HadNodes (take j equations) l kind sides
 
 -- the equations before number k have a solution, and with it there is none
 pub record IsFirstWithout (equations : List Equation) (k : ℕ) : Type 0 where

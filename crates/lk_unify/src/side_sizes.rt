@@ -5,7 +5,7 @@ ghost use Rattle.lk_classes.specs.Classes.{AreClasses};
 ghost use Rattle.lk_types.specs.Each.{Each};
 ghost use Rattle.lk_types.specs.Sizes.{most_nodes};
 ghost use Rattle.lk_types.specs.Solutions.{HasSolution};
-ghost use Rattle.lk_arena.specs.Counting.{count_at as the_count_at};
+ghost use Rattle.lk_arena.specs.Counting.{count_at as the_count_at, end_at, AreEnds};
 ghost use Rattle.lk_unify.specs.Constraints.{matters, AllFine, IsFirstLarge};
 ghost use Rattle.lk_unify.specs.Loading.{IsLoader};
 ghost use Rattle.lk_unify.specs.SideSizes.{is_late, joined, last_by, AllMakeFew, AreAllWithin, CountFew, CountMany, IsFirstMany, IsOneBeyond};
@@ -13,7 +13,7 @@ ghost use Rattle.lk_unify.specs.Solving.{HasNodes, HasValues};
 
 use crate::constraint::Sizing;
 use crate::solvable::{Loaded, load_next, load_solvable, order_of};
-use lk_arena::{Count, count_at, counts};
+use lk_arena::{Count, count_at, counts, once_open};
 use lk_ast::NoMemory;
 use lk_classes::Classes;
 use lk_types::{Equation, MOST_NODES};
@@ -75,26 +75,26 @@ fn counts_within(
     true
 }
 
-/// Whether no side whose size matters has more nodes than a type may have, where the end of a closed row counts `closed`.
+/// Whether no side whose size matters has more nodes than a type may have, where the closed ends of rows count what stands in `ends`.
 fn sizes_within(
     alloc: Global,
     all: &Loaded,
     sizings: &[Sizing],
     late: bool,
-    closed: usize,
+    ends: &[usize],
 ) -> Result<bool, NoMemory>
-    requires closed { closed ≤ 1 }
+    requires ends { AreEnds all.now.loader.arena.shapes ends.now }
     requires whole { IsLoader all.now.loader }
     requires values { HasValues all.now.loader }
     requires sides { Each (λ n. n < length all.now.loader.arena.classes) all.now.sides }
     requires sizings { length sizings.now ≡ length all.now.sides }
-    ensures within { IfOk result (λ within. IsTrue within → CountFew closed (last_by late) all.now sizings.now) }
-    ensures beyond { IfOk result (λ within. (within ≡ false) → CountMany closed (last_by late) all.now sizings.now) }
+    ensures within { IfOk result (λ within. IsTrue within → CountFew (end_at ends.now) (last_by late) all.now sizings.now) }
+    ensures beyond { IfOk result (λ within. (within ≡ false) → CountMany (end_at ends.now) (last_by late) all.now sizings.now) }
 {
     let arena = &all.loader.arena;
     let order = order_of(alloc, &all.loader)?;
     let shapes = arena.shapes.as_slice();
-    let counts = counts(alloc, shapes, &arena.classes, order.as_slice(), closed)?;
+    let counts = counts(alloc, shapes, &arena.classes, order.as_slice(), ends)?;
     let within = counts_within(
         &arena.classes,
         all.sides.as_slice(),
@@ -105,8 +105,21 @@ fn sizes_within(
     Ok(within)
 }
 
-/// Whether it is sure that in each first part of the constraints no side whose size matters is too large: where the end of a closed
-/// row counts one and all late sizes matter, fewer constraints have no larger sides.
+/// Whether no side whose size matters has more nodes than a type may have.
+fn are_within(alloc: Global, all: &Loaded, sizings: &[Sizing], late: bool) -> Result<bool, NoMemory>
+    requires whole { IsLoader all.now.loader }
+    requires values { HasValues all.now.loader }
+    requires sides { Each (λ n. n < length all.now.loader.arena.classes) all.now.sides }
+    requires sizings { length sizings.now ≡ length all.now.sides }
+    ensures within { IfOk result (λ within. IsTrue within → CountFew (λ p. 0) (last_by late) all.now sizings.now) }
+    ensures beyond { IfOk result (λ within. (within ≡ false) → CountMany (λ p. 0) (last_by late) all.now sizings.now) }
+{
+    let ends = vec![in alloc; 0; all.loader.arena.shapes.len()]?;
+    sizes_within(alloc, all, sizings, late, ends.as_slice())
+}
+
+/// Whether it is sure that in each first part of the constraints no side whose size matters is too large: where the closed end of a
+/// row counts one if it was open once, and all late sizes matter, fewer constraints have no larger sides.
 fn is_surely_few(
     alloc: Global,
     equations: &[Equation],
@@ -118,7 +131,12 @@ fn is_surely_few(
     ensures few { IfOk result (λ few. IsTrue few → AllMakeFew (joined equations.now sizings.now)) }
 {
     let all = load_solvable(alloc, equations, equations.len())?;
-    sizes_within(alloc, &all, sizings, true, 1)
+    let ends = once_open(
+        alloc,
+        all.loader.arena.shapes.as_slice(),
+        &all.loader.arena.classes,
+    )?;
+    sizes_within(alloc, &all, sizings, true, ends.as_slice())
 }
 
 /// A number of constraints of which no first part needs a test by itself. It is searched for by halves.
@@ -166,7 +184,7 @@ pub fn first_beyond(
             unreachable!();
         }
         let late = is_late(sizings[k]);
-        if !sizes_within(alloc, &all, &sizings[..k + 1], late, 0)? {
+        if !are_within(alloc, &all, &sizings[..k + 1], late)? {
             return Ok(Some(k));
         }
     }

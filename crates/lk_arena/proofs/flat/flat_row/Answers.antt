@@ -1,5 +1,6 @@
 use Rattle.std.proofs.Common.{◌++◌, refl, sym, ◌∙◌, ap, subst}
 use Rattle.lk_classes.specs.Classes.{class_at}
+use Rattle.lk_arena.proofs.Covering.{counted_more, counted_start}
 use Rattle.lk_arena.proofs.Kinded.{kinds_start, kinds_more}
 use Rattle.lk_arena.proofs.Noted.{none_found, noted_behind, noted_start, noted_whole, one_found}
 use Rattle.lk_arena.proofs.Unmet.{unmet-lt}
@@ -16,6 +17,7 @@ loop-tail-init c =
     (record {
       flat = but_start c.args.hole ss cs c.requires.arena c.args.row c.args.own.now c.args.first c.requires.row c.requires.shape;
       kinds = kinds_start ss cs c.requires.arena c.args.row c.args.own.now c.args.first c.requires.row c.requires.shape;
+      counts = counted_start c.args.hole ss cs c.requires.arena c.args.row c.args.own.now c.args.first c.requires.row c.requires.shape;
       way = way_start ss cs c.args.own.now (class_at cs c.args.first);
       noted = noted_start c.args.own.now c.new-labels.result c.new-labels.ensures.empty;
     })
@@ -50,6 +52,8 @@ loop-tail-preserved c =
       flat = but_more c.args.hole ss cs c.requires.arena c.args.row c.loop-tail.fields c.loop-tail.tail flat c.in-Row.more c.in-Row.next is c.if-tail-hole.false
           (rw (c.as_slice.ensures) at (none_found c.note_labels.new.labels c.loop-tail.fields c.as_slice.result.now whole (c.if-not-lacks_all.ensures.lacks refl)));
       kinds = kinds_more ss cs c.requires.arena c.args.row c.loop-tail.fields c.loop-tail.tail c.in-Row.more c.in-Row.next flat.below is c.loop-tail.invariant.kinds;
+      counts = counted_more c.args.hole ss cs c.requires.arena c.args.row c.loop-tail.fields c.loop-tail.tail c.in-Row.more c.in-Row.next flat.below flat.named c.if-tail-hole.false is
+          c.loop-tail.invariant.counts;
       way = way_more ss cs c.args.own.now c.loop-tail.fields c.in-Row.more (class_at cs c.args.first) c.loop-tail.tail c.in-Row.next flat.below flat.named is c.loop-tail.invariant.way;
       noted = noted_behind c.note_labels.new.labels c.loop-tail.fields c.in-Row.more whole;
     })

@@ -1,6 +1,7 @@
 use Rattle.std.proofs.Common.{◌++◌, length, refl, sym, ◌∙◌, ap, subst}
 use Rattle.lk_arena.proofs.Merged.{merges_made, merges_turned}
 use Rattle.lk_arena.proofs.merge.merge_classes.Goals as goal
+use Rattle.lk_arena.specs.Covering.{IsFlatCounted}
 use Rattle.lk_arena.specs.Kinds.{IsFlatKinded}
 use Rattle.lk_arena.specs.Shapes.{NeverSame}
 use Rattle.lk_arena.specs.Steps.{paired}
@@ -33,3 +34,9 @@ merge_rows-requires-clause-kinds c =
     let f = rw c.in-Some.is at c.in_ok-found-in-Row.ensures.flat in
     let kinds = rw c.in-Some.is at c.in_ok-found-in-Row.ensures.kinds in
     subst (λ row. IsFlatKinded c.args.arena.now.shapes c.args.arena.now.classes row c.in-Some.left.fields c.in-Some.left.tail) (sym f.0) kinds
+
+pub merge_rows-requires-clause-counts : goal.merge_rows-requires-clause-counts
+merge_rows-requires-clause-counts c =
+    let f = rw c.in-Some.is at c.in_ok-found-in-Row.ensures.flat in
+    let counts = rw c.in-Some.is at c.in_ok-found-in-Row.ensures.counts in
+    subst (λ row. IsFlatCounted row c.args.arena.now.shapes c.args.arena.now.classes row c.in-Some.left.fields c.in-Some.left.tail) (sym f.0) counts

@@ -29,7 +29,8 @@ returns-in_ok-joined-in-Row-clause-merged c joined =
     let r = c.in-Some.right in
     let f = rw c.in-Some.is at c.in_ok-found-in-Row.ensures.flat in
     merges_rows l.row c.args.to c.args.arena.now.shapes c.args.arena.now.classes c.requires.apart c.requires.arena c.args.queue.now c.requires.pairs _ _ c.unite.ensures
-    l.fields r.fields l.tail r.tail c.requires.flat f.1 c.requires.end f.2 c.requires.kinds (rw c.in-Some.is at c.in_ok-found-in-Row.ensures.kinds) _ _ _
+    l.fields r.fields l.tail r.tail c.requires.flat f.1 c.requires.end f.2 c.requires.kinds (rw c.in-Some.is at c.in_ok-found-in-Row.ensures.kinds)
+    c.requires.counts (rw c.in-Some.is at c.in_ok-found-in-Row.ensures.counts) _ _ _
     (subst (λ row. JoinsRows l.row row l.fields r.fields l.tail r.tail c.unite.new.arena.shapes c.unite.new.arena.classes c.args.queue.now c.join_rows.new.arena.shapes c.join_rows.new.arena.classes
     c.join_rows.new.queue) f.0 (c.in_ok-joined-in-Row.ensures.joined joined))
 

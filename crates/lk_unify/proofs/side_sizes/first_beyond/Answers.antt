@@ -27,19 +27,19 @@ next c =
     loaded_side c.loop-k.all c.load_next.new.all c.args.equations.now c.loop-k.k c.index-equations-k.result c.loop-k-test.true c.index-equations-k.is c.loop-k.invariant.loaded
     (c.in_ok-load_next.ensures.added c.if-not-branch.false)
 
-pub sizes_within-requires-clause-whole : goal.sizes_within-requires-clause-whole
-sizes_within-requires-clause-whole c = (next c).says.whole
+pub are_within-requires-clause-whole : goal.are_within-requires-clause-whole
+are_within-requires-clause-whole c = (next c).says.whole
 
-pub sizes_within-requires-clause-values : goal.sizes_within-requires-clause-values
-sizes_within-requires-clause-values c = loaded_values c.load_next.new.all.loader c.load_next.new.all.sides c.args.equations.now (c.loop-k.k + 1) (next c) c.requires.solution
+pub are_within-requires-clause-values : goal.are_within-requires-clause-values
+are_within-requires-clause-values c = loaded_values c.load_next.new.all.loader c.load_next.new.all.sides c.args.equations.now (c.loop-k.k + 1) (next c) c.requires.solution
 
-pub sizes_within-requires-clause-sides : goal.sizes_within-requires-clause-sides
-sizes_within-requires-clause-sides c =
+pub are_within-requires-clause-sides : goal.are_within-requires-clause-sides
+are_within-requires-clause-sides c =
     let below = c.loop-k-test.true in
     side_nodes c.load_next.new.all.loader c.load_next.new.all.sides c.args.equations.now (c.loop-k.k + 1) (omega arith) (next c)
 
-pub sizes_within-requires-clause-sizings : goal.sizes_within-requires-clause-sizings
-sizes_within-requires-clause-sizings c =
+pub are_within-requires-clause-sizings : goal.are_within-requires-clause-sizings
+are_within-requires-clause-sizings c =
     let below = c.loop-k-test.true in
     let many = c.requires.sizings in
     length-take-le (c.loop-k.k + 1) c.args.sizings.now (omega arith) ∙
@@ -51,7 +51,7 @@ returns-then-not-branch-2-clause-first c =
     loaded_side c.loop-k.all c.load_next.new.all c.args.equations.now c.loop-k.k c.index-equations-k.result c.loop-k-test.true c.index-equations-k.is c.loop-k.invariant.loaded
     (c.in_ok-load_next.ensures.added c.if-not-branch.false) in
     first_many c.args.equations.now c.args.sizings.now c.requires.sizings c.loop-k.k c.loop-k-test.true c.requires.solution c.loop-k.invariant.few Always c.load_next.new.all loaded
-    (rw c.is_late-late.ensures at (c.in_ok-sizes_within.ensures.beyond c.if-not-branch-2.true))
+    (rw c.is_late-late.ensures at (c.in_ok-are_within.ensures.beyond c.if-not-branch-2.true))
 
 pub loop-k-preserved : goal.loop-k-preserved
 loop-k-preserved c =
@@ -61,7 +61,7 @@ loop-k-preserved c =
     record {
       few =
           one_more_few c.args.equations.now c.args.sizings.now c.requires.sizings c.loop-k.k c.loop-k-test.true c.requires.solution c.loop-k.invariant.few Always c.load_next.new.all loaded
-          (rw c.is_late-late.ensures at (c.in_ok-sizes_within.ensures.within c.if-not-branch-2.false));
+          (rw c.is_late-late.ensures at (c.in_ok-are_within.ensures.within c.if-not-branch-2.false));
       loaded = loaded;
     }
 
