@@ -10,7 +10,7 @@ use Rattle.lk_ast.specs.declared.table.TableRows.{TableRows}
 use Rattle.lk_outside.specs.declared.fault.OutFault.{OutFault}
 use Rattle.lk_outside.specs.declared.fault.OutFault.TheVariants.{Failed, NoMemory}
 use Rattle.lk_sem.specs.Histories.{HasAnswer, KeepsOthers}
-use Rattle.lk_sem.specs.SourceRuns.{HasBegunSession, HasHistory, IsRun}
+use Rattle.lk_sem.specs.SourceRuns.{HasBegunSession, HasHistory, IsRun, commits_after}
 use Rattle.lk_sem.specs.declared.run.SourceRun.{SourceRun}
 use Rattle.lk_sound.specs.Tables.{table_at}
 use Rattle.lk_types.specs.Each.{Each}
@@ -110,7 +110,7 @@ left_over program command loaded old between new fault is breaks others = record
 pub breaks_behind : (program : Program) (command : SourceCommand) (run : SourceRun) (fault : OutFault) (loaded new : Option Tables)
     → IsRun program command.arg command.fuel new run → Each (HasAnswer program) run.log → HasBegunSession program command.arg command.fuel run.log → HasHistory program loaded new run.log → BreaksOff program command fault loaded new
 breaks_behind program command run Failed loaded new is answered begun history = (run, is, answered, history)
-breaks_behind program command run NoMemory loaded new is answered begun history = (run.log, begun, history)
+breaks_behind program command run NoMemory loaded new is answered begun history = (0, commits_after run.log 0, run.log, begun, history, refl)
 
 -- ---- fits
 

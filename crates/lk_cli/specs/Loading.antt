@@ -81,7 +81,7 @@ HasToldSession program loaded events printed old new = IfSome old (λ before. Is
 -- some first events of the session make of them.
 abbrev pub BreaksOff : Program → SourceCommand → OutFault → Option Tables → Option Tables → Type 0
 BreaksOff program command Failed loaded new = (run : SourceRun) × IsRun program command.arg command.fuel new run × Each (HasAnswer program) run.log × HasHistory program loaded new run.log
-BreaksOff program command NoMemory loaded new = HasSomeHistory program command.arg command.fuel loaded new
+BreaksOff program command NoMemory loaded new = (before : ℕ) × (after : ℕ) × HasSomeHistory program command.arg command.fuel loaded new before after
 
 -- The tables that a session leaves which isn't answered: those from before, or what it made of the rows loaded. Tables that aren't
 -- declared are as they were.

@@ -1,5 +1,6 @@
 pub mod Begun
 pub mod Changing
+pub mod Commits
 pub mod Ending
 pub mod Going
 pub mod Leading

@@ -3,6 +3,7 @@ use Rattle.std.proofs.Common.{◌≡◌, ℕ, ◌+◌, ◌-◌, false, List, [],
 use Rattle.std.specs.Prelude.{Some}
 use Rattle.lk_ast.specs.Functions.{main_of}
 use Rattle.lk_ast.specs.Plain.{holds_function}
+use Rattle.lk_ast.specs.Rows.{rows_value}
 use Rattle.lk_ast.specs.declared.declaration.FunDef.{FunDef}
 use Rattle.lk_ast.specs.declared.declaration.Program.{Program}
 use Rattle.lk_ast.specs.declared.event.Event.{Event}
@@ -28,7 +29,7 @@ use Rattle.lk_types.specs.Each.{Each}
 use Rattle.lk_types.specs.Rows.{EffectSet}
 use Rattle.lk_types.specs.declared.ground.Ground.{Ground}
 use Rattle.lk_sem.specs.Frames.{returned}
-use Rattle.lk_sem.specs.Histories.{HasAnswer, write_event}
+use Rattle.lk_sem.specs.Histories.{HasAnswer, read_event, write_event}
 use Rattle.lk_sem.specs.Machine.{LeadsWhole, Shows, frame_of, outcome, wound}
 use Rattle.lk_sem.specs.SourceRuns.{IsPlainEvent}
 use Rattle.lk_sem.specs.Standing.{IsSound}
@@ -127,6 +128,10 @@ module _ (p : Program) (first m : Machine) (o : Run → Out Value) (fuel : ℕ) 
       let below = g.fuel in
       g.runs m.fuel (start (fuel - m.fuel) (answers_in m.log)) [] (omega arith) (shows_start first m.fuel (fuel - m.fuel) (answers_in m.log) none (omega (arith, below, is))) (sym (append-nil (answers_in m.log)))
 
+  -- the same where an answer more is there
+  pub here_before : (rows : List Row) → (s : Run) × Shows m 0 s × (s.answers ≡ rows ∷ []) × (o (start fuel (answers_in m.log ++ rows ∷ [])) ≡ wound p m.stack (outcome p next s))
+  here_before rows = g.runs 0 (start fuel (answers_in m.log ++ rows ∷ [])) (rows ∷ []) (omega arith) (shows_start first 0 fuel (answers_in m.log ++ rows ∷ []) none (omega (arith, is))) refl
+
   -- its readings are answered, where it keeps to a log that is
   answered_with : (log : List Entry) → Each (IsAnswered p) (events_of log) → Kept log (run_of whole) → AreAnswered p whole
   answered_with log all k = subst (Each (λ (entry : Entry). IsAnswered p entry.event)) (sym k.is) (each_both (λ (entry : Entry). IsAnswered p entry.event) log k.more (entries_of (IsAnswered p) log all) (unread_answered p k.more k.unread))
@@ -166,6 +171,17 @@ module _ (p : Program) (first m : Machine) (o : Run → Out Value) (fuel : ℕ) 
       ∙ ap (λ n. wound p m.stack (outcome p n here.0)) e
       ∙ ap (λ answers. wound p m.stack (and_then (reading site args answers here.0) (returned back))) here.2
       ∙ winding.wound-stops (source p) (map frame_of m.stack) (Waiting site args) here.0)).0.1
+
+  -- with one answer more it reads that, and keeps to the log with the reading
+  pub keeps_reading : (back : Loc) (site : ℕ) (args : List Value) (rows : List Row) → next ≡ now.Read back site args
+      → Kept (logs (read_event site args rows) Within (here_before rows).0).log (run_of (o (start fuel (answers_in m.log ++ rows ∷ []))))
+  keeps_reading back site args rows e =
+      let there = here_before rows in
+      let s : Run = there.0 in
+      let t : Run = logs (read_event site args rows) Within (record s { answers = [] }) in
+      subst (λ (x : Out Value). Kept t.log (run_of x))
+      (sym (there.3 ∙ ap (λ n. wound p m.stack (outcome p n s)) e ∙ ap (λ answers. wound p m.stack (and_then (reading site args answers s) (returned back))) there.2))
+      (back_keeps t.log p m.stack back (rows_value rows) t (kept_itself t.log t there.1.whole refl refl)).kept
 
   -- the run with what it is about to write
   abbrev pub with_writing : ℕ → List Value → Run

@@ -14,6 +14,7 @@ use Rattle.lk_ast.specs.declared.value.Value.{Value}
 use Rattle.lk_bag.specs.Blocks.{block_at}
 use Rattle.lk_bag.specs.Change.{updated}
 use Rattle.lk_bag.specs.Legal.{AreAllCaptured, most_rows, names_in}
+use Rattle.lk_outside.specs.Causes.{next_count}
 use Rattle.lk_outside.specs.Store.{Changes}
 use Rattle.lk_sound.specs.Tables.{AreTables, table_at}
 use Rattle.lk_sem.specs.Histories.{Follows, write_event}
@@ -82,3 +83,8 @@ HasChanged p site args (Some before) new = IsSomeAnd new (λ after. IsChanged p 
 abbrev pub HasWritten : Program → ℕ → List Value → Option Tables → Option Tables → Written → Type 0
 HasWritten p site args old new Done = HasChanged p site args old new
 HasWritten p site args old new (Full size) = (new ≡ old) × IsOverfull p site args old size
+
+-- how many transactions are committed then: one more where it was done
+abbrev pub commits_written : Written → ℕ → ℕ
+commits_written Done count = next_count count
+commits_written (Full size) count = count

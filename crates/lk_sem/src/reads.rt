@@ -1,8 +1,8 @@
 //! Readings of tables.
 
-ghost use Rattle.std.specs.Prelude.{◌≡◌, true, false, IfOk, IfSome};
+ghost use Rattle.std.specs.Prelude.{◌≡◌, true, false, IfOk, IfSome, OnErr, OnOk};
 ghost use Rattle.lk_ast.specs.Tables.{all_fit, rows_of};
-ghost use Rattle.lk_outside.specs.Causes.{HasCause};
+ghost use Rattle.lk_outside.specs.Causes.{HasCause, next_count};
 ghost use Rattle.lk_sem.specs.Histories.{AreFit, HasAnswer, HasFollowed, read_event};
 ghost use Rattle.lk_sem.specs.Scans.{AreScanned, FitDefs, FitsDef, IsScanned};
 ghost use Rattle.lk_sound.specs.Law.{AreBoundAndApart};
@@ -30,6 +30,8 @@ pub fn read_at<'p>(
     ensures idle { is_open store.new ≡ false }
     ensures tables { tables store.new ≡ tables store.old }
     ensures cause { HasCause (faults store.old) (faults store.new) result }
+    ensures counted { OnOk result (commits store.new ≡ next_count (commits store.old)) }
+    ensures uncounted { OnErr result (commits store.new ≡ commits store.old) }
     ensures answered { IfOk result (λ answer. HasAnswer catalog.now (read_event site args.now answer)) }
     ensures follows { IfOk result (λ answer. HasFollowed catalog.now (tables store.old) (tables store.old) (read_event site args.now answer)) }
 {
@@ -63,6 +65,7 @@ fn read_open<'p>(
     ensures tables { tables store.new ≡ tables store.old }
     ensures kept { kept store.new ≡ kept store.old }
     ensures cause { HasCause (faults store.old) (faults store.new) result }
+    ensures commits { commits store.new ≡ commits store.old }
     ensures answered { IfOk result (λ answer. HasAnswer catalog.now (read_event site args.now answer)) }
     ensures follows { IfOk result (λ answer. HasFollowed catalog.now (tables store.old) (tables store.old) (read_event site args.now answer)) }
 {
@@ -89,6 +92,7 @@ fn scan_all(
     ensures tables { tables store.new ≡ tables store.old }
     ensures kept { kept store.new ≡ kept store.old }
     ensures cause { HasCause (faults store.old) (faults store.new) result }
+    ensures commits { commits store.new ≡ commits store.old }
     ensures scanned { IfOk result (λ scanned. AreScanned (tables store.old) defs.now scanned) }
 {
     let mut scanned = List::new(alloc);
@@ -107,6 +111,7 @@ pub fn scan_one(alloc: Global, def: &TableDef, store: &mut dyn Store) -> Result<
     ensures tables { tables store.new ≡ tables store.old }
     ensures kept { kept store.new ≡ kept store.old }
     ensures cause { HasCause (faults store.old) (faults store.new) result }
+    ensures commits { commits store.new ≡ commits store.old }
     ensures scanned { IfOk result (λ table. IsScanned (tables store.old) def.now table) }
 {
     let name_copy = def.name.copy(alloc)?;

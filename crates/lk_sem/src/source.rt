@@ -7,7 +7,7 @@ ghost use Rattle.lk_outside.specs.Causes.{Rose};
 ghost use Rattle.lk_outside.specs.declared.fault.OutFault.TheVariants.{Failed};
 ghost use Rattle.lk_sem.specs.Histories.{AreFit, HasAnswer, KeepsOthers};
 ghost use Rattle.lk_sem.specs.Machine.{outcome};
-ghost use Rattle.lk_sem.specs.SourceRuns.{HasBegun, HasBegunSession, HasFirstHistory, HasHistory, HasSomeHistory, IsPlainRun, IsRun, IsRunBy};
+ghost use Rattle.lk_sem.specs.SourceRuns.{HasBegun, HasBegunSession, HasFirstHistory, HasHistory, HasSomeHistory, IsPlainRun, IsRun, IsRunBy, commits_after};
 ghost use Rattle.lk_sem.specs.Standing.{Ends, IsSound};
 ghost use Rattle.lk_sem.specs.declared.run.SourceEnd.TheVariants.{StoreFault};
 ghost use Rattle.lk_sound.specs.Instances.{IsShaped};
@@ -27,11 +27,11 @@ use lk_sound::soundness_laws;
 use std::alloc::Global;
 
 /// Evaluates the `main` of a program with this argument and at most this fuel, over a store where no transaction is under way and,
-/// where its tables are told, their rows fit the program's. Each writing is a transaction of its own, and is in the log once it is
-/// committed: so where memory runs out the tables are those of the last commit, which is told as what the first events of the
-/// session make of them. A reading is a transaction, too, of which no clause says whether it ends with a commit or an abort. The
-/// program's names are bound, what is found by its place stands at a place of its own, and its sessions use a closed set of
-/// instances. So no expression lacks a rule for what it meets, and no function is shown.
+/// where its tables are told, their rows fit the program's. Each reading and each writing is a transaction of its own, which ends
+/// with a commit and is in the log then, as the store's count of commits tells. So where memory runs out the tables are those after
+/// the last transaction that was committed: first events of the session lead to them, and no others were committed. The program's
+/// names are bound, what is found by its place stands at a place of its own, and its sessions use a closed set of instances. So no
+/// expression lacks a rule for what it meets, and no function is shown.
 pub fn source_run(
     alloc: Global,
     program: &Program,
@@ -47,7 +47,8 @@ pub fn source_run(
     ensures history { IfOk result (λ run. HasHistory program.now (tables store.old) (tables store.new) run.log) }
     ensures begun { IfOk result (λ run. HasBegunSession program.now arg.now fuel run.log) }
     ensures answered { IfOk result (λ run. Each (HasAnswer program.now) run.log) }
-    ensures refused { IfErr result (λ error. HasSomeHistory program.now arg.now fuel (tables store.old) (tables store.new)) }
+    ensures committed { IfOk result (λ run. commits store.new ≡ commits_after run.log (commits store.old)) }
+    ensures refused { IfErr result (λ error. HasSomeHistory program.now arg.now fuel (tables store.old) (tables store.new) (commits store.old) (commits store.new)) }
     ensures fit { IfSome (tables store.new) (AreTables program.now) }
     ensures others { KeepsOthers program.now (tables store.old) (tables store.new) }
     ensures plain { IfOk result IsPlainRun }
@@ -83,7 +84,8 @@ fn run_main<'p>(
     ensures history { IfOk result (λ run. HasHistory catalog.now (tables store.old) (tables store.new) run.log) }
     ensures begun { IfOk result (λ run. HasBegun (session catalog.now main.now arg.now) fuel run.log) }
     ensures answered { IfOk result (λ run. Each (HasAnswer catalog.now) run.log) }
-    ensures refused { IfErr result (λ error. HasFirstHistory catalog.now (session catalog.now main.now arg.now) fuel (tables store.old) (tables store.new)) }
+    ensures committed { IfOk result (λ run. commits store.new ≡ commits_after run.log (commits store.old)) }
+    ensures refused { IfErr result (λ error. HasFirstHistory catalog.now (session catalog.now main.now arg.now) fuel (tables store.old) (tables store.new) (commits store.old) (commits store.new)) }
     ensures fit { AreFit catalog.now (tables store.new) }
     ensures others { KeepsOthers catalog.now (tables store.old) (tables store.new) }
     ensures plain { IfOk result IsPlainRun }
@@ -129,7 +131,8 @@ fn run<'p>(
     requires idle { is_open store.old ≡ false }
     requires fit { AreFit catalog.now (tables store.old) }
     ensures ends { IfOk result (Ends catalog.now (outcome catalog.now first.entry) machine.old.fuel (tables store.old) (tables store.new) machine.new) }
-    ensures refused { IfErr result (λ error. HasFirstHistory catalog.now (outcome catalog.now first.entry) machine.old.fuel (tables store.old) (tables store.new)) }
+    ensures committed { IfOk result (λ end. commits store.new ≡ commits_after machine.new.log (commits store.old)) }
+    ensures refused { IfErr result (λ error. HasFirstHistory catalog.now (outcome catalog.now first.entry) machine.old.fuel (tables store.old) (tables store.new) (commits store.old) (commits store.new)) }
     ensures fit { AreFit catalog.now (tables store.new) }
     ensures others { KeepsOthers catalog.now (tables store.old) (tables store.new) }
     ensures name { name store.new ≡ name store.old }

@@ -1,12 +1,12 @@
 //! Writings of tables.
 
-ghost use Rattle.std.specs.Prelude.{◌≡◌, ◌++◌, true, false, IfOk, IfErr, OnOk};
+ghost use Rattle.std.specs.Prelude.{◌≡◌, ◌++◌, true, false, IfOk, IfErr, OnErr, OnOk};
 ghost use Rattle.lk_ast.specs.Tables.{all_fit};
 ghost use Rattle.lk_outside.specs.Causes.{HasCause};
 ghost use Rattle.lk_sem.specs.Histories.{AreFit};
 ghost use Rattle.lk_outside.specs.Store.{Changes};
 ghost use Rattle.lk_sem.specs.Scans.{FitsDef};
-ghost use Rattle.lk_sem.specs.Writings.{HasAdded, HasChanged, HasWritten, IsDeletion, IsInsertion, IsUpdate};
+ghost use Rattle.lk_sem.specs.Writings.{HasAdded, HasChanged, HasWritten, IsDeletion, IsInsertion, IsUpdate, commits_written};
 ghost use Rattle.lk_sound.specs.Law.{AreBoundAndApart};
 ghost use Rattle.lk_sound.specs.Tables.{IsWriting};
 
@@ -44,6 +44,8 @@ pub fn write_at<'p>(
     ensures name { name store.new ≡ name store.old }
     ensures idle { is_open store.new ≡ false }
     ensures cause { HasCause (faults store.old) (faults store.new) result }
+    ensures counted { IfOk result (λ written. commits store.new ≡ commits_written written (commits store.old)) }
+    ensures uncounted { OnErr result (commits store.new ≡ commits store.old) }
     ensures written { IfOk result (HasWritten catalog.now site args.now (tables store.old) (tables store.new)) }
     ensures refused { IfErr result (λ fault. tables store.new ≡ tables store.old) }
 {
@@ -80,6 +82,7 @@ fn write_open<'p>(
     ensures under_way { is_open store.new ≡ true }
     ensures kept { kept store.new ≡ kept store.old }
     ensures cause { HasCause (faults store.old) (faults store.new) result }
+    ensures commits { commits store.new ≡ commits store.old }
     ensures written { IfOk result (HasWritten catalog.now site args.now (tables store.old) (tables store.new)) }
 {
     let Some(block) = catalog.block(site) else {
@@ -116,6 +119,7 @@ fn insert_rows<'p>(
     ensures under_way { is_open store.new ≡ true }
     ensures kept { kept store.new ≡ kept store.old }
     ensures cause { HasCause (faults store.old) (faults store.new) result }
+    ensures commits { commits store.new ≡ commits store.old }
     ensures written { IfOk result (HasWritten catalog.now site args.now (tables store.old) (tables store.new)) }
 {
     let Some(def) = catalog.table(&table.text) else {
@@ -141,6 +145,7 @@ fn add_rows(
     ensures under_way { is_open store.new ≡ true }
     ensures kept { kept store.new ≡ kept store.old }
     ensures cause { HasCause (faults store.old) (faults store.new) result }
+    ensures commits { commits store.new ≡ commits store.old }
     ensures added { IfOk result (HasAdded (tables store.old) (tables store.new) def.now.name rows) }
 {
     let there = scan_one(alloc, def, store)?;
@@ -166,6 +171,7 @@ fn append_rows(
     ensures ok { OnOk result (Changes (tables store.old) (tables store.new) def.now.name (λ before. before ++ rows)) }
     ensures kept { kept store.new ≡ kept store.old }
     ensures cause { HasCause (faults store.old) (faults store.new) result }
+    ensures commits { commits store.new ≡ commits store.old }
 {
     store.insert(alloc, def, rows)
 }
@@ -188,6 +194,7 @@ fn update_rows<'p>(
     ensures under_way { is_open store.new ≡ true }
     ensures kept { kept store.new ≡ kept store.old }
     ensures cause { HasCause (faults store.old) (faults store.new) result }
+    ensures commits { commits store.new ≡ commits store.old }
     ensures changed { OnOk result (HasChanged catalog.now site args.now (tables store.old) (tables store.new)) }
 {
     let Some(def) = catalog.table(&change.table.text) else {
@@ -223,6 +230,7 @@ fn delete_rows<'p>(
     ensures under_way { is_open store.new ≡ true }
     ensures kept { kept store.new ≡ kept store.old }
     ensures cause { HasCause (faults store.old) (faults store.new) result }
+    ensures commits { commits store.new ≡ commits store.old }
     ensures changed { OnOk result (HasChanged catalog.now site args.now (tables store.old) (tables store.new)) }
 {
     let Some(def) = catalog.table(&change.table.text) else {
@@ -254,6 +262,7 @@ fn put_rows(
     ensures ok { OnOk result (Changes (tables store.old) (tables store.new) def.now.name (λ _. rows)) }
     ensures kept { kept store.new ≡ kept store.old }
     ensures cause { HasCause (faults store.old) (faults store.new) result }
+    ensures commits { commits store.new ≡ commits store.old }
 {
     store.rewrite(alloc, def, rows)
 }

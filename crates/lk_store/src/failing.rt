@@ -38,6 +38,7 @@ impl FailingStore {
         ensures idle { ⟦<FailingStore as Store>⟧.is_open result ≡ false }
         ensures tables { ⟦<FailingStore as Store>⟧.tables result ≡ Some (λ _. []) }
         ensures calls { result.calls ≡ record { failing = failing; made = 0 } }
+        ensures commits { ⟦<FailingStore as Store>⟧.commits result ≡ 0 }
         ensures faults { ⟦<FailingStore as Store>⟧.faults result ≡ 0 }
     {
         FailingStore {
@@ -72,6 +73,8 @@ impl Store for FailingStore {
     ghost tables = { λ store. ⟦<MemoryStore as Store>⟧.tables store.memory };
 
     ghost kept = { λ store. ⟦<MemoryStore as Store>⟧.kept store.memory };
+
+    ghost commits = { λ store. ⟦<MemoryStore as Store>⟧.commits store.memory };
 
     ghost faults = { λ store. store.faults };
 

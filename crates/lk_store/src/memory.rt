@@ -18,6 +18,7 @@ pub struct MemoryStore {
     tables: NamedTables,
     kept: NamedTables,
     is_open: bool,
+    commits: u64,
 }
 
 impl Model for MemoryStore {
@@ -27,7 +28,7 @@ impl Model for MemoryStore {
     ghost Value = { MemoryState };
 
     ghost view = { λ store.
-        record { tables = listed store.tables; kept = listed store.kept; is_open = store.is_open } };
+        record { tables = listed store.tables; kept = listed store.kept; is_open = store.is_open; commits = store.commits } };
 }
 
 impl MemoryStore {
@@ -36,12 +37,14 @@ impl MemoryStore {
         ensures name { ⟦<MemoryStore as Store>⟧.name result ≡ codes "memory" }
         ensures idle { ⟦<MemoryStore as Store>⟧.is_open result ≡ false }
         ensures tables { ⟦<MemoryStore as Store>⟧.tables result ≡ Some (λ _. []) }
+        ensures commits { ⟦<MemoryStore as Store>⟧.commits result ≡ 0 }
         ensures faults { ⟦<MemoryStore as Store>⟧.faults result ≡ 0 }
     {
         MemoryStore {
             tables: BTreeMap::new(alloc),
             kept: BTreeMap::new(alloc),
             is_open: false,
+            commits: 0,
         }
     }
 }
@@ -54,6 +57,8 @@ impl Store for MemoryStore {
     ghost tables = { λ store. Some (rows_of store.tables) };
 
     ghost kept = { λ store. Some (rows_of store.kept) };
+
+    ghost commits = { λ store. store.commits };
 
     ghost faults = { λ _. 0 };
 
@@ -111,6 +116,7 @@ impl Store for MemoryStore {
     {
         self.kept = BTreeMap::new(alloc);
         self.is_open = false;
+        self.commits = self.commits.saturating_add(1);
         Ok(())
     }
 

@@ -8,7 +8,7 @@ use Rattle.lk_sem.proofs.Sound.{sound_session}
 use Rattle.lk_sem.proofs.source.source_run.Goals as goal
 
 pub returns-in_err-catalog-clause-refused : goal.returns-in_err-catalog-clause-refused
-returns-in_err-catalog-clause-refused g c = if_err _ c.from_residual.result (no_session c.args.program.now c.args.arg.now c.args.fuel ((goal.Store-dyn g c.args.store.now).tables c.args.store.now.1))
+returns-in_err-catalog-clause-refused g c = if_err _ c.from_residual.result (no_session c.args.program.now c.args.arg.now c.args.fuel ((goal.Store-dyn g c.args.store.now).tables c.args.store.now.1) ((goal.Store-dyn g c.args.store.now).commits c.args.store.now.1))
 
 pub run_main-requires-clause-one : goal.run_main-requires-clause-one
 run_main-requires-clause-one g c = main_params c.args.program.now c.in-Some.main.now c.in-Some.ensures
