@@ -7,6 +7,7 @@ use Rattle.lk_ast.specs.declared.declaration.Program.{Program}
 use Rattle.lk_ast.specs.declared.event.Event.{Event}
 use Rattle.lk_ast.specs.declared.table.TableDef.{TableDef}
 use Rattle.lk_ast.specs.declared.table.TableRows.{TableRows}
+use Rattle.lk_outside.specs.Causes.{next_count}
 use Rattle.lk_outside.specs.declared.fault.OutFault.{OutFault}
 use Rattle.lk_outside.specs.declared.fault.OutFault.TheVariants.{Failed, NoMemory}
 use Rattle.lk_sem.specs.Histories.{HasAnswer, KeepsOthers}
@@ -62,26 +63,30 @@ told_session program loaded events printed (Some old) (Some new) history others 
 }
 
 -- a session over tables that were loaded
-session_over : (program : Program) (command : SourceCommand) (loaded : List TableRows) (done : Done) (old between new : Option Tables)
-    → between ≡ option_map (loaded_over (table_defs program) loaded) old
+session_over : (program : Program) (command : SourceCommand) (loaded : List TableRows) (done : Done) (old between new : Option Tables) (before middle after : ℕ)
+    → between ≡ option_map (loaded_over (table_defs program) loaded) old → middle ≡ next_count before
     → IsRun program command.arg command.fuel new (run_of done.run) → Each (HasAnswer program) done.run.log
     → HasHistory program between new done.run.log → KeepsOthers program between new → AllZip (IsScanned new) (table_defs program) done.tables
-    → IsSessionOver program command loaded done old new
-session_over program command loaded done old between new is run answered history others are = record {
+    → after ≡ commits_after done.run.log middle
+    → IsSessionOver program command loaded done old new before after
+session_over program command loaded done old between new before middle after is one run answered history others are committed = record {
   run = run;
   answered = answered;
   tables = all_of_table new (table_defs program) done.tables are;
   told = told_session program loaded done.run.log done.tables old new (subst (λ told. HasHistory program told new done.run.log) is history) (subst (λ told. KeepsOthers program told new) is others) are;
+  committed = committed ∙ ap (commits_after done.run.log) one;
 }
 
 -- where it is answered
-pub session_answered : (program : Program) (command : SourceCommand) (loaded : List TableRows) (r : Result Done OutFault) (old between new : Option Tables)
-    → between ≡ option_map (loaded_over (table_defs program) loaded) old
+pub session_answered : (program : Program) (command : SourceCommand) (loaded : List TableRows) (r : Result Done OutFault) (old between new : Option Tables) (before middle after : ℕ)
+    → between ≡ option_map (loaded_over (table_defs program) loaded) old → middle ≡ next_count before
     → IfOk r (λ done. IsRun program command.arg command.fuel new (run_of done.run)) → IfOk r (λ done. Each (HasAnswer program) done.run.log)
     → IfOk r (λ done. HasHistory program between new done.run.log) → KeepsOthers program between new → IfOk r (λ done. AllZip (IsScanned new) (table_defs program) done.tables)
-    → IfOk r (λ done. IsSessionOver program command loaded done old new)
-session_answered program command loaded (Ok done) old between new is run answered history others are = session_over program command loaded done old between new is run answered history others are
-session_answered program command loaded (Err fault) old between new is run answered history others are = tt
+    → IfOk r (λ done. after ≡ commits_after done.run.log middle)
+    → IfOk r (λ done. IsSessionOver program command loaded done old new before after)
+session_answered program command loaded (Ok done) old between new before middle after is one run answered history others are committed =
+    session_over program command loaded done old between new before middle after is one run answered history others are committed
+session_answered program command loaded (Err fault) old between new before middle after is one run answered history others are committed = tt
 
 -- ---- where a session breaks off
 
@@ -95,22 +100,25 @@ keeps_itself program None x none = tt
 keeps_itself program (Some tables) x none = refl
 
 -- before the rows were loaded
-pub left_before : (program : Program) (command : SourceCommand) (loaded : List TableRows) (old new : Option Tables) (fault : OutFault) → new ≡ old → AreLeft program command loaded fault old new
-left_before program command loaded old new fault is = record { become = inl is; others = subst (KeepsOthers program old) (sym is) (keeps_itself program old) }
+pub left_before : (program : Program) (command : SourceCommand) (loaded : List TableRows) (old new : Option Tables) (before after : ℕ) (fault : OutFault) → new ≡ old → after ≡ before
+    → AreLeft program command loaded fault old new before after
+left_before program command loaded old new before after fault is none = record { become = inl (is, none); others = subst (KeepsOthers program old) (sym is) (keeps_itself program old) }
 
 -- afterwards
-pub left_over : (program : Program) (command : SourceCommand) (loaded : List TableRows) (old between new : Option Tables) (fault : OutFault)
-    → between ≡ option_map (loaded_over (table_defs program) loaded) old → BreaksOff program command fault between new → KeepsOthers program between new → AreLeft program command loaded fault old new
-left_over program command loaded old between new fault is breaks others = record {
-  become = inr (subst (λ told. BreaksOff program command fault told new) is breaks);
+pub left_over : (program : Program) (command : SourceCommand) (loaded : List TableRows) (old between new : Option Tables) (before middle after : ℕ) (fault : OutFault)
+    → between ≡ option_map (loaded_over (table_defs program) loaded) old → middle ≡ next_count before
+    → BreaksOff program command fault between new middle after → KeepsOthers program between new → AreLeft program command loaded fault old new before after
+left_over program command loaded old between new before middle after fault is one breaks others = record {
+  become = inr (subst (λ told. BreaksOff program command fault told new (next_count before) after) is (subst (λ count. BreaksOff program command fault between new count after) one breaks));
   others = told_others program loaded old new (subst (λ told. KeepsOthers program told new) is others);
 }
 
 -- at the end of a run
-pub breaks_behind : (program : Program) (command : SourceCommand) (run : SourceRun) (fault : OutFault) (loaded new : Option Tables)
-    → IsRun program command.arg command.fuel new run → Each (HasAnswer program) run.log → HasBegunSession program command.arg command.fuel run.log → HasHistory program loaded new run.log → BreaksOff program command fault loaded new
-breaks_behind program command run Failed loaded new is answered begun history = (run, is, answered, history)
-breaks_behind program command run NoMemory loaded new is answered begun history = (0, commits_after run.log 0, run.log, begun, history, refl)
+pub breaks_behind : (program : Program) (command : SourceCommand) (run : SourceRun) (fault : OutFault) (loaded new : Option Tables) (before after : ℕ)
+    → IsRun program command.arg command.fuel new run → Each (HasAnswer program) run.log → HasBegunSession program command.arg command.fuel run.log → HasHistory program loaded new run.log
+    → after ≡ commits_after run.log before → BreaksOff program command fault loaded new before after
+breaks_behind program command run Failed loaded new before after is answered begun history committed = (run, is, answered, history, committed)
+breaks_behind program command run NoMemory loaded new before after is answered begun history committed = (run.log, begun, history, committed)
 
 -- ---- fits
 

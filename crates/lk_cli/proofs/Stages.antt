@@ -35,22 +35,22 @@ pub came_back : (stores : StoresSeen) (before after : StoreSeen) (P : StoreSeen 
 came_back stores before after P given back later is =
     subst (λ g. IsSomeAnd g (λ b. IsSomeAnd stores.back (λ a. (b.faults ≤ a.faults) × P b a))) (sym given) (subst (λ k. IsSomeAnd k (λ a. (before.faults ≤ a.faults) × P before a)) (sym back) (later, is))
 
-pub none_picked : {S : Type 0} (tables : S → Option Tables) (faults : S → ℕ) (picked : Option S) → picked ≡ None → option_map (store_seen tables faults) picked ≡ None
-none_picked tables faults picked is = ap (option_map (store_seen tables faults)) is
+pub none_picked : {S : Type 0} (tables : S → Option Tables) (commits faults : S → ℕ) (picked : Option S) → picked ≡ None → option_map (store_seen tables commits faults) picked ≡ None
+none_picked tables commits faults picked is = ap (option_map (store_seen tables commits faults)) is
 
 -- a store that was picked and not used comes back as it was
-untouched : {S : Type 0} (tables : S → Option Tables) (faults : S → ℕ) (picked : Option S) → IsHandedBack (picked_seen tables faults picked picked)
-untouched tables faults None = inl (refl, refl)
-untouched tables faults (Some store) = inr (omega arith, refl)
+untouched : {S : Type 0} (tables : S → Option Tables) (commits faults : S → ℕ) (picked : Option S) → IsHandedBack (picked_seen tables commits faults picked picked)
+untouched tables commits faults None = inl (refl, refl)
+untouched tables commits faults (Some store) = inr (omega arith, refl)
 
-module _ {S : Type 0} (name : S → List ℕ) (tables : S → Option Tables) (faults : S → ℕ) (stores : List S) (wanted : List ℕ) where
+module _ {S : Type 0} (name : S → List ℕ) (tables : S → Option Tables) (commits faults : S → ℕ) (stores : List S) (wanted : List ℕ) where
   -- the store that was picked is the first one of the name
-  pub handed_back : (picked : Option S) → picked ≡ find (λ store. bytes_eq wanted (name store)) stores → IsHandedBack (stores_seen name tables faults stores picked wanted)
-  handed_back picked first = subst (λ given. IsHandedBack (picked_seen tables faults given picked)) first (untouched tables faults picked)
+  pub handed_back : (picked : Option S) → picked ≡ find (λ store. bytes_eq wanted (name store)) stores → IsHandedBack (stores_seen name tables commits faults stores picked wanted)
+  handed_back picked first = subst (λ given. IsHandedBack (picked_seen tables commits faults given picked)) first (untouched tables commits faults picked)
 
   pub over_picked : (files : FilesSeen) (command : SourceCommand) (program : Program) (answer : Result Answer Refusal) (picked back : Option S) → picked ≡ find (λ store. bytes_eq wanted (name store)) stores
-      → AnswersSession files (picked_seen tables faults picked back) command program answer → AnswersSession files (stores_seen name tables faults stores back wanted) command program answer
-  over_picked files command program answer picked back first is = subst (λ given. AnswersSession files (picked_seen tables faults given back) command program answer) first is
+      → AnswersSession files (picked_seen tables commits faults picked back) command program answer → AnswersSession files (stores_seen name tables commits faults stores back wanted) command program answer
+  over_picked files command program answer picked back first is = subst (λ given. AnswersSession files (picked_seen tables commits faults given back) command program answer) first is
 
 -- that there is none is so of both
 pub none_or_some : {S : Type 0} (picked found : Option S) → picked ≡ found → (found ≡ None) ⊎ IsSome picked
@@ -68,25 +68,25 @@ with_itself {S} R same picked found is = subst (λ o. IfSome picked (λ back. If
     by_picked None = tt
     by_picked (Some store) = same store
 
-pub told_back : {S : Type 0} (tables : S → Option Tables) (faults : S → ℕ) (back : Option S) (store : S) → back ≡ Some store → option_map (store_seen tables faults) back ≡ Some (store_seen tables faults store)
-told_back tables faults back store is = ap (option_map (store_seen tables faults)) is
+pub told_back : {S : Type 0} (tables : S → Option Tables) (commits faults : S → ℕ) (back : Option S) (store : S) → back ≡ Some store → option_map (store_seen tables commits faults) back ≡ Some (store_seen tables commits faults store)
+told_back tables commits faults back store is = ap (option_map (store_seen tables commits faults)) is
 
 -- the answer of a session that was tried
 pub tried_answer : (files : FilesSeen) (stores : StoresSeen) (command : SourceCommand) (program : Program) (loaded : List TableRows) (outcome : Result Done OutFault) (before after : StoreSeen) (answer : Result Answer Refusal)
     → answer ≡ answer_of outcome → stores.given ≡ Some before → stores.back ≡ Some after
     → AreLoaded files command.tables (table_defs program) loaded
-    → IfOk outcome (λ done. IsSessionOver program command loaded done before.tables after.tables)
-    → IfErr outcome (λ fault. AreLeft program command loaded fault before.tables after.tables)
+    → IfOk outcome (λ done. IsSessionOver program command loaded done before.tables after.tables before.commits after.commits)
+    → IfErr outcome (λ fault. AreLeft program command loaded fault before.tables after.tables before.commits after.commits)
     → HasCause before.faults after.faults outcome
     → AnswersSession files stores command program answer
 tried_answer files stores command program loaded outcome before after answer is given back are session left cause =
     subst (AnswersSession files stores command program) (sym is) (by_outcome outcome session left cause)
   where
-    by_outcome : (outcome : Result Done OutFault) → IfOk outcome (λ done. IsSessionOver program command loaded done before.tables after.tables)
-        → IfErr outcome (λ fault. AreLeft program command loaded fault before.tables after.tables) → HasCause before.faults after.faults outcome → AnswersSession files stores command program (answer_of outcome)
-    by_outcome (Ok done) session left cause = (loaded, are, came_back stores before after (λ b a. (a.faults ≡ b.faults) × IsSessionOver program command loaded done b.tables a.tables) given back cause.later (cause.passed, session))
-    by_outcome (Err Failed) session left cause = inr (inr (loaded, are, came_back stores before after (λ b a. Rose b.faults a.faults × AreLeft program command loaded Failed b.tables a.tables) given back cause.later (cause.failed refl, left)))
-    by_outcome (Err NoMemory) session left cause = inr (inr (loaded, are, came_back stores before after (λ b a. AreLeft program command loaded NoMemory b.tables a.tables) given back cause.later left))
+    by_outcome : (outcome : Result Done OutFault) → IfOk outcome (λ done. IsSessionOver program command loaded done before.tables after.tables before.commits after.commits)
+        → IfErr outcome (λ fault. AreLeft program command loaded fault before.tables after.tables before.commits after.commits) → HasCause before.faults after.faults outcome → AnswersSession files stores command program (answer_of outcome)
+    by_outcome (Ok done) session left cause = (loaded, are, came_back stores before after (λ b a. (a.faults ≡ b.faults) × IsSessionOver program command loaded done b.tables a.tables b.commits a.commits) given back cause.later (cause.passed, session))
+    by_outcome (Err Failed) session left cause = inr (inr (loaded, are, came_back stores before after (λ b a. Rose b.faults a.faults × AreLeft program command loaded Failed b.tables a.tables b.commits a.commits) given back cause.later (cause.failed refl, left)))
+    by_outcome (Err NoMemory) session left cause = inr (inr (loaded, are, came_back stores before after (λ b a. AreLeft program command loaded NoMemory b.tables a.tables b.commits a.commits) given back cause.later left))
 
 -- ---- the files
 
@@ -167,9 +167,9 @@ unread files stores (Some (Sql command)) back same = (back, inl tt)
 unread files stores (Some (Source command)) back same = inl (refl, back, same)
 
 -- an answer to a command is one to the words that have its form
-pub form_answer : {S : Type 0} (files : FilesSeen) (name : S → List ℕ) (tables : S → Option Tables) (faults : S → ℕ) (stores : List S) (back : Option S) (command form : Option Command) (answer : Result Answer Refusal)
-    → command ≡ form → Answers files (stores_seen name tables faults stores back (store_of command)) command answer → Answers files (stores_seen name tables faults stores back (store_of form)) form answer
-form_answer files name tables faults stores back command form answer is has = subst (λ o. Answers files (stores_seen name tables faults stores back (store_of o)) o answer) is has
+pub form_answer : {S : Type 0} (files : FilesSeen) (name : S → List ℕ) (tables : S → Option Tables) (commits faults : S → ℕ) (stores : List S) (back : Option S) (command form : Option Command) (answer : Result Answer Refusal)
+    → command ≡ form → Answers files (stores_seen name tables commits faults stores back (store_of command)) command answer → Answers files (stores_seen name tables commits faults stores back (store_of form)) form answer
+form_answer files name tables commits faults stores back command form answer is has = subst (λ o. Answers files (stores_seen name tables commits faults stores back (store_of o)) o answer) is has
 
 -- and what holds of the store that a command asks for holds of that which the words ask for
 pub form_store : (P : List ℕ → Type 0) (command form : Option Command) → command ≡ form → P (store_of command) → P (store_of form)

@@ -27,7 +27,7 @@ use Rattle.lk_mono.specs.declared.error.ShapeKind.TheVariants.{MainType, Equalit
 use Rattle.lk_names.specs.Programs as names
 use Rattle.lk_names.specs.declared.error.NameError.{NameError}
 use Rattle.lk_names.specs.declared.error.NameError.TheVariants as fault
-use Rattle.lk_outside.specs.Causes.{Rose}
+use Rattle.lk_outside.specs.Causes.{Rose, next_count}
 use Rattle.lk_outside.specs.Sink.{Appends, AppendsFront}
 use Rattle.lk_outside.specs.declared.fault.OutFault.{OutFault}
 use Rattle.lk_outside.specs.declared.fault.OutFault.TheVariants as outside
@@ -35,7 +35,7 @@ use Rattle.lk_parse.specs.Refusals.{IsProgramText, IsRefused}
 use Rattle.lk_parse.specs.declared.error.ParseError.{ParseError}
 use Rattle.lk_parse.specs.declared.error.ParseError.TheVariants as parse
 use Rattle.lk_sem.specs.Histories.{HasAnswer}
-use Rattle.lk_sem.specs.SourceRuns.{IsRun, IsPlainRun}
+use Rattle.lk_sem.specs.SourceRuns.{IsRun, IsPlainRun, commits_after}
 use Rattle.lk_tables.specs.Reading.{refusal}
 use Rattle.lk_tables.specs.declared.error.TablesError.{TablesError}
 use Rattle.lk_tables.specs.declared.error.TablesError.TheVariants as error
@@ -100,18 +100,20 @@ IsAcceptedOf files name program = IsProgram files name program × ((typed : Type
 
 -- An answered session that began with these rows over the tables of a store before it: a run of the program with the argument and
 -- the fuel that are asked for, which has an end of its own and in which each reading was answered by what it gives, and the declared
--- tables with rows that fit them, which are the rows that they have at its end.
-pub record IsSessionOver (program : Program) (command : SourceCommand) (loaded : List TableRows) (done : Done) (before after : Option Tables) : Type 0 where
-  pub run : IsRun program command.arg command.fuel after (run_of done.run)
+-- tables with rows that fit them, which are the rows that they have at its end. To load the rows was a transaction, and so was each
+-- reading and each writing; no other was committed from that count to that.
+pub record IsSessionOver (program : Program) (command : SourceCommand) (loaded : List TableRows) (done : Done) (old new : Option Tables) (before after : ℕ) : Type 0 where
+  pub run : IsRun program command.arg command.fuel new (run_of done.run)
   pub answered : Each (HasAnswer program) done.run.log
   pub tables : AllZip IsOfTable (table_defs program) done.tables
-  pub told : HasToldSession program loaded done.run.log done.tables before after
+  pub told : HasToldSession program loaded done.run.log done.tables old new
+  pub committed : after ≡ commits_after done.run.log (next_count before)
 
 -- the same over the store that is asked for, whose count of faults is as before, with the rows that are asked for
 abbrev pub IsSession : FilesSeen → StoresSeen → SourceCommand → Program → Done → Type 0
 IsSession files stores command program done =
     (loaded : List TableRows) × AreLoaded files command.tables (table_defs program) loaded
-    × CameBack stores (λ before after. (after.faults ≡ before.faults) × IsSessionOver program command loaded done before.tables after.tables)
+    × CameBack stores (λ before after. (after.faults ≡ before.faults) × IsSessionOver program command loaded done before.tables after.tables before.commits after.commits)
 
 -- What a command comes to where nothing refuses it. `check` and `sql`: the program of the file, accepted with its schemes and
 -- types and its SQL; no store comes back. `source`: a session of that program.
@@ -264,8 +266,8 @@ HasNoStore stores wanted refusal = ⊥
 -- the store came back with what its session had made of these rows when a call of the store failed, or when memory ran out
 abbrev pub CameBackFrom : StoresSeen → SourceCommand → Program → List TableRows → Refusal → Type 0
 CameBackFrom stores command program loaded StoreFault =
-    CameBack stores (λ before after. Rose before.faults after.faults × AreLeft program command loaded outside.Failed before.tables after.tables)
-CameBackFrom stores command program loaded NoMemory = CameBack stores (λ before after. AreLeft program command loaded outside.NoMemory before.tables after.tables)
+    CameBack stores (λ before after. Rose before.faults after.faults × AreLeft program command loaded outside.Failed before.tables after.tables before.commits after.commits)
+CameBackFrom stores command program loaded NoMemory = CameBack stores (λ before after. AreLeft program command loaded outside.NoMemory before.tables after.tables before.commits after.commits)
 CameBackFrom stores command program loaded refusal = ⊥
 
 -- the session broke off, which was to begin with the rows that are asked for

@@ -9,10 +9,11 @@ use Rattle.lk_ast.specs.declared.table.TableDef.{TableDef}
 use Rattle.lk_ast.specs.declared.table.TableRows.{TableRows}
 use Rattle.lk_bag.specs.Change.{with_rows}
 use Rattle.lk_bag.specs.Legal.{IsLegal}
+use Rattle.lk_outside.specs.Causes.{next_count}
 use Rattle.lk_outside.specs.declared.fault.OutFault.{OutFault}
 use Rattle.lk_outside.specs.declared.fault.OutFault.TheVariants.{Failed, NoMemory}
 use Rattle.lk_sem.specs.Histories.{HasAnswer, KeepsOthers}
-use Rattle.lk_sem.specs.SourceRuns.{HasHistory, HasSomeHistory, IsRun}
+use Rattle.lk_sem.specs.SourceRuns.{HasHistory, HasSomeHistory, IsRun, commits_after}
 use Rattle.lk_sem.specs.declared.run.SourceRun.{SourceRun}
 use Rattle.lk_sound.specs.Tables.{table_at}
 use Rattle.lk_tables.specs.Reading.{refusal, tables_in}
@@ -78,13 +79,15 @@ HasToldSession program loaded events printed old new = IfSome old (λ before. Is
 
 -- What a session made of the rows loaded before it broke off. The store failed: what the log of its run makes of them, which is whole,
 -- or goes to the reading or writing that was refused, and in which each reading was answered by what it gives. Memory ran out: what
--- some first events of the session make of them.
-abbrev pub BreaksOff : Program → SourceCommand → OutFault → Option Tables → Option Tables → Type 0
-BreaksOff program command Failed loaded new = (run : SourceRun) × IsRun program command.arg command.fuel new run × Each (HasAnswer program) run.log × HasHistory program loaded new run.log
-BreaksOff program command NoMemory loaded new = (before : ℕ) × (after : ℕ) × HasSomeHistory program command.arg command.fuel loaded new before after
+-- some first events of the session make of them. These are all the transactions that were committed from that count to that.
+abbrev pub BreaksOff : Program → SourceCommand → OutFault → Option Tables → Option Tables → ℕ → ℕ → Type 0
+BreaksOff program command Failed loaded new before after =
+    (run : SourceRun) × IsRun program command.arg command.fuel new run × Each (HasAnswer program) run.log × HasHistory program loaded new run.log
+    × (after ≡ commits_after run.log before)
+BreaksOff program command NoMemory loaded new before after = HasSomeHistory program command.arg command.fuel loaded new before after
 
--- The tables that a session leaves which isn't answered: those from before, or what it made of the rows loaded. Tables that aren't
--- declared are as they were.
-pub record AreLeft (program : Program) (command : SourceCommand) (loaded : List TableRows) (fault : OutFault) (old new : Option Tables) : Type 0 where
-  pub become : (new ≡ old) ⊎ BreaksOff program command fault (option_map (loaded_over (table_defs program) loaded) old) new
+-- The tables that a session leaves which isn't answered: those from before, and nothing was committed; or the rows were loaded, which is
+-- one transaction, and they are what it made of these. Tables that aren't declared are as they were.
+pub record AreLeft (program : Program) (command : SourceCommand) (loaded : List TableRows) (fault : OutFault) (old new : Option Tables) (before after : ℕ) : Type 0 where
+  pub become : ((new ≡ old) × (after ≡ before)) ⊎ BreaksOff program command fault (option_map (loaded_over (table_defs program) loaded) old) new (next_count before) after
   pub others : KeepsOthers program old new

@@ -18,9 +18,10 @@ seen contents failed faults old new = record { contents = contents old; failed =
 abbrev pub HasText : FilesSeen → List ℕ → List ℕ → Type 0
 HasText files name text = IfSome files.contents (λ contents. get contents name ≡ Some text)
 
--- of a store: its tables where they are told, and its count of faults
+-- of a store: its tables where they are told, how many transactions were committed, and its count of faults
 pub record StoreSeen : Type 0 where
   pub tables : Option Tables
+  pub commits : ℕ
   pub faults : ℕ
 
 -- the first store of the name that is asked for, as it was handed in, and the store that came back
@@ -28,15 +29,15 @@ pub record StoresSeen : Type 0 where
   pub given : Option StoreSeen
   pub back : Option StoreSeen
 
-abbrev pub store_seen : {S : Type 0} → (S → Option Tables) → (S → ℕ) → S → StoreSeen
-store_seen tables faults store = record { tables = tables store; faults = faults store }
+abbrev pub store_seen : {S : Type 0} → (S → Option Tables) → (S → ℕ) → (S → ℕ) → S → StoreSeen
+store_seen tables commits faults store = record { tables = tables store; commits = commits store; faults = faults store }
 
 -- the store that was picked, and the one that came back
-abbrev pub picked_seen : {S : Type 0} → (S → Option Tables) → (S → ℕ) → Option S → Option S → StoresSeen
-picked_seen tables faults picked back = record { given = option_map (store_seen tables faults) picked; back = option_map (store_seen tables faults) back }
+abbrev pub picked_seen : {S : Type 0} → (S → Option Tables) → (S → ℕ) → (S → ℕ) → Option S → Option S → StoresSeen
+picked_seen tables commits faults picked back = record { given = option_map (store_seen tables commits faults) picked; back = option_map (store_seen tables commits faults) back }
 
-abbrev pub stores_seen : {S : Type 0} → (S → List ℕ) → (S → Option Tables) → (S → ℕ) → List S → Option S → List ℕ → StoresSeen
-stores_seen name tables faults stores back wanted = picked_seen tables faults (find (λ store. bytes_eq wanted (name store)) stores) back
+abbrev pub stores_seen : {S : Type 0} → (S → List ℕ) → (S → Option Tables) → (S → ℕ) → (S → ℕ) → List S → Option S → List ℕ → StoresSeen
+stores_seen name tables commits faults stores back wanted = picked_seen tables commits faults (find (λ store. bytes_eq wanted (name store)) stores) back
 
 -- the store that was asked for was handed in and came back, its count didn't fall, and this holds of it before and after
 abbrev pub CameBack : StoresSeen → (StoreSeen → StoreSeen → Type 0) → Type 0

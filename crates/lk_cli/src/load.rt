@@ -8,7 +8,7 @@ ghost use Rattle.lk_bag.specs.Change.{with_rows};
 ghost use Rattle.lk_cli.specs.Answers.{HasNoRows, TellsReads};
 ghost use Rattle.lk_cli.specs.Loading.{AreLoaded, IsOfTable, IsScanned, all_put, empty_table, FitsTold, loaded_over};
 ghost use Rattle.lk_cli.specs.Seen.{seen};
-ghost use Rattle.lk_outside.specs.Causes.{HasCause};
+ghost use Rattle.lk_outside.specs.Causes.{HasCause, next_count};
 ghost use Rattle.lk_tables.specs.Law.{are_distinct};
 ghost use Rattle.lk_types.specs.Each.{Each};
 
@@ -101,6 +101,8 @@ pub fn load(
     ensures loaded { OnOk result (tables store.new ≡ option_map (loaded_over defs.now loaded) (tables store.old)) }
     ensures refused { OnErr result (tables store.new ≡ tables store.old) }
     ensures cause { HasCause (faults store.old) (faults store.new) result }
+    ensures counted { OnOk result (commits store.new ≡ next_count (commits store.old)) }
+    ensures uncounted { OnErr result (commits store.new ≡ commits store.old) }
 {
     store.begin(alloc)?;
     match put_all(alloc, defs, loaded, store) {
@@ -119,6 +121,8 @@ fn commit(alloc: Global, store: &mut dyn Store) -> Result<(), OutFault>
     ensures ok { OnOk result (tables store.new ≡ tables store.old) }
     ensures refused { OnErr result (tables store.new ≡ kept store.old) }
     ensures cause { HasCause (faults store.old) (faults store.new) result }
+    ensures counted { OnOk result (commits store.new ≡ next_count (commits store.old)) }
+    ensures uncounted { OnErr result (commits store.new ≡ commits store.old) }
 {
     store.commit(alloc)
 }
@@ -137,6 +141,7 @@ fn put_all(
     ensures put { OnOk result (tables store.new ≡ option_map (all_put loaded) (tables store.old)) }
     ensures kept { kept store.new ≡ kept store.old }
     ensures cause { HasCause (faults store.old) (faults store.new) result }
+    ensures commits { commits store.new ≡ commits store.old }
 {
     let mut left = defs;
     for table in loaded.into_vec() {
@@ -163,6 +168,7 @@ fn put_rows(
     ensures put { OnOk result (tables store.new ≡ option_map (with_rows def.now.name rows) (tables store.old)) }
     ensures kept { kept store.new ≡ kept store.old }
     ensures cause { HasCause (faults store.old) (faults store.new) result }
+    ensures commits { commits store.new ≡ commits store.old }
 {
     store.rewrite(alloc, def, rows)
 }
@@ -182,6 +188,7 @@ pub fn last_scan(
     ensures tables { tables store.new ≡ tables store.old }
     ensures scanned { IfOk result (AllZip (IsScanned (tables store.old)) defs.now) }
     ensures cause { HasCause (faults store.old) (faults store.new) result }
+    ensures commits { commits store.new ≡ commits store.old }
 {
     store.begin(alloc)?;
     match scan_all(alloc, defs, store) {
@@ -210,6 +217,7 @@ fn scan_all(
     ensures kept { kept store.new ≡ kept store.old }
     ensures scanned { IfOk result (AllZip (IsScanned (tables store.old)) defs.now) }
     ensures cause { HasCause (faults store.old) (faults store.new) result }
+    ensures commits { commits store.new ≡ commits store.old }
 {
     let mut scanned = List::new(alloc);
     for def in defs {
@@ -228,6 +236,7 @@ fn scan(alloc: Global, def: &TableDef, store: &mut dyn Store) -> Result<TableRow
     ensures kept { kept store.new ≡ kept store.old }
     ensures scanned { IfOk result (IsScanned (tables store.old) def.now) }
     ensures cause { HasCause (faults store.old) (faults store.new) result }
+    ensures commits { commits store.new ≡ commits store.old }
 {
     let title = def.name.copy(alloc)?;
     let rows = store.scan(alloc, def)?;

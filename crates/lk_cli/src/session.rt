@@ -8,7 +8,7 @@ ghost use Rattle.lk_cli.specs.Ended.{run_of};
 ghost use Rattle.lk_cli.specs.Loading.{AreLeft, BreaksOff, IsOfTable, IsScanned};
 ghost use Rattle.lk_outside.specs.Causes.{HasCause};
 ghost use Rattle.lk_sem.specs.Histories.{HasAnswer, KeepsOthers};
-ghost use Rattle.lk_sem.specs.SourceRuns.{HasBegunSession, HasHistory, IsPlainRun, IsRun};
+ghost use Rattle.lk_sem.specs.SourceRuns.{HasBegunSession, HasHistory, IsPlainRun, IsRun, commits_after};
 ghost use Rattle.lk_sound.specs.Instances.{IsShaped};
 ghost use Rattle.lk_sound.specs.Law.{AreBoundAndApart};
 ghost use Rattle.lk_sound.specs.Tables.{AreTables};
@@ -53,9 +53,9 @@ pub fn run_in_box(
     ensures name { name result.store ≡ name store }
     ensures kind { result.store.vtable ≡ store.vtable }
     ensures idle { is_open result.store ≡ false }
-    ensures session { IfOk result.outcome (λ done. IsSessionOver program.now command.now rows.loaded done (tables store) (tables result.store)) }
+    ensures session { IfOk result.outcome (λ done. IsSessionOver program.now command.now rows.loaded done (tables store) (tables result.store) (commits store) (commits result.store)) }
     ensures plain { IfOk result.outcome (λ done. IsPlainRun (run_of done.run)) }
-    ensures refused { IfErr result.outcome (λ fault. AreLeft program.now command.now rows.loaded fault (tables store) (tables result.store)) }
+    ensures refused { IfErr result.outcome (λ fault. AreLeft program.now command.now rows.loaded fault (tables store) (tables result.store) (commits store) (commits result.store)) }
     ensures cause { HasCause (faults store) (faults result.store) result.outcome }
 {
     let mut store = store;
@@ -78,9 +78,9 @@ fn run_over(
     requires idle { is_open store.old ≡ false }
     ensures name { name store.new ≡ name store.old }
     ensures idle { is_open store.new ≡ false }
-    ensures session { IfOk result (λ done. IsSessionOver program.now command.now rows.loaded done (tables store.old) (tables store.new)) }
+    ensures session { IfOk result (λ done. IsSessionOver program.now command.now rows.loaded done (tables store.old) (tables store.new) (commits store.old) (commits store.new)) }
     ensures plain { IfOk result (λ done. IsPlainRun (run_of done.run)) }
-    ensures refused { IfErr result (λ fault. AreLeft program.now command.now rows.loaded fault (tables store.old) (tables store.new)) }
+    ensures refused { IfErr result (λ fault. AreLeft program.now command.now rows.loaded fault (tables store.old) (tables store.new) (commits store.old) (commits store.new)) }
     ensures cause { HasCause (faults store.old) (faults store.new) result }
 {
     let Rows { defs, loaded } = rows;
@@ -106,10 +106,11 @@ fn run_loaded(
     ensures run { IfOk result (λ done. IsRun program.now command.now.arg command.now.fuel (tables store.new) (run_of done.run)) }
     ensures history { IfOk result (λ done. HasHistory program.now (tables store.old) (tables store.new) done.run.log) }
     ensures answered { IfOk result (λ done. Each (HasAnswer program.now) done.run.log) }
+    ensures committed { IfOk result (λ done. commits store.new ≡ commits_after done.run.log (commits store.old)) }
     ensures others { KeepsOthers program.now (tables store.old) (tables store.new) }
     ensures scanned { IfOk result (λ done. AllZip (IsScanned (tables store.new)) defs.now done.tables) }
     ensures plain { IfOk result (λ done. IsPlainRun (run_of done.run)) }
-    ensures refused { IfErr result (λ fault. BreaksOff program.now command.now fault (tables store.old) (tables store.new)) }
+    ensures refused { IfErr result (λ fault. BreaksOff program.now command.now fault (tables store.old) (tables store.new) (commits store.old) (commits store.new)) }
     ensures cause { HasCause (faults store.old) (faults store.new) result }
 {
     let run = evaluate(alloc, program, command, store)?;
@@ -134,10 +135,11 @@ fn evaluate(
     ensures history { IfOk result (λ run. HasHistory program.now (tables store.old) (tables store.new) run.log) }
     ensures begun { IfOk result (λ run. HasBegunSession program.now command.now.arg command.now.fuel run.log) }
     ensures answered { IfOk result (λ run. Each (HasAnswer program.now) run.log) }
+    ensures committed { IfOk result (λ run. commits store.new ≡ commits_after run.log (commits store.old)) }
     ensures others { KeepsOthers program.now (tables store.old) (tables store.new) }
     ensures plain { IfOk result (λ run. IsPlainRun (run_of run)) }
     ensures fit { IfSome (tables store.new) (AreTables program.now) }
-    ensures refused { IfErr result (λ fault. BreaksOff program.now command.now fault (tables store.old) (tables store.new)) }
+    ensures refused { IfErr result (λ fault. BreaksOff program.now command.now fault (tables store.old) (tables store.new) (commits store.old) (commits store.new)) }
     ensures cause { HasCause (faults store.old) (faults store.new) result }
 {
     let run = source_run(alloc, program, &command.arg, store, command.fuel)?;

@@ -58,7 +58,7 @@ pub fn links_main<F: Files, O: Sink>(
     ensures sink_later { O.faults out.old ≤ O.faults out.new }
     ensures answer { (answer : Result TheAnswer TheRefusal)
         × Answers (seen F.contents F.failed F.faults files.old files.new)
-        (stores_seen (λ store. name store) (λ store. tables store) (λ store. (⟦<dyn Store as Store>⟧ store.vtable).faults store.value) stores.items result.store (store_of (form_of (map string_bytes words.now))))
+        (stores_seen (λ store. name store) (λ store. tables store) (λ store. commits store) (λ store. (⟦<dyn Store as Store>⟧ store.vtable).faults store.value) stores.items result.store (store_of (form_of (map string_bytes words.now))))
         (form_of (map string_bytes words.now)) answer
         × TellsReads (F.faults files.old) (F.faults files.new) answer
         × Ends answer (O.taken out.old) (O.taken out.new) (O.faults out.old) (O.faults out.new) result.status
@@ -107,7 +107,7 @@ fn answer_words<F: Files>(
     ensures reads { TellsReads (F.faults files.old) (F.faults files.new) result.answer }
     ensures shown { IsShown result.answer }
     ensures answers { Answers (seen F.contents F.failed F.faults files.old files.new)
-        (stores_seen (λ store. name store) (λ store. tables store) (λ store. (⟦<dyn Store as Store>⟧ store.vtable).faults store.value) stores.items result.store (store_of (form_of (map string_bytes words.now))))
+        (stores_seen (λ store. name store) (λ store. tables store) (λ store. commits store) (λ store. (⟦<dyn Store as Store>⟧ store.vtable).faults store.value) stores.items result.store (store_of (form_of (map string_bytes words.now))))
         (form_of (map string_bytes words.now)) result.answer }
     ensures idle { IfSome result.store (λ store. is_open store ≡ false) }
     ensures named { IfSome result.store (λ store. name store ≡ store_of (form_of (map string_bytes words.now))) }
@@ -181,7 +181,7 @@ fn answer_source<F: Files>(
     ensures reads { TellsReads (F.faults files.old) (F.faults files.new) result.answer }
     ensures shown { IsShown result.answer }
     ensures answers { Answers (seen F.contents F.failed F.faults files.old files.new)
-        (stores_seen (λ store. name store) (λ store. tables store) (λ store. (⟦<dyn Store as Store>⟧ store.vtable).faults store.value) stores.items result.store command.now.store)
+        (stores_seen (λ store. name store) (λ store. tables store) (λ store. commits store) (λ store. (⟦<dyn Store as Store>⟧ store.vtable).faults store.value) stores.items result.store command.now.store)
         (Some (Source command.now)) result.answer }
     ensures idle { IfSome result.store (λ store. is_open store ≡ false) }
     ensures named { IfSome result.store (λ store. name store ≡ command.now.store) }
@@ -224,7 +224,7 @@ fn answer_session<F: Files>(
     ensures reads { TellsReads (F.faults files.old) (F.faults files.new) result.answer }
     ensures shown { IsShown result.answer }
     ensures answers { AnswersSession (seen F.contents F.failed F.faults files.old files.new)
-        (picked_seen (λ store. tables store) (λ store. (⟦<dyn Store as Store>⟧ store.vtable).faults store.value) picked result.store)
+        (picked_seen (λ store. tables store) (λ store. commits store) (λ store. (⟦<dyn Store as Store>⟧ store.vtable).faults store.value) picked result.store)
         command.now program.now result.answer }
     ensures idle { IfSome result.store (λ store. is_open store ≡ false) }
     ensures named { IfSome result.store (λ store. name store ≡ command.now.store) }

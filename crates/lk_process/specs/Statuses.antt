@@ -9,7 +9,7 @@ use Rattle.lk_words.specs.Words.{form_of, store_of}
 
 -- the store that is handed in, where the words ask for it: a store in memory, whose tables are empty
 abbrev pub memory_for : List ℕ → Option StoreSeen
-memory_for wanted = if bytes_eq wanted (codes "memory") then Some (record { tables = Some (λ name. []); faults = 0 }) else None
+memory_for wanted = if bytes_eq wanted (codes "memory") then Some (record { tables = Some (λ name. []); commits = 0; faults = 0 }) else None
 
 -- there is an answer to these words, with its cause, which passes over no fault of the files, and the process ends with it: what the
 -- sink took, the status and what is there for a message are those of this answer

@@ -129,6 +129,7 @@ fn end_with<F: Files, O: Sink>(
     requires idle { All (λ store. is_open store ≡ false) stores.items }
     requires named { All (λ store. name store ≡ codes "memory") stores.items }
     requires empty { All (λ store. tables store ≡ Some (λ _. [])) stores.items }
+    requires commits { All (λ store. commits store ≡ 0) stores.items }
     requires faults { All (λ store. (⟦<dyn Store as Store>⟧ store.vtable).faults store.value ≡ 0) stores.items }
     ensures contents { F.contents files.new ≡ F.contents files.old }
     ensures files_later { F.faults files.old ≤ F.faults files.new }

@@ -13,6 +13,7 @@ loop-def-preserved g c =
       tables = search rules;
       kept = search rules;
       faults = search rules;
+      commits = search rules;
       scanned = rw (more, c.in_ok-push.ensures.ok) (scanned_more told (take c.loop-def.def-index c.args.defs.now) c.def-item.result c.loop-def.scanned c.in_ok-scan.field-0 c.loop-def.invariant.scanned
           (rw c.loop-def.invariant.tables at c.in_ok-scan.ensures.scanned));
     }

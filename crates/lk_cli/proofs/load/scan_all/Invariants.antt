@@ -10,5 +10,6 @@ invariant-loop-def g l = record {
   tables : (goal.Store-dyn g l.store.now).tables l.store.now.1 ≡ (goal.Store-dyn g l.fn.store.now).tables l.fn.store.now.1;
   kept : (goal.Store-dyn g l.store.now).kept l.store.now.1 ≡ (goal.Store-dyn g l.fn.store.now).kept l.fn.store.now.1;
   faults : (goal.Store-dyn g l.store.now).faults l.store.now.1 ≡ (goal.Store-dyn g l.fn.store.now).faults l.fn.store.now.1;
+  commits : (goal.Store-dyn g l.store.now).commits l.store.now.1 ≡ (goal.Store-dyn g l.fn.store.now).commits l.fn.store.now.1;
   scanned : AllZip (IsScanned ((goal.Store-dyn g l.fn.store.now).tables l.fn.store.now.1)) (take l.def-index l.defs) l.scanned;
 }

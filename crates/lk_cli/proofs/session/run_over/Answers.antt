@@ -24,10 +24,10 @@ returns-clause-session g c =
     let declared : c.as_slice.result.now ≡ table_defs c.args.program.now = c.as_slice.ensures ∙ c.requires.declared in
     let again : c.as_slice-2.result.now ≡ table_defs c.args.program.now = c.as_slice-2.ensures ∙ c.requires.declared in
     let is = c.run_loaded.ensures in
-    session_answered c.args.program.now c.args.command.now c.args.rows.loaded c.run_loaded.result _ _ _ (rw declared at c.in_ok-load.ensures.loaded) is.run is.answered is.history is.others (rw again at is.scanned)
+    session_answered c.args.program.now c.args.command.now c.args.rows.loaded c.run_loaded.result _ _ _ _ _ _ (rw declared at c.in_ok-load.ensures.loaded) c.in_ok-load.ensures.counted is.run is.answered is.history is.others (rw again at is.scanned) is.committed
 
 pub returns-clause-refused : goal.returns-clause-refused
 returns-clause-refused g c =
     let declared : c.as_slice.result.now ≡ table_defs c.args.program.now = c.as_slice.ensures ∙ c.requires.declared in
     let is = c.run_loaded.ensures in
-    IfErr-weaker c.run_loaded.result _ _ (λ fault breaks. left_over c.args.program.now c.args.command.now c.args.rows.loaded _ _ _ fault (rw declared at c.in_ok-load.ensures.loaded) breaks is.others) is.refused
+    IfErr-weaker c.run_loaded.result _ _ (λ fault breaks. left_over c.args.program.now c.args.command.now c.args.rows.loaded _ _ _ _ _ _ fault (rw declared at c.in_ok-load.ensures.loaded) c.in_ok-load.ensures.counted breaks is.others) is.refused

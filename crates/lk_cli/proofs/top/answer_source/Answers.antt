@@ -15,7 +15,7 @@ returns-in-Ok-clause-answers g c =
     whole_answer (g.F.Files.contents c.args.files.now) (g.F.Files.contents c.accepted_program.new.files) (g.F.Files.failed c.answer_session.new.files) (g.F.Files.faults c.args.files.now) (g.F.Files.faults c.accepted_program.new.files) (g.F.Files.faults c.answer_session.new.files)
     c.in-Ok.ensures.contents c.in-Ok.ensures.later _ c.args.command.now c.in-Ok.checked.program c.answer_session.result.answer
     (rw c.as_str-2.ensures at c.in-Ok.ensures.program, (c.in-Ok.checked.typed, c.in-Ok.checked.queries, c.in-Ok.ensures.accepted))
-    (over_picked (λ store. (goal.Store-dyn g (store.vtable, store.value)).name store.value) (λ store. (goal.Store-dyn g (store.vtable, store.value)).tables store.value) (λ store. (goal.Store-dyn g (store.vtable, store.value)).faults store.value) c.args.stores.items c.args.command.now.store
+    (over_picked (λ store. (goal.Store-dyn g (store.vtable, store.value)).name store.value) (λ store. (goal.Store-dyn g (store.vtable, store.value)).tables store.value) (λ store. (goal.Store-dyn g (store.vtable, store.value)).commits store.value) (λ store. (goal.Store-dyn g (store.vtable, store.value)).faults store.value) c.args.stores.items c.args.command.now.store
     (seen g.F.Files.contents g.F.Files.failed g.F.Files.faults c.accepted_program.new.files c.answer_session.new.files) c.args.command.now c.in-Ok.checked.program c.answer_session.result.answer c.ready-picked.result c.answer_session.result.store
     (rw c.as_str.ensures at c.ready-picked.ensures.first) (rw c.program.ensures.same at c.answer_session.ensures.answers))
 
@@ -33,7 +33,7 @@ returns-in-Ok-clause-back g c = rw (rw c.as_str.ensures at c.ready-picked.ensure
 pub returns-in-Err-clause-answers : goal.returns-in-Err-clause-answers
 returns-in-Err-clause-answers g c =
     inr (inl (
-      handed_back (λ store. (goal.Store-dyn g (store.vtable, store.value)).name store.value) (λ store. (goal.Store-dyn g (store.vtable, store.value)).tables store.value) (λ store. (goal.Store-dyn g (store.vtable, store.value)).faults store.value) c.args.stores.items c.args.command.now.store c.ready-picked.result (rw c.as_str.ensures at c.ready-picked.ensures.first),
+      handed_back (λ store. (goal.Store-dyn g (store.vtable, store.value)).name store.value) (λ store. (goal.Store-dyn g (store.vtable, store.value)).tables store.value) (λ store. (goal.Store-dyn g (store.vtable, store.value)).commits store.value) (λ store. (goal.Store-dyn g (store.vtable, store.value)).faults store.value) c.args.stores.items c.args.command.now.store c.ready-picked.result (rw c.as_str.ensures at c.ready-picked.ensures.first),
       rw c.as_str-2.ensures at c.in-Err.ensures.refused,
     ))
 

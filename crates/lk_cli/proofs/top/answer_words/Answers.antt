@@ -9,7 +9,7 @@ use Rattle.lk_cli.proofs.top.answer_words.Goals as goal
 pub returns-clause-answers : goal.returns-clause-answers
 returns-clause-answers g c =
     form_answer (seen g.F.Files.contents g.F.Files.failed g.F.Files.faults c.args.files.now c.answer_source.new.files)
-    (λ store. (goal.Store-dyn g (store.vtable, store.value)).name store.value) (λ store. (goal.Store-dyn g (store.vtable, store.value)).tables store.value) (λ store. (goal.Store-dyn g (store.vtable, store.value)).faults store.value) c.args.stores.items c.answer_source.result.store
+    (λ store. (goal.Store-dyn g (store.vtable, store.value)).name store.value) (λ store. (goal.Store-dyn g (store.vtable, store.value)).tables store.value) (λ store. (goal.Store-dyn g (store.vtable, store.value)).commits store.value) (λ store. (goal.Store-dyn g (store.vtable, store.value)).faults store.value) c.args.stores.items c.answer_source.result.store
     (Some (Source c.in-Ok-Source.command)) (form_of (map string_bytes c.args.words.now)) c.answer_source.result.answer (search rules) c.answer_source.ensures.answers
 
 pub returns-clause-kind : goal.returns-clause-kind
