@@ -47,8 +47,7 @@ fn main_type(alloc: Global, grounds: &mut Grounds, body: &Ty) -> Result<u32, NoM
     ensures more { (rest : TheList TheGround) × (grounds.new ≡ grounds.old ++ rest) }
 {
     let bindings = Bindings::none(alloc);
-    let number = ground_one(alloc, grounds, &bindings, body)?;
-    Ok(number)
+    ground_one(alloc, grounds, &bindings, body)
 }
 
 /// Where a session begins, at its least type, which may be far too large to be walked.

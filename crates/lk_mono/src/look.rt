@@ -157,7 +157,7 @@ fn call_type(
     let effects = effects_around(alloc, grounds, setting, site.around)?;
     let params = argument_types(alloc, grounds, setting.numbers, args)?;
     let answer = number_at(alloc, grounds, setting.numbers, site.number)?;
-    Ok(grounds.add(alloc, GroundLevel::Fun(params, effects, answer))?)
+    grounds.add(alloc, GroundLevel::Fun(params, effects, answer))
 }
 
 /// The use of this name at the type of that number.

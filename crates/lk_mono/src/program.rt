@@ -72,13 +72,13 @@ fn shape_fault(
     if answers_function(&main.ty) {
         return Ok(Some((ShapeKind::MainType, main_at)));
     }
-    Ok(first_refused(
+    first_refused(
         alloc,
         instances.main_bodies.as_slice(),
         main_calls,
         instances.helper_bodies.as_slice(),
         helper_calls,
-    )?)
+    )
 }
 
 /// The ground program of a program with its functions.
@@ -163,12 +163,12 @@ pub fn ground<'p>(
     soundness_laws();
     let program = program.program();
     let members = Members::new(alloc, program, typed)?;
-    Ok(ground_source(
+    ground_source(
         alloc,
         Source {
             program,
             typed,
             members: &members,
         },
-    )?)
+    )
 }

@@ -394,6 +394,5 @@ pub fn first_refused(
         → Answers hs ms found) }
 {
     let marks = odd_helpers(alloc, helpers, helper_calls)?;
-    let found = first_in(alloc, &marks, mains, main_calls)?;
-    Ok(found)
+    first_in(alloc, &marks, mains, main_calls)
 }
