@@ -66,5 +66,5 @@ fn write_doubled(text: &mut Text, literal: &str) -> Result<(), NoMemory>
         text.push("''")?;
         rest = behind;
     }
-    Ok(text.push(rest)?)
+    text.push(rest)
 }
