@@ -156,14 +156,9 @@ pub fn change_own(
     ensures { IfOk result (λ made. as_own made ≡ set_own effects.now (the_row_of table.now) (ty.Var cond) (the_labelled (labels_of sets.now) types.now) next) }
 {
     match labelled(alloc, sets, types)? {
-        Some((fields, [])) => Ok(sets_own(
-            alloc,
-            effects,
-            row_of(alloc, table)?,
-            cond,
-            fields,
-            next,
-        )?),
+        Some((fields, [])) => {
+            sets_own(alloc, effects, row_of(alloc, table)?, cond, fields, next)
+        }
         _ => never(alloc, next),
     }
 }

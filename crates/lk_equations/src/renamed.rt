@@ -19,7 +19,7 @@ use std::alloc::Global;
 pub fn moved(number: u32, by: u32) -> Result<u32, NoMemory>
     ensures { IfOk result (λ made. made ≡ by + number) }
 {
-    Ok(by.checked_add(number).ok_or(NoMemory)?)
+    by.checked_add(number).ok_or(NoMemory)
 }
 
 /// The number that a variable gets, where the first one gets `next`.
