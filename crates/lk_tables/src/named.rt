@@ -70,5 +70,5 @@ fn put<'t>(
     let same = named
         .entry(table.name.as_str())?
         .or_insert(List::new(alloc));
-    Ok(same.push(table)?)
+    same.push(table)
 }
