@@ -224,7 +224,7 @@ fn first_columns(alloc: Global, types: &[Ground]) -> Result<List<Column>, NoMemo
 {
     match types.first() {
         None => Ok(List::new(alloc)),
-        Some(ty) => Ok(element_columns(alloc, ty)?),
+        Some(ty) => element_columns(alloc, ty),
     }
 }
 
@@ -249,7 +249,7 @@ fn table_labels(alloc: Global, table: Option<&TableDef>) -> Result<List<Text>, N
 {
     match table {
         None => Ok(List::new(alloc)),
-        Some(table) => Ok(labels(alloc, table.columns.as_slice())?),
+        Some(table) => labels(alloc, table.columns.as_slice()),
     }
 }
 

@@ -79,7 +79,7 @@ fn by_label(alloc: Global, items: &[Labelled]) -> Result<PartsByLabel, NoMemory>
 fn in_order(alloc: Global, items: &[Labelled]) -> Result<List<Labelled>, NoMemory>
     ensures { IfOk result (λ ordered. ordered ≡ in_order items.now) }
 {
-    Ok(by_label(alloc, items)?.into_items(alloc)?)
+    by_label(alloc, items)?.into_items(alloc)
 }
 
 /// What the columns of an update are set to, which are these parts, in byte order of the columns.
@@ -87,5 +87,5 @@ pub fn sets_of(alloc: Global, sets: &[PartExpr], parts: &[u32]) -> Result<List<L
     ensures { IfOk result (λ items. items ≡ in_order (labelled (map (λ set. set.label.text) sets.now) parts.now)) }
 {
     let items = labelled(alloc, sets, parts)?;
-    Ok(in_order(alloc, items.as_slice())?)
+    in_order(alloc, items.as_slice())
 }
