@@ -121,8 +121,7 @@ fn at_node<'g, 'p>(fun: u32, e: &'p Expr, tour: &mut Tour<'g, 'p>) -> Result<(),
                 types,
                 calls,
             };
-            tour.found.push(site)?;
-            Ok(())
+            tour.found.push(site)
         }
         _ => Ok(()),
     }
@@ -239,7 +238,7 @@ fn node<'g, 'p>(
         | Node::Insert(_, e) => expr(fun, room, inside, e, tour),
         Node::If(c, d, e) => three(fun, room, inside, c, d, e, tour),
         Node::Record(list) => parts(fun, room, inside, list.as_slice(), tour),
-        Node::Extend(list, e) => Ok(extension(fun, room, inside, list.as_slice(), e, tour)?),
+        Node::Extend(list, e) => extension(fun, room, inside, list.as_slice(), e, tour),
         Node::Switch(e, list, last) => switch(fun, room, inside, e, list.as_slice(), last, tour),
         Node::Update(rows) | Node::Delete(rows) => change(fun, room, inside, rows, tour),
     }

@@ -22,11 +22,11 @@ expr-returns t c =
     (is ∙ ap (λ n. within c.args.fun (out-Node n) c.is_inside-within.result (tour_of c.enter.new.tour)) c.get.ensures))
     c.node.ensures
 
-pub node-returns-in_ok-extension-in-Extend : goal.node-returns-in_ok-extension-in-Extend
-node-returns-in_ok-extension-in-Extend t c =
-    c.in_ok-extension-in-Extend.ensures
-    ∙ ap (λ parts. both (in_parts c.args.fun parts) (visit c.args.fun c.in-Extend.e) c.args.inside (tour_of c.args.tour.now)) c.as_slice-in-Extend.ensures
-    ∙ ap (λ l. within c.args.fun l c.args.inside (tour_of c.args.tour.now)) (sym (ap out-Node c.in-Extend.is ∙ node.outs-Extend c.in-Extend.list c.in-Extend.e))
+pub node-returns-in-Extend : goal.node-returns-in-Extend
+node-returns-in-Extend t c =
+    IfOk-equal c.extension.result _ _ _ c.extension.ensures
+    (ap (λ parts. both (in_parts c.args.fun parts) (visit c.args.fun c.in-Extend.e) c.args.inside (tour_of c.args.tour.now)) c.as_slice-in-Extend.ensures
+    ∙ ap (λ l. within c.args.fun l c.args.inside (tour_of c.args.tour.now)) (sym (ap out-Node c.in-Extend.is ∙ node.outs-Extend c.in-Extend.list c.in-Extend.e)))
 
 pub node-returns-in-Switch : goal.node-returns-in-Switch
 node-returns-in-Switch t c =
