@@ -117,11 +117,7 @@ fn with_row<'p>(
     ensures { IfOk result (λ inner. inner ≡ bind (out-ChangeExpr change.now).name.text (value_of_row row.now) names.now) }
 {
     let value = row_value(alloc, row)?;
-    Ok(
-        names
-            .share()?
-            .bind(alloc, change.name.text.as_str(), value)?,
-    )
+    names.share()?.bind(alloc, change.name.text.as_str(), value)
 }
 
 /// Whether the condition holds under these names.

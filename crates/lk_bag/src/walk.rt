@@ -459,7 +459,7 @@ fn call<'p>(
     };
     let none = Locals::new(over.alloc)?;
     match none.bind_all(over.alloc, function.params.as_slice(), args)? {
-        Some(inner) => Ok(value(over, calls - 1, room, &function.body, &inner)?),
+        Some(inner) => value(over, calls - 1, room, &function.body, &inner),
         None => Ok(Value::List(List::new(over.alloc))),
     }
 }

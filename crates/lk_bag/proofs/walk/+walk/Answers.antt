@@ -1,4 +1,5 @@
 use Rattle.std.proofs.Common.{◌≡◌, suc, ◌-◌, Some, None, arith, ap, ap₂, sym, ◌∙◌}
+use Rattle.std.proofs.lemmas.Result.{IfOk-weaker}
 use Rattle.std.specs.Option.{option_copied}
 use Rattle.lk_ast.specs.Functions.{function_named}
 use Rattle.lk_ast.specs.declared.value.Value.TheVariants as value
@@ -18,8 +19,8 @@ call-returns-in_default t c =
     let found : function_named p c.args.name.now ≡ None = ap (function_named p) (sym c.as_str.ensures) ∙ sym c.function.ensures ∙ ap option_copied c.in_default.is in
     ap value.List c.new-in_default.ensures ∙ sym (called_nobody p (rows_of c.args.over.now.tables.now) c.args.calls c.args.name.now c.args.args found)
 
-pub call-returns-in_ok-value-in-Some-2 : goal.call-returns-in_ok-value-in-Some-2
-call-returns-in_ok-value-in-Some-2 t c =
+pub call-returns-in-Some-2 : goal.call-returns-in-Some-2
+call-returns-in-Some-2 t c =
     let p = c.args.over.now.index.now in
     let tables = rows_of c.args.over.now.tables.now in
     let n = c.args.calls in
@@ -27,7 +28,8 @@ call-returns-in_ok-value-in-Some-2 t c =
     let f = c.in-Some.function.now in
     let found : function_named p c.args.name.now ≡ Some f = ap (function_named p) (sym c.as_str.ensures) ∙ sym c.function.ensures ∙ ap option_copied c.in-Some.is in
     let names : bind_all no_names f.params c.args.args ≡ Some c.in-Some-2.inner = ap₂ (λ none params. bind_all none params c.args.args) (sym c.in_ok-none.ensures) (sym c.as_slice.ensures) ∙ sym c.in_ok-inner.ensures ∙ c.in-Some-2.is in
-    c.in_ok-value-in-Some-2.ensures ∙ sym (called_body p tables n (n - 1) c.args.name.now c.args.args f more found ∙ ap (entered (given tables (called p tables (n - 1)) f.body)) names)
+    IfOk-weaker c.value.result _ _ (λ value is. is ∙ sym (called_body p tables n (n - 1) c.args.name.now c.args.args f more found ∙ ap (entered (given tables (called p tables (n - 1)) f.body)) names))
+    c.value.ensures
 
 pub call-returns-in-None : goal.call-returns-in-None
 call-returns-in-None t c =
