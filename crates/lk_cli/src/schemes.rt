@@ -31,7 +31,8 @@ fn lines_of(alloc: Global, functions: &[&FunDef], schemes: &[Scheme]) -> Result<
 fn line_of_scheme(alloc: Global, function: &FunDef, scheme: &Scheme) -> Result<Text, NoMemory>
     ensures { IfOk result (λ line. line ≡ scheme_line function.now scheme.now) }
 {
-    let ty = print_type(alloc, &scheme.body)?;
+    let body = scheme.body.tree(alloc)?;
+    let ty = print_type(alloc, &body)?;
     let line = format!(in alloc; "{} : {}\n", function.name.text.as_str(), ty.as_str())?;
     Ok(Text::from_string(line))
 }

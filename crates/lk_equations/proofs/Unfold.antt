@@ -1,67 +1,16 @@
 -- The definitions by folds, on each form of type.
-use Rattle.std.proofs.Common.{◌≡◌, ◌∙◌, ap, ap₂, refl, sym, ℕ, ◌+◌, List, [], ◌∷◌, map}
+use Rattle.std.proofs.Common.{◌≡◌, ◌∙◌, ap, ap₂, refl, sym, ℕ, List, [], ◌∷◌, map}
 use Rattle.lk_ast.specs.declared.signature.SigField.{SigField, fold-SigField, fold_out-SigField}
 use Rattle.lk_ast.specs.declared.signature.SigType.{SigType, roll-SigType, fold-roll-SigType}
 use Rattle.lk_ast.specs.declared.signature.SigType.TheFolds.{map-SigType}
 use Rattle.lk_ast.specs.declared.signature.SigType.TheOpen.{SigType-F}
 use Rattle.lk_ast.specs.declared.signature.SigType.TheVariants as sig
 use Rattle.lk_types.specs.Rows.{Label}
-use Rattle.lk_types.specs.declared.ty.Effects.{Effects}
-use Rattle.lk_types.specs.declared.ty.Ty.{Ty}
-use Rattle.lk_types.specs.declared.ty.Ty.TheFolds.{the_lemmas}
 use Rattle.lk_types.specs.declared.ty.Ty.TheVariants as ty
-use Rattle.lk_types.specs.declared.ty.TyField.{TyField}
-use Rattle.lk_types.specs.declared.ty.TyRow.{TyRow, out-TyRow, roll-TyRow}
 use Rattle.lk_types.specs.declared.ty.RowTail.TheVariants.{Closed}
-use Rattle.lk_types.specs.declared.ty.Variable.{Variable}
-use Rattle.lk_types.specs.declared.ty.Variable.TheVariants as variable
-use Rattle.lk_typing.specs.Renamed.{effects_renamed, renamed, renamed_field, renamed_row, tail_renamed}
 use Rattle.lk_typing.specs.Signatures.{Signing, field_level, sign_fields, sign_level, signed, signing}
 use Rattle.lk_typing.specs.Unknowns.{record_of, variant_of}
 use Rattle.lk_equations.specs.Made.{signing_fields}
-
--- ---- types with other numbers
-
-module _ (place : Variable → ℕ) where
-  pub renamed_int : renamed place ty.Int ≡ ty.Int
-  unfolding renamed
-  renamed_int = search the_lemmas
-
-  pub renamed_bool : renamed place ty.Bool ≡ ty.Bool
-  unfolding renamed
-  renamed_bool = search the_lemmas
-
-  pub renamed_text : renamed place ty.Text ≡ ty.Text
-  unfolding renamed
-  renamed_text = search the_lemmas
-
-  pub renamed_list : (t : Ty) → renamed place (ty.List t) ≡ ty.List (renamed place t)
-  unfolding renamed
-  renamed_list t = search the_lemmas
-
-  pub renamed_fields : (row : TyRow) → renamed place (ty.Fields row) ≡ ty.Fields (renamed_row place row)
-  unfolding renamed renamed_row
-  renamed_fields row = search the_lemmas
-
-  pub renamed_tags : (row : TyRow) → renamed place (ty.Tags row) ≡ ty.Tags (renamed_row place row)
-  unfolding renamed renamed_row
-  renamed_tags row = search the_lemmas
-
-  pub renamed_function : (params : List Ty) (es : Effects) (answer : Ty) → renamed place (ty.Fun params es answer) ≡ ty.Fun (map (renamed place) params) (effects_renamed place es) (renamed place answer)
-  unfolding renamed
-  renamed_function params es answer = search the_lemmas
-
-  pub renamed_variable : (v : ℕ) → renamed place (ty.Var v) ≡ ty.Var (place (variable.Plain v))
-  unfolding renamed
-  renamed_variable v = search the_lemmas
-
-  pub renamed_of_row : (row : TyRow) → renamed_row place row ≡ roll-TyRow (record { fields = map (renamed_field place) (out-TyRow row).fields; tail = tail_renamed place variable.Row (out-TyRow row).tail })
-  unfolding renamed_row renamed_field
-  renamed_of_row row = search the_lemmas
-
-  pub renamed_of_field : (f : TyField) → renamed_field place f ≡ record { label = f.label; ty = renamed place f.ty }
-  unfolding renamed_field renamed
-  renamed_of_field f = search the_lemmas
 
 -- ---- types of signatures
 

@@ -29,11 +29,14 @@ for_own equations body n = own (ty.List (ty.Var n)) (equations ++ same body (ty.
 abbrev pub switch_own : Effects → Ty → Ty → Own → Own
 switch_own effects value variant bodies = own bodies.ty (same value variant ∷ bodies.equations ++ has effects effect.Local bodies.next ∷ []) (1 + bodies.next)
 
-abbrev pub query_own : List SortKey → Effects → Ty → ℕ → Own
-query_own keys effects body n =
+abbrev pub query_told : List SortKey → Effects → Ty → ℕ → Told
+query_told keys effects body n =
     let ordered : Told = keys_told body keys (1 + n) in
     let by_client : Told = has_if (is_there keys) effects effect.Local (1 + ordered.next) in
-    own body (same body (ty.List (ty.Var n)) ∷ ordered.equations ++ has effects effect.Scan ordered.next ∷ by_client.equations) by_client.next
+    told (same body (ty.List (ty.Var n)) ∷ ordered.equations ++ has effects effect.Scan ordered.next ∷ by_client.equations) by_client.next
+
+abbrev pub query_own : List SortKey → Effects → Ty → ℕ → Own
+query_own keys effects body n = own body (query_told keys effects body n).equations (query_told keys effects body n).next
 
 -- each of these fields is one of the rows
 abbrev pub sets_said : Ty → List TyField → ℕ → Told

@@ -6,7 +6,7 @@ ghost use Rattle.lk_typing.specs.Types.{labelled as the_labelled};
 ghost use Rattle.lk_typing.specs.Typing.{is_marked as the_mark, labels_of};
 ghost use Rattle.lk_typing.specs.Unknowns.{effects_of, row_of as the_row_of, same as the_same};
 ghost use Rattle.lk_typing.specs.Walk.{one_type as the_one_type, set_own};
-ghost use Rattle.lk_equations.specs.Forms.{lambda_own as the_lambda_own, for_own as the_for_own, switch_own as the_switch_own, query_own as the_query_own, sets_own as the_sets_own};
+ghost use Rattle.lk_equations.specs.Forms.{as_told, lambda_own as the_lambda_own, for_own as the_for_own, switch_own as the_switch_own, query_own as the_query_own, query_told as the_query_told, sets_own as the_sets_own};
 ghost use Rattle.lk_equations.specs.Made.{as_own};
 ghost use Rattle.std.specs.Prelude.{◌≡◌, [], IfOk};
 
@@ -14,10 +14,10 @@ use crate::copies::copy_type;
 use crate::own::{Own, never, one, only};
 use crate::records::{all_same, labelled};
 use crate::renamed::moved;
-use crate::told::{has_if, joined, keys_told, sets_said};
+use crate::told::{Told, has_if, joined, keys_told, sets_said};
 use crate::unknowns::{function_of, has, list_of, row_of, same, unit};
 use lk_ast::{List, Loc, NoMemory, PartExpr, SortKey, TableDecl};
-use lk_types::{Effect, Effects, Equation, RowTail, Ty, TyField};
+use lk_types::{Effect, Effects, Equation, RowTail, Side, Ty, TyField};
 use std::alloc::Global;
 
 /// Whether a function is marked with its place.
@@ -53,7 +53,7 @@ pub fn lambda_own(
 {
     let local = has(alloc, effects, Effect::Local, next)?;
     Ok(Own {
-        ty: function_of(alloc, params, own_effects, Ty::Var(body))?,
+        ty: Side::of(function_of(alloc, params, own_effects, Ty::Var(body))?),
         equations: one(alloc, local)?,
         next: moved(next, 1)?,
     })
@@ -78,7 +78,7 @@ pub fn for_own(
     let mut equations = equations;
     equations.push(elements_are(alloc, body, next)?)?;
     Ok(Own {
-        ty: list_of(alloc, Ty::Var(next))?,
+        ty: Side::of(list_of(alloc, Ty::Var(next))?),
         equations,
         next: moved(next, 1)?,
     })
@@ -91,7 +91,7 @@ pub fn one_type(alloc: Global, types: &[Ty], next: u32) -> Result<Own, NoMemory>
     match types.split_first() {
         None => Ok(only(alloc, Ty::Var(next), moved(next, 1)?)),
         Some((first, rest)) => Ok(Own {
-            ty: copy_type(alloc, first)?,
+            ty: Side::of(copy_type(alloc, first)?),
             equations: all_same(alloc, first, rest)?,
             next,
         }),
@@ -119,6 +119,29 @@ pub fn switch_own(
     })
 }
 
+/// What is said of a query in a function with these effects, but for its type.
+fn query_told(
+    alloc: Global,
+    effects: &Effects,
+    keys: &[SortKey],
+    body: u32,
+    next: u32,
+) -> Result<Told, NoMemory>
+    ensures { IfOk result (λ made. as_told made ≡ the_query_told keys.now effects.now (ty.Var body) next) }
+{
+    let first = one(alloc, elements_are(alloc, body, next)?)?;
+    let ordered = keys_told(alloc, body, keys, moved(next, 1)?)?;
+    let scan = has(alloc, effects, Effect::Scan, ordered.next)?;
+    let behind = moved(ordered.next, 1)?;
+    let by_client = has_if(alloc, !keys.is_empty(), effects, Effect::Local, behind)?;
+    let mut equations = joined(first, ordered.equations)?;
+    equations.push(scan)?;
+    Ok(Told {
+        equations: joined(equations, by_client.equations)?,
+        next: by_client.next,
+    })
+}
+
 /// What is said of a query in a function with these effects.
 pub fn query_own(
     alloc: Global,
@@ -129,17 +152,11 @@ pub fn query_own(
 ) -> Result<Own, NoMemory>
     ensures { IfOk result (λ made. as_own made ≡ the_query_own keys.now effects.now (ty.Var body) next) }
 {
-    let first = one(alloc, elements_are(alloc, body, next)?)?;
-    let ordered = keys_told(alloc, body, keys, moved(next, 1)?)?;
-    let scan = has(alloc, effects, Effect::Scan, ordered.next)?;
-    let behind = moved(ordered.next, 1)?;
-    let by_client = has_if(alloc, !keys.is_empty(), effects, Effect::Local, behind)?;
-    let mut equations = joined(first, ordered.equations)?;
-    equations.push(scan)?;
+    let told = query_told(alloc, effects, keys, body, next)?;
     Ok(Own {
-        ty: Ty::Var(body),
-        equations: joined(equations, by_client.equations)?,
-        next: by_client.next,
+        ty: Side::of(Ty::Var(body)),
+        equations: told.equations,
+        next: told.next,
     })
 }
 
@@ -179,7 +196,7 @@ fn sets_own(
     let mut equations = joined(first, said.equations)?;
     equations.push(has(alloc, effects, Effect::Write, said.next)?)?;
     Ok(Own {
-        ty: unit(alloc),
+        ty: Side::of(unit(alloc)),
         equations,
         next: moved(said.next, 1)?,
     })

@@ -5,6 +5,7 @@ mod copies;
 mod forms;
 mod functions;
 mod heads;
+mod known;
 mod operators;
 mod own;
 mod proper;
@@ -22,6 +23,7 @@ pub use forms::{
     switch_own,
 };
 pub use heads::own_of;
+pub use known::Known;
 pub use own::{Globals, Own, never, one, only};
 pub use renamed::moved;
 pub use scope::Scope;

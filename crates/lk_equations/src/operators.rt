@@ -13,7 +13,7 @@ use crate::own::{Own, one, only, three, two};
 use crate::renamed::moved;
 use crate::unknowns::{field_before, has, list_of, same, unit};
 use lk_ast::NoMemory;
-use lk_types::{Effect, Effects, RowTail, Ty};
+use lk_types::{Effect, Effects, RowTail, Side, Ty};
 use std::alloc::Global;
 
 /// Both operands are of a base type, and so is what the operator makes of them.
@@ -30,7 +30,7 @@ pub fn both(
     let first = same(copy_type(alloc, a)?, copy_type(alloc, &operands)?);
     let second = same(copy_type(alloc, b)?, operands);
     Ok(Own {
-        ty: made,
+        ty: Side::of(made),
         equations: two(alloc, first, second)?,
         next,
     })
@@ -50,7 +50,7 @@ pub fn division(
     let second = same(copy_type(alloc, b)?, Ty::Int);
     let traps = has(alloc, effects, Effect::Trap, next)?;
     Ok(Own {
-        ty: Ty::Int,
+        ty: Side::of(Ty::Int),
         equations: three(alloc, first, second, traps)?,
         next: moved(next, 1)?,
     })
@@ -62,7 +62,7 @@ pub fn comparison(alloc: Global, a: &Ty, b: &Ty, next: u32) -> Result<Own, NoMem
 {
     let both = same(copy_type(alloc, a)?, copy_type(alloc, b)?);
     Ok(Own {
-        ty: Ty::Bool,
+        ty: Side::of(Ty::Bool),
         equations: one(alloc, both)?,
         next,
     })
@@ -74,7 +74,7 @@ pub fn sequence(alloc: Global, a: &Ty, b: &Ty, next: u32) -> Result<Own, NoMemor
 {
     let first = same(copy_type(alloc, a)?, unit(alloc));
     Ok(Own {
-        ty: copy_type(alloc, b)?,
+        ty: Side::of(copy_type(alloc, b)?),
         equations: one(alloc, first)?,
         next,
     })
@@ -87,7 +87,7 @@ pub fn append(alloc: Global, a: &Ty, b: &Ty, next: u32) -> Result<Own, NoMemory>
     let first = same(copy_type(alloc, a)?, list_of(alloc, Ty::Var(next))?);
     let second = same(copy_type(alloc, b)?, copy_type(alloc, a)?);
     Ok(Own {
-        ty: copy_type(alloc, a)?,
+        ty: Side::of(copy_type(alloc, a)?),
         equations: two(alloc, first, second)?,
         next: moved(next, 1)?,
     })
@@ -101,7 +101,7 @@ pub fn cons(alloc: Global, effects: &Effects, a: &Ty, b: &Ty, next: u32) -> Resu
     let list = same(copy_type(alloc, b)?, list_of(alloc, item)?);
     let by_client = has(alloc, effects, Effect::Local, next)?;
     Ok(Own {
-        ty: copy_type(alloc, b)?,
+        ty: Side::of(copy_type(alloc, b)?),
         equations: two(alloc, list, by_client)?,
         next: moved(next, 1)?,
     })
@@ -114,7 +114,7 @@ pub fn filter(alloc: Global, c: &Ty, a: &Ty, next: u32) -> Result<Own, NoMemory>
     let first = same(copy_type(alloc, c)?, Ty::Bool);
     let second = same(copy_type(alloc, a)?, list_of(alloc, Ty::Var(next))?);
     Ok(Own {
-        ty: list_of(alloc, Ty::Var(next))?,
+        ty: Side::of(list_of(alloc, Ty::Var(next))?),
         equations: two(alloc, first, second)?,
         next: moved(next, 1)?,
     })
@@ -127,7 +127,7 @@ pub fn choice(alloc: Global, c: &Ty, d: &Ty, e: &Ty, next: u32) -> Result<Own, N
     let test = same(copy_type(alloc, c)?, Ty::Bool);
     let both = same(copy_type(alloc, d)?, copy_type(alloc, e)?);
     Ok(Own {
-        ty: copy_type(alloc, d)?,
+        ty: Side::of(copy_type(alloc, d)?),
         equations: two(alloc, test, both)?,
         next,
     })
@@ -139,7 +139,7 @@ pub fn from_base(alloc: Global, operand: Ty, made: Ty, a: &Ty, next: u32) -> Res
 {
     let a = copy_type(alloc, a)?;
     Ok(Own {
-        ty: made,
+        ty: Side::of(made),
         equations: one(alloc, same(a, operand))?,
         next,
     })
@@ -168,7 +168,7 @@ pub fn from_list(alloc: Global, made: Ty, a: &Ty, next: u32) -> Result<Own, NoMe
 {
     let list = same(copy_type(alloc, a)?, list_of(alloc, Ty::Var(next))?);
     Ok(Own {
-        ty: made,
+        ty: Side::of(made),
         equations: one(alloc, list)?,
         next: moved(next, 1)?,
     })
@@ -197,7 +197,7 @@ pub fn projection(alloc: Global, label: &str, a: &Ty, next: u32) -> Result<Own, 
     let tail = RowTail::Var(moved(next, 1)?);
     let row = field_before(alloc, label, Ty::Var(next), tail)?;
     Ok(Own {
-        ty: Ty::Var(next),
+        ty: Side::of(Ty::Var(next)),
         equations: one(alloc, same(a, Ty::Fields(row)))?,
         next: moved(next, 2)?,
     })

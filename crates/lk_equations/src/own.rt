@@ -4,17 +4,18 @@ ghost use Rattle.std.specs.Prelude.{◌≡◌, [], ◌∷◌, IfOk};
 ghost use Rattle.lk_typing.specs.Equations.{never as the_never, own as the_own};
 ghost use Rattle.lk_equations.specs.Made.{as_own};
 
+use crate::known::Known;
 use crate::scope::Scope;
 use crate::tables::Tables;
 use crate::unknowns::{same, unit};
 use lk_ast::{List, NoMemory};
-use lk_types::{Equation, Scheme, Ty};
+use lk_types::{Equation, Side, Ty};
 use std::alloc::Global;
 
 /// What is said of an expression: its type, equations, and the next number for a variable.
 #[derive(Drop)]
 pub struct Own {
-    pub ty: Ty,
+    pub ty: Side,
     pub equations: List<Equation>,
     pub next: u32,
 }
@@ -23,7 +24,7 @@ pub struct Own {
 #[derive(Drop)]
 pub struct Globals<'g, 'p> {
     pub own: Scope<'p, Ty>,
-    pub earlier: &'g Scope<'p, Scheme>,
+    pub earlier: &'g Scope<'p, Known>,
     pub tables: &'g Tables<'p>,
 }
 
@@ -32,7 +33,7 @@ pub fn never(alloc: Global, next: u32) -> Result<Own, NoMemory>
     ensures { IfOk result (λ made. as_own made ≡ the_never next) }
 {
     Ok(Own {
-        ty: unit(alloc),
+        ty: Side::of(unit(alloc)),
         equations: one(alloc, same(Ty::Int, Ty::Bool))?,
         next,
     })
@@ -43,7 +44,7 @@ pub fn only(alloc: Global, ty: Ty, next: u32) -> Own
     ensures { as_own result ≡ the_own ty [] next }
 {
     Own {
-        ty,
+        ty: Side::of(ty),
         equations: List::new(alloc),
         next,
     }

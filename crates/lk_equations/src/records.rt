@@ -20,7 +20,7 @@ use crate::renamed::moved;
 use crate::tables::Tables;
 use crate::unknowns::{has, list_of, record_of, row_of, same, unit};
 use lk_ast::{List, NoMemory, PartExpr};
-use lk_types::{Effect, Effects, Equation, RowTail, Ty, TyField};
+use lk_types::{Effect, Effects, Equation, RowTail, Side, Ty, TyField};
 use std::alloc::Global;
 
 /// The labels of the parts with as many of the first types, and the types behind them. `None` where there are fewer types.
@@ -80,7 +80,7 @@ fn extend(alloc: Global, fields: List<TyField>, other: &Ty, next: u32) -> Result
     let once = copy_type(alloc, &ty)?;
     let again = copy_type(alloc, &ty)?;
     Ok(Own {
-        ty,
+        ty: Side::of(ty),
         equations: two(alloc, same(other, any), same(once, again))?,
         next: moved(next, 1)?,
     })
@@ -95,7 +95,7 @@ pub fn items(alloc: Global, types: List<Ty>, next: u32) -> Result<Own, NoMemory>
         Some((first, rest)) => {
             let item = copy_type(alloc, first)?;
             Ok(Own {
-                ty: list_of(alloc, item)?,
+                ty: Side::of(list_of(alloc, item)?),
                 equations: all_same(alloc, first, rest)?,
                 next,
             })
@@ -129,7 +129,7 @@ pub fn rows(
     match tables.get(alloc, name)? {
         None => never(alloc, next),
         Some(table) => Ok(Own {
-            ty: list_of(alloc, row_of(alloc, table)?)?,
+            ty: Side::of(list_of(alloc, row_of(alloc, table)?)?),
             equations: one(alloc, has(alloc, effects, Effect::Scan, next)?)?,
             next: moved(next, 1)?,
         }),
@@ -154,7 +154,7 @@ pub fn inserted(
             let wanted = list_of(alloc, row_of(alloc, table)?)?;
             let writes = has(alloc, effects, Effect::Write, next)?;
             Ok(Own {
-                ty: unit(alloc),
+                ty: Side::of(unit(alloc)),
                 equations: two(alloc, same(rows, wanted), writes)?,
                 next: moved(next, 1)?,
             })

@@ -8,7 +8,7 @@ ghost use Rattle.lk_typing.specs.Unknowns.{base as the_base, effects_of as the_e
 
 use crate::copies::copy_effects;
 use lk_ast::{BaseKind, Boxed, List, NoMemory, TableDecl, Text};
-use lk_types::{Effect, Effects, Equation, RowTail, Ty, TyField, TyRow};
+use lk_types::{Effect, Effects, Equation, RowTail, Side, Ty, TyField, TyRow};
 use std::alloc::Global;
 
 /// The type of a column.
@@ -79,7 +79,10 @@ pub fn row_of(alloc: Global, table: &TableDecl) -> Result<Ty, NoMemory>
 pub fn same(left: Ty, right: Ty) -> Equation
     ensures { result ≡ record { left = left; right = right } }
 {
-    Equation { left, right }
+    Equation {
+        left: Side::of(left),
+        right: Side::of(right),
+    }
 }
 
 /// Two rows of effects that are the same.

@@ -12,7 +12,7 @@ use Rattle.lk_types.specs.declared.ty.Ty.{Ty}
 use Rattle.lk_types.specs.declared.ty.Variable.{Variable}
 use Rattle.lk_types.specs.declared.ty.Variable.TheVariants as variable
 use Rattle.lk_typing.proofs.Places.{firsts_have, firsts_same, firsts_shorter, IsThere}
-use Rattle.lk_typing.specs.Renamed.{scheme_variables, width}
+use Rattle.lk_types.specs.Renamed.{scheme_variables, width}
 use Rattle.lk_infer.specs.Generalised.{AreGeneralised, HasOwnLacks, HasRow, IsGeneralised, IsIn, IsNarrow}
 use Rattle.lk_infer.specs.Inferred.{AreInferred}
 use Rattle.lk_infer.specs.Lacks.{shown}

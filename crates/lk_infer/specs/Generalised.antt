@@ -8,7 +8,7 @@ use Rattle.lk_types.specs.declared.scheme.Lack.{Lack}
 use Rattle.lk_types.specs.declared.scheme.Scheme.{Scheme}
 use Rattle.lk_types.specs.declared.ty.Ty.{Ty}
 use Rattle.lk_types.specs.declared.ty.Variable.TheVariants as variable
-use Rattle.lk_typing.specs.Renamed.{width}
+use Rattle.lk_types.specs.Renamed.{width}
 use Rattle.lk_infer.specs.Lacks.{shown}
 
 abbrev pub IsIn : Lack → List Lack → Type 0

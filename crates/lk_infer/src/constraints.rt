@@ -6,7 +6,7 @@ ghost use Rattle.std.specs.Prelude.{◌≡◌, ◌++◌, IfOk, OnOk, map};
 
 use lk_ast::{List, NoMemory, Span};
 use lk_equations::copy_type;
-use lk_types::{Equation, Ty};
+use lk_types::{Equation, Side, Ty};
 use lk_typing::{Said, Step};
 use lk_unify::{Constraint, Sizing};
 use std::alloc::Global;
@@ -17,7 +17,10 @@ fn asked(alloc: Global, ty: Ty) -> Result<Constraint, NoMemory>
 {
     let left = copy_type(alloc, &ty)?;
     Ok(Constraint {
-        equation: Equation { left, right: ty },
+        equation: Equation {
+            left: Side::of(left),
+            right: Side::of(ty),
+        },
         sizing: Sizing::Never,
     })
 }
@@ -47,7 +50,7 @@ fn constraint_of(said: Said) -> Constraint
         },
         Said::Typed(number, ty) => Constraint {
             equation: Equation {
-                left: Ty::Var(number),
+                left: Side::of(Ty::Var(number)),
                 right: ty,
             },
             sizing: Sizing::Late,

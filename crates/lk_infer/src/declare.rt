@@ -5,7 +5,7 @@ ghost use Rattle.lk_typing.specs.Programs.{entries};
 ghost use Rattle.std.specs.Prelude.{◌≡◌, ◌++◌, IfOk, OnOk};
 
 use lk_ast::{Decl, List, NoMemory, functions_in};
-use lk_equations::{Scope, copy_type};
+use lk_equations::{Known, Scope};
 use lk_types::{Lack, Scheme};
 use std::alloc::Global;
 
@@ -26,7 +26,7 @@ fn copy_scheme(alloc: Global, scheme: &Scheme) -> Result<Scheme, NoMemory>
     ensures { IfOk result (λ copy. copy ≡ scheme.now) }
 {
     Ok(Scheme {
-        body: copy_type(alloc, &scheme.body)?,
+        body: scheme.body.share()?,
         lacks: copy_lacks(alloc, scheme.lacks.as_slice())?,
     })
 }
@@ -34,7 +34,7 @@ fn copy_scheme(alloc: Global, scheme: &Scheme) -> Result<Scheme, NoMemory>
 /// The functions of a declaration with their schemes, before those that are there.
 pub fn declare<'p>(
     alloc: Global,
-    earlier: &mut Scope<'p, Scheme>,
+    earlier: &mut Scope<'p, Known>,
     decl: &'p Decl,
     schemes: &[Scheme],
 ) -> Result<(), NoMemory>
@@ -45,7 +45,8 @@ pub fn declare<'p>(
     'last_first: while count > 0 {
         count -= 1;
         let scheme = copy_scheme(alloc, &schemes[count])?;
-        earlier.push(functions[count].name.text.as_str(), scheme)?;
+        let known = Known::of(alloc, scheme)?;
+        earlier.push(functions[count].name.text.as_str(), known)?;
     }
     Ok(())
 }

@@ -13,9 +13,9 @@ use crate::error::InferError;
 use crate::group::infer_group;
 use crate::program::{Inference, add_group};
 use lk_ast::{Decl, List, NoMemory};
-use lk_equations::{Scope, Tables, copy_type};
+use lk_equations::{Known, Scope, Tables};
 use lk_names::Scoped;
-use lk_types::{Equation, Scheme, Ty, Types};
+use lk_types::{Equation, Side, Ty, Types};
 use lk_typing::{Said, Step};
 use lk_unify::{Constraint, Sizing, UnifyError, first_unsolvable, solve_first};
 use lk_walk::{GroupWalk, walk_group};
@@ -42,7 +42,7 @@ fn equation_of(said: Said) -> Equation
     match said {
         Said::Same(equation) => equation,
         Said::Typed(number, ty) => Equation {
-            left: Ty::Var(number),
+            left: Side::of(Ty::Var(number)),
             right: ty,
         },
     }
@@ -86,11 +86,11 @@ fn sized(equation: Equation) -> Constraint
 }
 
 /// Adds a side, which is only read back.
-fn push_side(alloc: Global, constraints: &mut List<Constraint>, side: &Ty) -> Result<(), NoMemory>
+fn push_side(alloc: Global, constraints: &mut List<Constraint>, side: &Side) -> Result<(), NoMemory>
     ensures { OnOk result (constraints.new ≡ constraints.old ++ sized (same side.now side.now) ∷ []) }
 {
-    let left = copy_type(alloc, side)?;
-    let right = copy_type(alloc, side)?;
+    let left = Side::of(side.tree(alloc)?);
+    let right = Side::of(side.tree(alloc)?);
     constraints.push(sized(Equation { left, right }))
 }
 
@@ -157,7 +157,7 @@ fn odds_of(alloc: Global, steps: List<Step>) -> Result<Option<Disagreement>, NoM
 /// The two types that don't agree in the functions of a declaration that are ill typed.
 fn odds_in<'p>(
     alloc: Global,
-    earlier: &Scope<'p, Scheme>,
+    earlier: &Scope<'p, Known>,
     tables: &Tables<'p>,
     decl: &'p Decl,
 ) -> Result<Option<Disagreement>, NoMemory>
@@ -171,7 +171,7 @@ fn odds_in<'p>(
 /// The two types that don't agree in the functions of a declaration that are refused for this.
 fn odds_for<'p>(
     alloc: Global,
-    earlier: &Scope<'p, Scheme>,
+    earlier: &Scope<'p, Known>,
     tables: &Tables<'p>,
     decl: &'p Decl,
     error: InferError,

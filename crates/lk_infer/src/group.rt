@@ -16,7 +16,7 @@ use crate::late::{first_node, refuse_late};
 use crate::schemes::schemes_of;
 use crate::solving::solve_walk;
 use lk_ast::{Decl, List};
-use lk_equations::{Scope, Tables};
+use lk_equations::{Known, Scope, Tables};
 use lk_types::{Scheme, Types};
 use lk_typing::typing_laws;
 use lk_walk::{GroupWalk, walk_group};
@@ -53,7 +53,7 @@ fn generalise(alloc: Global, walk: GroupWalk) -> Result<Group, InferError>
 /// it is too large.
 pub fn infer_group<'p>(
     alloc: Global,
-    earlier: &Scope<'p, Scheme>,
+    earlier: &Scope<'p, Known>,
     tables: &Tables<'p>,
     decl: &'p Decl,
     large: bool,

@@ -18,7 +18,7 @@ use crate::error::InferError;
 use crate::group::{Group, infer_group};
 use crate::typed::Typed;
 use lk_ast::{Decl, List, NoMemory};
-use lk_equations::{Scope, Tables};
+use lk_equations::{Known, Scope, Tables};
 use lk_names::Scoped;
 use lk_types::{Scheme, Types};
 use lk_typing::typing_laws;
@@ -37,7 +37,7 @@ fn append_schemes(schemes: &mut List<Scheme>, others: List<Scheme>) -> Result<()
 /// What is inferred of the declarations so far.
 pub struct Inference<'p> {
     /// The functions with their schemes, as later ones see them.
-    pub earlier: Scope<'p, Scheme>,
+    pub earlier: Scope<'p, Known>,
     pub schemes: List<Scheme>,
     pub types: Types,
     /// Whether a type of a node is too large.

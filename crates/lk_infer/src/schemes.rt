@@ -9,8 +9,8 @@ ghost use Rattle.std.specs.Ordering.{nat_cmp};
 ghost use Rattle.std.specs.Prelude.{◌≡◌, ◌≤◌, ℕ, IfOk, length, map, take};
 
 use crate::lacks::{Shown, all_shown, insert_shown};
-use lk_ast::{List, NoMemory};
-use lk_types::{Lack, Scheme, Ty, Types, Variable, push_variables};
+use lk_ast::{List, NoMemory, Shared};
+use lk_types::{Lack, Scheme, SharedType, Ty, Types, Variable, push_variables};
 use std::alloc::Global;
 use std::collections::BTreeSet;
 
@@ -34,19 +34,32 @@ fn schemes_for(
     requires { count ≤ length types.now }
     ensures { IfOk result (λ schemes. schemes ≡ map (scheme_for all.now) (take count types.now)) }
 {
+    let bodies = Shared::new(alloc, types.part(alloc, 0, count)?)?;
+    schemes_with(alloc, &bodies, all)
+}
+
+/// The schemes of these types, where their variables of rows lack what is shown.
+fn schemes_with(
+    alloc: Global,
+    bodies: &Shared<Types>,
+    all: &Shown,
+) -> Result<List<Scheme>, NoMemory>
+    ensures { IfOk result (λ schemes. schemes ≡ map (scheme_for all.now) bodies.now) }
+{
     let mut schemes = List::new(alloc);
-    for number in 0..count {
-        let body = types.tree(alloc, number)?;
+    for number in 0..bodies.get().len() {
+        let body = SharedType::of(bodies.share()?, number);
         schemes.push(scheme_of(alloc, body, all)?)?;
     }
     Ok(schemes)
 }
 
 /// The scheme of a type, where its variables of rows lack what is shown, but for what it shows itself.
-fn scheme_of(alloc: Global, body: Ty, all: &Shown) -> Result<Scheme, NoMemory>
+fn scheme_of(alloc: Global, body: SharedType, all: &Shown) -> Result<Scheme, NoMemory>
     ensures { IfOk result (λ scheme. scheme ≡ scheme_for all.now body) }
 {
-    let lacks = lacks_of(alloc, &body, all)?;
+    let tree = body.tree(alloc)?;
+    let lacks = lacks_of(alloc, &tree, all)?;
     Ok(Scheme { body, lacks })
 }
 

@@ -23,7 +23,7 @@ use crate::queue::{Queue, Use, Wanted};
 use lk_ast::{List, NoMemory, main_of};
 use lk_ground_types::{Bindings, Grounds, ground_one, share_type};
 use lk_principal::principal_laws;
-use lk_types::Ty;
+use lk_types::SharedType;
 use std::alloc::Global;
 
 /// The most instances in both lists together.
@@ -41,13 +41,14 @@ pub struct Instances<'m, 'p> {
 }
 
 /// The number of what the type of `main` becomes where the least stands for its variables.
-fn main_type(alloc: Global, grounds: &mut Grounds, body: &Ty) -> Result<u32, NoMemory>
+fn main_type(alloc: Global, grounds: &mut Grounds, body: &SharedType) -> Result<u32, NoMemory>
     ensures made { IfOk result (λ number. (t : TheGround) → under least body.now ≡ Some t → at grounds.new number ≡ t) }
     ensures within { IfOk result (λ number. number < length grounds.new) }
     ensures more { (rest : TheList TheGround) × (grounds.new ≡ grounds.old ++ rest) }
 {
     let bindings = Bindings::none(alloc);
-    ground_one(alloc, grounds, &bindings, body)
+    let tree = body.tree(alloc)?;
+    ground_one(alloc, grounds, &bindings, &tree)
 }
 
 /// Where a session begins, at its least type, which may be far too large to be walked.

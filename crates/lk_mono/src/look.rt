@@ -1,8 +1,9 @@
 //! What there is in an instance: the types of its nodes, and what it uses.
 
+ghost use Rattle.lk_ground_types.specs.Bound.{AreWithin, grounding_in};
 ghost use Rattle.lk_ground_types.specs.Functions.{effects_in};
 ghost use Rattle.lk_ground_types.specs.Grounds.{at};
-ghost use Rattle.lk_ground_types.specs.Least.{IsLeastBut};
+ghost use Rattle.lk_ground_types.specs.Least.{AreSameAt, IsLeastBut};
 ghost use Rattle.lk_mono.specs.Instances.{fits};
 ghost use Rattle.lk_mono.specs.Looks.{AreNumbered, IsLooked, IsNumbered, IsSetting, as_found, as_uses, first_beyond, found_at, found_in};
 ghost use Rattle.lk_outline.specs.Shown.{shown, shown_around, shown_site};
@@ -22,7 +23,7 @@ use lk_ground_types::{
     Bindings, GroundLevel, Grounds, effects_of, ground_all, ground_type_laws, share_type,
 };
 use lk_outline::{Around, Kind, Site};
-use lk_types::{Effect, Ground};
+use lk_types::{Effect, Ground, SharedType};
 use std::alloc::Global;
 
 /// A use of a function in a body, at a type that has this number in the table. The type may be far too large to be walked.
@@ -245,6 +246,22 @@ fn first_place(sites: &[Site]) -> Option<Span>
     }
 }
 
+/// What stands for the variables of the type of a scheme that becomes the type of that number.
+fn bindings_of(
+    alloc: Global,
+    grounds: &Grounds,
+    body: &SharedType,
+    number: u32,
+) -> Result<Bindings, NoMemory>
+    requires { number < length grounds.now }
+    ensures least { IfOk result (λ bindings. IsLeastBut (variables_of body.now) (grounding_in grounds.now bindings)) }
+    ensures same { IfOk result (λ bindings. (σ : Grounding) → under σ body.now ≡ Some (at grounds.now number) → AreSameAt (variables_of body.now) (grounding_in grounds.now bindings) σ) }
+    ensures within { IfOk result (AreWithin (length grounds.now)) }
+{
+    let tree = body.tree(alloc)?;
+    Bindings::of(alloc, grounds, &tree, number)
+}
+
 /// What there is in a function at the type of that number.
 pub fn look_into<'p>(
     alloc: Global,
@@ -259,7 +276,7 @@ pub fn look_into<'p>(
     ensures more { (rest : TheList TheGround) × (grounds.new ≡ grounds.old ++ rest) }
 {
     ground_type_laws();
-    let bindings = Bindings::of(alloc, grounds, &member.scheme.body, number)?;
+    let bindings = bindings_of(alloc, grounds, &member.scheme.body, number)?;
     let numbers = ground_all(alloc, grounds, &bindings, &member.types)?;
     let (before, behind) = split(
         member.sites.as_slice(),

@@ -18,11 +18,13 @@ use Rattle.std.specs.declared.result.Result.TheVariants.{Err}
 use Rattle.lk_types.proofs.Built.{built_is}
 use Rattle.lk_types.proofs.Members.{each_in, each_of_in}
 use Rattle.lk_types.proofs.Renumbered.{made_alike, parts_renumbered, places_alike}
-use Rattle.lk_types.specs.Each.{Each}
+use Rattle.lk_types.specs.Each.{Each, OneOf}
 use Rattle.lk_types.specs.Levels.{at, built, level_renumbered, parts_of, types_at, AreBelow, IsBelow, IsTable, Stands, part, root}
+use Rattle.lk_types.specs.OneTypes.{IsThin}
 use Rattle.lk_types.specs.Places.{kept, level_at, number_in, ArePlaces, AreRising}
 use Rattle.lk_types.specs.declared.levels.Level.{Level}
 use Rattle.lk_types.specs.declared.levels.Level.TheVariants as level
+use Rattle.lk_types.specs.declared.ty.Ty.{Ty}
 
 -- ---- numbers among places that rise
 
@@ -149,6 +151,11 @@ each_has P [] n all has = absurd (none has.0 has.1)
 each_has P (m ∷ ns) n all (zero, less, is) = subst P is all.0
 each_has P (m ∷ ns) n all (suc k, less, is) = each_has P ns n all.1 (k, omega arith, is)
 
+one_to_map : (f : ℕ → ℕ) (ns : List ℕ) (n : ℕ) → OneOf (λ m. m ≡ n) ns → OneOf (λ m. m ≡ f n) (map f ns)
+one_to_map f [] n one = absurd one
+one_to_map f (m ∷ ns) n (inl is) = inl (ap f is)
+one_to_map f (m ∷ ns) n (inr later) = inr (one_to_map f ns n later)
+
 module _ (levels : List Level) (places : List ℕ) (below : AreBelow levels) (closed : AreClosed levels places) where
   abbrev number : ℕ → ℕ
   number = number_in places
@@ -159,7 +166,7 @@ module _ (levels : List Level) (places : List ℕ) (below : AreBelow levels) (cl
   own : (p : ℕ) → Contains places p → slice_get levels p ≡ Some (level_at levels p)
   own p has = slice_get-get_or levels p level.Int (each_has (λ q. q < length levels) places p closed.within has)
 
-  kept_there : (p : ℕ) → Contains places p → slice_get (kept levels places) (number p) ≡ Some (moved p)
+  pub kept_there : (p : ℕ) → Contains places p → slice_get (kept levels places) (number p) ≡ Some (moved p)
   kept_there p has =
       slice_get-map moved places (number p)
       ∙ ap (option_map moved) (slice_get-get_or places (number p) 0 (number_within places closed.rising p has))
@@ -243,6 +250,51 @@ module _ (levels : List Level) (roots : List ℕ) (table : IsTable levels roots)
 
     pub types_kept : types_at (kept levels places) (map (number_in places) roots) ≡ types_at levels roots
     types_kept = kept_types levels places table.below closed roots has_roots
+
+    some_is : {a b : Level} → Some a ≡ Some b → a ≡ b
+    some_is same = cc
+
+    -- what stands in the types stands there still
+    kept_stands : (n : ℕ) → Stands levels roots n → Stands (kept levels places) (map (number_in places) roots) (number_in places n)
+    kept_stands n (root one) = root (one_to_map (number_in places) roots n one)
+    kept_stands n (part {k = k} {l = l} stands is one) =
+        let own = slice_get-get_or levels k level.Int (stands_within k stands) in
+        let same : l ≡ level_at levels k = some_is (sym is ∙ own) in
+        part (kept_stands k stands) (kept_there levels places table.below closed k (are.whole k stands))
+        (subst (λ ps. OneOf (λ p. p ≡ number_in places n) ps) (sym (parts_renumbered (number_in places) (level_at levels k)))
+        (one_to_map (number_in places) (parts_of (level_at levels k)) n (subst (λ x. OneOf (λ p. p ≡ n) (parts_of x)) same one)))
+
+    -- and nothing else is there
+    pub kept_stand : (n : ℕ) → n < length (kept levels places) → Stands (kept levels places) (map (number_in places) roots) n
+    kept_stand n less =
+        let within : n < length places = shorter (length-map places (λ p. level_renumbered (number_in places) (level_at levels p))) less in
+        let p = get_or places n 0 in
+        subst (Stands (kept levels places) (map (number_in places) roots)) (number_at places are.rising n within) (kept_stands p (are.sound p (Contains-get_or places n 0 within)))
+      where
+        shorter : {m : ℕ} → m ≡ length places → n < m → n < length places
+        shorter same below = omega arith
+
+-- ---- the levels of one type
+
+module _ (levels kept_copy : List Level) (r number : ℕ) (roots places : List ℕ) (table : IsTable levels (r ∷ [])) (is : roots ≡ r ∷ []) (are : ArePlaces levels roots places) (copied : kept_copy ≡ kept levels places)
+    (numbered : number ≡ number_in places r) where
+  are_places : ArePlaces levels (r ∷ []) places
+  are_places = subst (λ rs. ArePlaces levels rs places) is are
+
+  pub one_within : Each (λ p. p < length levels) places
+  one_within = places_within levels (r ∷ []) table places are_places
+
+  pub one_thin : IsThin kept_copy number
+  one_thin = subst (IsThin kept_copy) (sym numbered) (subst (λ ls. IsThin ls (number_in places r)) (sym copied) (record {
+    table = kept_table levels (r ∷ []) table places are_places;
+    stands = kept_stand levels (r ∷ []) table places are_places;
+  }))
+
+  one_is : {a b : Ty} → a ∷ [] ≡ b ∷ [] → a ≡ b
+  one_is same = cc
+
+  pub one_type : at (built kept_copy) number ≡ at (built levels) r
+  one_type = ap (λ ls. at (built ls) number) copied ∙ ap (at (built (kept levels places))) numbered ∙ one_is (types_kept levels (r ∷ []) table places are_places)
 
 -- ---- some of the roots
 

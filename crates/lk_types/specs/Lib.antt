@@ -4,10 +4,13 @@ pub mod Grounding
 pub mod Levels
 pub mod Moves
 pub mod Names
+pub mod OneTypes
 pub mod Places
 pub mod Planted
+pub mod Renamed
 pub mod Rows
 pub mod Schemes
+pub mod Sides
 pub mod Sizes
 pub mod Solutions
 pub mod TypeText

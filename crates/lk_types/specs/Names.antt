@@ -1,5 +1,5 @@
 -- The numbers of variables, from 1 on, as entries of a map.
-use Rattle.std.specs.Prelude.{ℕ, ◌+◌, List, length}
+use Rattle.std.specs.Prelude.{ℕ, ◌+◌, ◌-◌, List, length}
 use Rattle.std.specs.Map.{lookup}
 use Rattle.std.specs.Option.{unwrap_or}
 use Rattle.lk_types.specs.TypeText.{name_of}
@@ -17,3 +17,7 @@ count names = length names.numbers.entries
 
 abbrev pub name : Names → Variable → List ℕ
 name names x = name_of (number names x)
+
+-- the new number of a variable, where the one that comes first gets n
+abbrev pub place_in : ℕ → Names → Variable → ℕ
+place_in n names x = n + (number names x - 1)

@@ -1,3 +1,4 @@
+use crate::side::Side;
 use crate::ty::{Effects, Ty, TyRow};
 use lk_ast::List;
 
@@ -33,8 +34,8 @@ pub struct Subst {
 
 /// Two types that are to become the same.
 pub struct Equation {
-    pub left: Ty,
-    pub right: Ty,
+    pub left: Side,
+    pub right: Side,
 }
 
 impl Drop for Equation {

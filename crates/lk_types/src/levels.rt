@@ -2,15 +2,19 @@
 
 ghost use Rattle.lk_types.specs.Levels.{at, built, row_made, row_parts, types_at, AreBelow, IsTable};
 ghost use Rattle.lk_types.specs.Each.{Each};
+ghost use Rattle.lk_types.specs.Names.{place_in};
+ghost use Rattle.lk_types.specs.OneTypes.{level_renamed, level_row_renamed};
 ghost use Rattle.lk_types.specs.Sizes.{most_nodes, nodes};
 ghost use Rattle.std.specs.List.{list_any};
 ghost use Rattle.std.specs.Prelude.{◌≡◌, ◌<◌, ◌++◌, ◌∷◌, [], drop, IfOk, OnOk, length, nat_lt, Some, slice_get, take};
 
 use crate::counts::{any_over, level_counts};
 use crate::moves::{Numbering, count_of, kept_levels, moved_levels, moved_numbers, some_numbers};
+use crate::names::Names;
+use crate::one_type::OneType;
 use crate::places::Places;
 use crate::planting::push_tree;
-use crate::ty::{Effects, RowTail, Ty, TyField, TyRow};
+use crate::ty::{Effects, RowTail, Ty, TyField, TyRow, Variable};
 use lk_ast::{Boxed, List, NoMemory, Text};
 use std::alloc::Global;
 use std::marker::Model;
@@ -54,6 +58,39 @@ impl Drop for Level {
             Self::Fun(_, _, _) => {}
             Self::Var(_) => {}
         }
+    }
+}
+
+impl Level {
+    /// The level with new numbers for its variables.
+    pub fn renamed(self, names: &Names, first: u32) -> Result<Level, NoMemory>
+        ensures { IfOk result (λ made. made ≡ level_renamed (place_in first names.now) self) }
+    {
+        match self {
+            Self::Int => Ok(Self::Int),
+            Self::Bool => Ok(Self::Bool),
+            Self::Text => Ok(Self::Text),
+            Self::List(part) => Ok(Self::List(part)),
+            Self::Fields(row) => row.renamed(names, first).map(Self::Fields),
+            Self::Tags(row) => row.renamed(names, first).map(Self::Tags),
+            Self::Fun(params, effects, part) => {
+                let Effects { labels, tail } = effects;
+                let tail = names.effects_end(first, tail)?;
+                Ok(Self::Fun(params, Effects { labels, tail }, part))
+            }
+            Self::Var(number) => names.place(first, Variable::Plain(number)).map(Self::Var),
+        }
+    }
+}
+
+impl LevelRow {
+    /// The row with a new number for the variable of its tail.
+    fn renamed(self, names: &Names, first: u32) -> Result<LevelRow, NoMemory>
+        ensures { IfOk result (λ made. made ≡ level_row_renamed (place_in first names.now) self) }
+    {
+        let LevelRow { fields, tail } = self;
+        let tail = names.row_end(first, tail)?;
+        Ok(LevelRow { fields, tail })
     }
 }
 
@@ -173,6 +210,14 @@ impl Types {
         Ok(())
     }
 
+    /// The type of that number, with the levels that stand in it alone.
+    pub fn single(&self, alloc: Global, number: usize) -> Result<OneType, NoMemory>
+        requires { number < length self.now }
+        ensures { IfOk result (λ one. slice_get self.now number ≡ Some one) }
+    {
+        OneType::of(alloc, self.levels.as_slice(), self.roots[number])
+    }
+
     /// The type of that number, written out. Its size may be far more than that of the table: whoever asks for it knows that it isn't.
     pub fn tree(&self, alloc: Global, number: usize) -> Result<Ty, NoMemory>
         requires { number < length self.now }
@@ -184,7 +229,7 @@ impl Types {
 
 /// The type at a place. Parts stand before it.
 #[cycle(trees)]
-fn tree_at(alloc: Global, levels: &[Level], place: usize) -> Result<Ty, NoMemory>
+pub fn tree_at(alloc: Global, levels: &[Level], place: usize) -> Result<Ty, NoMemory>
     requires { AreBelow levels.now × (place < length levels.now) }
     ensures { IfOk result (λ ty. ty ≡ at (built levels.now) place) }
 {

@@ -24,7 +24,7 @@ pub enum Numbering<'a> {
 
 impl Numbering<'_> {
     /// The new place. There are not so many levels that it is too large.
-    fn of(self, place: u32) -> Result<u32, NoMemory>
+    pub fn of(self, place: u32) -> Result<u32, NoMemory>
         ensures { IfOk result (λ number. number ≡ renumbered self.entry place) }
     {
         match self {

@@ -1,4 +1,4 @@
-use crate::ty::Ty;
+use crate::shared_type::SharedType;
 use lk_ast::{List, Text};
 
 /// The row variable of that number stands for no row with this label.
@@ -12,7 +12,7 @@ pub struct Lack {
 /// order of their variables, then in byte order of their labels, and leaves out those that the body shows anyhow, since a row has
 /// no label twice.
 pub struct Scheme {
-    pub body: Ty,
+    pub body: SharedType,
     pub lacks: List<Lack>,
 }
 

@@ -33,7 +33,7 @@ use Rattle.lk_typing.proofs.Nodes.{there_is}
 use Rattle.lk_typing.proofs.Places.{firsts_have, number_of, IsThere}
 use Rattle.lk_typing.specs.Equations.{own, lacks, used}
 use Rattle.lk_typing.specs.Names.{Named, named, Entry, One, Many, IsUse, MayBe}
-use Rattle.lk_typing.specs.Renamed.{place_among, place_from, scheme_variables, width, tail_renamed, ty_renamed, row_renamed, field_renamed, renamed, renamed_row, renamed_field}
+use Rattle.lk_types.specs.Renamed.{place_among, place_from, scheme_variables, width, tail_renamed, ty_renamed, row_renamed, field_renamed, renamed, renamed_row, renamed_field}
 use Rattle.lk_typing.specs.Types as types
 use Rattle.lk_typing.specs.Unknowns.{record_of, unit, same}
 

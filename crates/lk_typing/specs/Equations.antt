@@ -15,7 +15,7 @@ use Rattle.lk_types.specs.declared.ty.Variable.TheVariants as variable
 use Rattle.lk_typing.specs.Heads as head
 use Rattle.lk_typing.specs.Heads.{Head}
 use Rattle.lk_typing.specs.Names.{Named, named, Entry, One, Many, table_named}
-use Rattle.lk_typing.specs.Renamed.{place_from, renamed, width}
+use Rattle.lk_types.specs.Renamed.{place_from, renamed, width}
 use Rattle.lk_typing.specs.Types.{labelled}
 use Rattle.lk_typing.specs.Unknowns.{base, record_of, variant_of, unit, row_of, same, has}
 

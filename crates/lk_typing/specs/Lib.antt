@@ -5,7 +5,6 @@ pub mod Heads
 pub mod Law
 pub mod Names
 pub mod Programs
-pub mod Renamed
 pub mod Rules
 pub mod Signatures
 pub mod Steps

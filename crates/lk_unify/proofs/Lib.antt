@@ -18,12 +18,16 @@ pub mod Instances
 pub mod Joined
 pub mod LabelEntries
 pub mod LabelLists
+pub mod LevelMeanings
+pub mod LevelVariables
 pub mod LevelsDone
 pub mod LevelsMade
 pub mod LoadEffects
 pub mod LoadEquations
 pub mod LoadKinds
+pub mod LoadLevelParts
 pub mod LoadLists
+pub mod LoadOn
 pub mod LoadReadings
 pub mod LoadRows
 pub mod LoadShared

@@ -69,13 +69,11 @@ before_distinct (f ∷ fs) (k ∷ ks) y m labels is =
 
 -- ---- fields before the end
 
-module _ {A : Type 0} (a b c : Loader) (m : Opening → Option A) (r : (ℕ → Value) → A) (fields : List Field) (tail k : ℕ) (n : Opening → Option Value) (ks : Opening → List Opened) (end : Opening → OpenRow)
+module _ {A : Type 0} (m : Opening → Option A) (r : (ℕ → Value) → A) (fields : List Field) (tail : ℕ) (n : Opening → Option Value) (ks : Opening → List Opened) (end : Opening → OpenRow)
     (is : (ρ : Opening) → n ρ ≡ option_map OfRow (before_open (ks ρ) (end ρ)))
-    (known : (v : ℕ → Value) (ρ : Opening) → m ρ ≡ Some (r v) → AreKnown v fields (ks ρ) × (v tail ≡ OfRow (end ρ)))
-    (there : (ρ : Opening) (x : OpenRow) → before_open (ks ρ) (end ρ) ≡ Some x → (y : A) × (m ρ ≡ Some y))
-    (l : LoadsTo a b m r) (kind : Kind) (add : Makes b c kind (shape.Row fields tail) k) (distinct : IsDistinct fields) (P : (ℕ → Kind) → Type 0) (kinds : KindsTo a b P) (fits : (j : ℕ → Kind) → P j → HasKind j kind (shape.Row fields tail)) where
-  row_says : (v : ℕ → Value) (x : Value) (ρ : Opening) → m ρ ≡ Some (r v) → IsRowOf fields v (v tail) x → n ρ ≡ Some x
-  row_says v x ρ e row =
+    (known : (v : ℕ → Value) (ρ : Opening) → m ρ ≡ Some (r v) → AreKnown v fields (ks ρ) × (v tail ≡ OfRow (end ρ))) where
+  pub row_says : IsDistinct fields → (v : ℕ → Value) (x : Value) (ρ : Opening) → m ρ ≡ Some (r v) → IsRowOf fields v (v tail) x → n ρ ≡ Some x
+  row_says distinct v x ρ e row =
       let q = known v ρ e in
       let rows : IsRowOf fields v (OfRow (end ρ)) (OfRow row.row) = subst (λ y. IsRowOf fields v y (OfRow row.row)) q.1 (subst (IsRowOf fields v (v tail)) row.row_is row) in
       let fresh : Each (λ f. fin.get (end ρ).fields f.label ≡ None) fields =
@@ -83,20 +81,26 @@ module _ {A : Type 0} (a b c : Loader) (m : Opening → Option A) (r : (ℕ → 
       let s = before_some v fields (ks ρ) (end ρ) q.0 distinct fresh in
       is ρ ∙ ap (option_map OfRow) s.1 ∙ ap (λ r. Some (OfRow r)) (before_once v fields (end ρ) s.0 row.row s.2 rows) ∙ ap Some (sym row.row_is)
 
+  pub row_stands : (w : ℕ → Value) (x : Value) (ρ : Opening) → m ρ ≡ Some (r w) → n ρ ≡ Some x → IsRowOf fields w (w tail) x
+  row_stands w x ρ e says =
+      let s = mapped OfRow (before_open (ks ρ) (end ρ)) x (sym (is ρ) ∙ says) in
+      let q = known w ρ e in
+      subst (IsRowOf fields w (w tail)) (sym s.2) (subst (λ z. IsRowOf fields w z (OfRow s.0)) (sym q.1) (before_is w fields (ks ρ) (end ρ) s.0 q.0 s.1))
+
+module _ {A : Type 0} (a b c : Loader) (m : Opening → Option A) (r : (ℕ → Value) → A) (fields : List Field) (tail k : ℕ) (n : Opening → Option Value) (ks : Opening → List Opened) (end : Opening → OpenRow)
+    (is : (ρ : Opening) → n ρ ≡ option_map OfRow (before_open (ks ρ) (end ρ)))
+    (known : (v : ℕ → Value) (ρ : Opening) → m ρ ≡ Some (r v) → AreKnown v fields (ks ρ) × (v tail ≡ OfRow (end ρ)))
+    (there : (ρ : Opening) (x : OpenRow) → before_open (ks ρ) (end ρ) ≡ Some x → (y : A) × (m ρ ≡ Some y))
+    (l : LoadsTo a b m r) (kind : Kind) (add : Makes b c kind (shape.Row fields tail) k) (distinct : IsDistinct fields) (P : (ℕ → Kind) → Type 0) (kinds : KindsTo a b P) (fits : (j : ℕ → Kind) → P j → HasKind j kind (shape.Row fields tail)) where
   row_builds : (x : Value) (ρ : Opening) → n ρ ≡ Some x → (y : A) × (m ρ ≡ Some y) × ((w : ℕ → Value) → r w ≡ y → IsRowOf fields w (w tail) x)
   row_builds x ρ e =
       let s = mapped OfRow (before_open (ks ρ) (end ρ)) x (sym (is ρ) ∙ e) in
-      let y = there ρ s.0 s.1 in (
-        y.0,
-        y.1,
-        λ w same.
-            let q = known w ρ (y.1 ∙ ap Some (sym same)) in
-            subst (IsRowOf fields w (w tail)) (sym s.2) (subst (λ z. IsRowOf fields w z (OfRow s.0)) (sym q.1) (before_is w fields (ks ρ) (end ρ) s.0 q.0 s.1)),
-      )
+      let y = there ρ s.0 s.1 in
+      (y.0, y.1, λ w same. row_stands m r fields tail n ks end is known w x ρ (y.1 ∙ ap Some (sym same)) e)
 
   pub loads_row : Loads a c kind n k
   loads_row =
-      loads_more a b c m r (shape.Row fields tail) k n l P kind add kinds fits row_says row_builds
+      loads_more a b c m r (shape.Row fields tail) k n l P kind add kinds fits (row_says m r fields tail n ks end is known distinct) row_builds
 
 -- ---- ends
 
@@ -117,10 +121,10 @@ effect_end ρ (Var n) = refl
 -- ---- rows of types
 
 -- a field with what its type becomes
-abbrev entry : Opening → TyField → Opened
+abbrev pub entry : Opening → TyField → Opened
 entry ρ f = (f.label, opened ρ f.ty)
 
-row_is : (r : TyRow) (ρ : Opening) → row_meaning r ρ ≡ option_map OfRow (before_open (map (entry ρ) (out-TyRow r).fields) (tail_opened ρ (out-TyRow r).tail))
+pub row_is : (r : TyRow) (ρ : Opening) → row_meaning r ρ ≡ option_map OfRow (before_open (map (entry ρ) (out-TyRow r).fields) (tail_opened ρ (out-TyRow r).tail))
 row_is r ρ = ap (option_map OfRow) (opened_row ρ r)
 
 fields_known : (v : ℕ → Value) (ρ : Opening) (fs : List TyField) (fields : List Field) → map (λ f. f.label) fields ≡ map (λ f. f.label) fs
@@ -145,7 +149,7 @@ fields_known v ρ (f ∷ fs) (g ∷ gs) labels e =
         let c = cons_once (v g.node) x (map (λ f. v f.node) gs) m.0 m.2 in
         (is ∙ ap Some (sym c.0), m.1 ∙ ap Some (sym c.1))
 
-fields_there : (ρ : Opening) (fs : List TyField) (y x : OpenRow) → before_open (map (entry ρ) fs) y ≡ Some x → (vs : List Value) × (fields_meaning fs ρ ≡ Some vs)
+pub fields_there : (ρ : Opening) (fs : List TyField) (y x : OpenRow) → before_open (map (entry ρ) fs) y ≡ Some x → (vs : List Value) × (fields_meaning fs ρ ≡ Some vs)
 fields_there ρ [] y x e = ([], refl)
 fields_there ρ (f ∷ fs) y x e =
     let a = with_one (entry ρ f).0 (entry ρ f).1 (before_open (map (entry ρ) fs) y) x e in
@@ -160,25 +164,30 @@ same_labels ρ [] = refl
 same_labels ρ (f ∷ fs) = ap (λ ls. f.label ∷ ls) (same_labels ρ fs)
 
 module _ (r : TyRow) where
-  abbrev fs : List TyField
+  abbrev pub fs : List TyField
   fs = (out-TyRow r).fields
 
-  abbrev end : Opening → OpenRow
+  abbrev pub end : Opening → OpenRow
   end ρ = tail_opened ρ (out-TyRow r).tail
 
-  abbrev end_meaning : Opening → Option Value
+  abbrev pub end_meaning : Opening → Option Value
   end_meaning ρ = Some (end_value (tail_variable variable.Row (out-TyRow r).tail) ρ)
 
-  abbrev all_meaning : Opening → Option (List Value × Value)
+  abbrev pub all_meaning : Opening → Option (List Value × Value)
   all_meaning ρ = both (fields_meaning fs ρ) (end_meaning ρ)
+
+  -- what is read of the fields and of the end
+  pub row_known : (fields : List Field) (tail : ℕ) → map (λ f. f.label) fields ≡ map (λ f. f.label) fs → (v : ℕ → Value) (ρ : Opening) → all_meaning ρ ≡ Some (map (λ f. v f.node) fields, v tail)
+      → AreKnown v fields (map (entry ρ) fs) × (v tail ≡ OfRow (end ρ))
+  row_known fields tail labels v ρ is =
+      let s = both_some (fields_meaning fs ρ) (end_meaning ρ) (map (λ f. v f.node) fields, v tail) is in
+      (fields_known v ρ fs fields labels s.0, sym (some_once (end_value (tail_variable variable.Row (out-TyRow r).tail) ρ) (v tail) s.1) ∙ row_end ρ (out-TyRow r).tail)
 
   pub loads_row_fields : (a b c d : Loader) (fields : List Field) (tail k : ℕ) → LoadsFields a b fs fields → Loads b c OfFields end_meaning tail → IsDistinct fields → Makes c d OfFields (shape.Row fields tail) k
       → Loads a d OfFields (row_meaning r) k
   loads_row_fields a b c d fields tail k l e distinct add =
       loads_row a c d all_meaning (λ v. (map (λ f. v f.node) fields, v tail)) fields tail k (row_meaning r) (λ ρ. map (entry ρ) fs) end (row_is r)
-      (λ v ρ is.
-      let s = both_some (fields_meaning fs ρ) (end_meaning ρ) (map (λ f. v f.node) fields, v tail) is in
-      (fields_known v ρ fs fields l.labels s.0, sym (some_once (end_value (tail_variable variable.Row (out-TyRow r).tail) ρ) (v tail) s.1) ∙ row_end ρ (out-TyRow r).tail))
+      (row_known fields tail l.labels)
       (λ ρ x is.
       let s = fields_there ρ fs (end ρ) x is in
       ((s.0, end_value (tail_variable variable.Row (out-TyRow r).tail) ρ), ap (λ o. both o (end_meaning ρ)) s.1))
@@ -186,7 +195,7 @@ module _ (r : TyRow) where
       OfFields add distinct (λ j. Each (λ f. j f.node ≡ OfTypes) fields × (j tail ≡ OfFields))
       (kinds_both a b c (λ j. Each (λ f. j f.node ≡ OfTypes) fields) (λ j. j tail ≡ OfFields) l.to.longer e.to.longer l.kinds e.kinds) (λ j p. p)
 
-  none_left : (gs : List TyField) → [] ≡ map (λ (f : TyField). f.label) gs → gs ≡ []
+  pub none_left : (gs : List TyField) → [] ≡ map (λ (f : TyField). f.label) gs → gs ≡ []
   none_left [] e = refl
   none_left (g ∷ gs) e = cc
 
@@ -210,13 +219,13 @@ module _ (r : TyRow) where
   pub never_row_fields : NeverMeans (fields_meaning fs) → NeverMeans (row_meaning r)
   never_row_fields never = never_row (λ ρ x e. let s = fields_there ρ fs (end ρ) x e in (let h : None ≡ Some s.0 = sym (never ρ) ∙ s.1 in cc))
 
-  pub never_row_twice : (a b : Loader) (fields : List Field) → LoadsFields a b fs fields → (IsDistinct fields → ⊥) → NeverMeans (row_meaning r)
-  never_row_twice a b fields l twice = never_row (λ ρ x e. twice (before_distinct fields (map (entry ρ) fs) (end ρ) x (l.labels ∙ sym (same_labels ρ fs)) e))
+  pub never_twice : (fields : List Field) → map (λ f. f.label) fields ≡ map (λ f. f.label) fs → (IsDistinct fields → ⊥) → NeverMeans (row_meaning r)
+  never_twice fields labels twice = never_row (λ ρ x e. twice (before_distinct fields (map (entry ρ) fs) (end ρ) x (labels ∙ sym (same_labels ρ fs)) e))
 
   -- what follows from the answer
   pub loaded_row : (a b c d : Loader) (fields : List Field) (tail : ℕ) (answer : Option ℕ) → LoadsFields a b fs fields → Loads b c OfFields end_meaning tail → AddsRow c d OfFields fields tail answer
       → Loaded a d OfFields (row_meaning r) answer
-  loaded_row a b c d fields tail None l e twice = never_row_twice a b fields l twice
+  loaded_row a b c d fields tail None l e twice = never_twice fields l.labels twice
   loaded_row a b c d fields tail (Some k) l e added = loads_row_fields a b c d fields tail k l e added.0 added.1
 
 -- ---- rows of effects

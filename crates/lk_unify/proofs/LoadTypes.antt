@@ -131,16 +131,16 @@ module _ (params : List Ty) (es : Effects) (answer : Ty) where
   types_are : (ρ : Opening) → types_meaning params ρ ≡ option_map (map Plain) (all_of (map (opened ρ) params))
   types_are ρ = all_plain (opened ρ) params
 
-  abbrev meaning : Opening → Option ((Value × List Value) × Value)
+  abbrev pub meaning : Opening → Option ((Value × List Value) × Value)
   meaning ρ = both (both (type_meaning answer ρ) (types_meaning params ρ)) (effects_meaning es ρ)
 
-  abbrev means : Opening → Option Value
+  abbrev pub means : Opening → Option Value
   means = type_meaning (ty.Fun params es answer)
 
   means_is : (ρ : Opening) → means ρ ≡ option_map Plain (open_function (all_of (map (opened ρ) params)) (effects_opened ρ es) (opened ρ answer))
   means_is ρ = ap (option_map Plain) (opened_function ρ params es answer)
 
-  function_says : (x first second : Value) (others : List Value) (ρ : Opening) → meaning ρ ≡ Some ((second, others), first) → IsMadeOf head.Fun (first ∷ (second ∷ others)) x → means ρ ≡ Some x
+  pub function_says : (x first second : Value) (others : List Value) (ρ : Opening) → meaning ρ ≡ Some ((second, others), first) → IsMadeOf head.Fun (first ∷ (second ∷ others)) x → means ρ ≡ Some x
   function_says x first second others ρ e built =
       let u = both_some (both (type_meaning answer ρ) (types_meaning params ρ)) (effects_meaning es ρ) ((second, others), first) e in
       let w = both_some (type_meaning answer ρ) (types_meaning params ρ) (second, others) u.0 in
@@ -156,7 +156,7 @@ module _ (params : List Ty) (es : Effects) (answer : Ty) where
       ∙ (λ i. Some (Plain (ty.Fun (alike i) (effects_type (same i)) t.0)))
       ∙ ap Some (sym m.4)
 
-  function_builds : (x : Value) (ρ : Opening) → means ρ ≡ Some x
+  pub function_builds : (x : Value) (ρ : Opening) → means ρ ≡ Some x
       → (y : (Value × List Value) × Value) × (meaning ρ ≡ Some y) × IsMadeOf head.Fun (y.1 ∷ (y.0.0 ∷ y.0.1)) x
   function_builds x ρ e =
       let g = mapped Plain (open_function (all_of (map (opened ρ) params)) (effects_opened ρ es) (opened ρ answer)) x (sym (means_is ρ) ∙ e) in

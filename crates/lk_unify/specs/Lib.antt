@@ -1,6 +1,7 @@
 pub mod Constraints
 pub mod Images
 pub mod InOrder
+pub mod LevelLoading
 pub mod Levels
 pub mod Loading
 pub mod Models

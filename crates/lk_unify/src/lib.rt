@@ -11,6 +11,8 @@ mod constrained;
 mod constraint;
 mod levels;
 mod load;
+mod load_levels;
+mod load_sides;
 mod loader;
 mod numbers;
 mod reading;

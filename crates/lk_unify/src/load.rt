@@ -6,13 +6,13 @@ ghost use Rattle.lk_arena.specs.Kinds.{OfTypes, OfFields, OfEffects, OfUnit};
 ghost use Rattle.lk_arena.specs.Openings.{unit_type};
 ghost use Rattle.lk_arena.specs.Shapes.{AllBelow};
 ghost use Rattle.lk_arena.specs.Values.{Plain};
-ghost use Rattle.lk_unify.specs.Loading.{type_meaning, types_meaning, row_meaning, effects_meaning, end_value, shape_for, kind_for, kind_of, CanAddRow, IsLoader, Makes, AddsRow, AddsFunction, Loads, LoadsEnd, Loaded, LoadedAll, LoadedFields, LoadedEquation, effect_fields, node_for};
+ghost use Rattle.lk_unify.specs.Loading.{type_meaning, types_meaning, row_meaning, effects_meaning, end_value, shape_for, kind_for, kind_of, CanAddRow, IsLoader, Makes, AddsRow, AddsFunction, Loads, LoadsEnd, Loaded, LoadedAll, LoadedFields, effect_fields, node_for};
 
 use crate::loader::{Loader, NodeKind};
 use crate::shared::{add_node, make_node};
-use lk_arena::{Field, Head, Pair, Shape, are_distinct};
+use lk_arena::{Field, Head, Shape, are_distinct};
 use lk_ast::{List, NoMemory, Text};
-use lk_types::{Effect, Effects, Equation, Ty, TyField, TyRow, Variable, effect_word};
+use lk_types::{Effect, Effects, Ty, TyField, TyRow, Variable, effect_word};
 use std::alloc::Global;
 
 /// What is known of a variable before anything is merged.
@@ -27,7 +27,7 @@ fn shape_for(variable: Variable) -> Shape
 }
 
 /// A node for fields before a row, if no label stands twice among them.
-fn add_row(
+pub fn add_row(
     alloc: Global,
     loader: &mut Loader,
     kind: NodeKind,
@@ -60,7 +60,7 @@ pub fn load_variable(loader: &mut Loader, variable: Variable) -> Result<usize, N
 }
 
 /// A node for the end of a row of this kind.
-fn load_end(
+pub fn load_end(
     alloc: Global,
     loader: &mut Loader,
     kind: NodeKind,
@@ -157,7 +157,7 @@ fn load_effects(
 }
 
 /// A node for a constructor without parts.
-fn load_base(alloc: Global, loader: &mut Loader, head: Head) -> Result<usize, NoMemory>
+pub fn load_base(alloc: Global, loader: &mut Loader, head: Head) -> Result<usize, NoMemory>
     requires { IsLoader loader.old }
     ensures { IfOk result (λ n. Makes loader.old loader.new OfTypes (Shape.Made head []) n) }
 {
@@ -166,7 +166,12 @@ fn load_base(alloc: Global, loader: &mut Loader, head: Head) -> Result<usize, No
 }
 
 /// A node for a constructor with one part.
-fn load_one(alloc: Global, loader: &mut Loader, head: Head, part: usize) -> Result<usize, NoMemory>
+pub fn load_one(
+    alloc: Global,
+    loader: &mut Loader,
+    head: Head,
+    part: usize,
+) -> Result<usize, NoMemory>
     requires whole { IsLoader loader.old }
     requires part { part < length loader.old.arena.shapes }
     ensures { IfOk result (λ n. Makes loader.old loader.new OfTypes (Shape.Made head (part ∷ [])) n) }
@@ -176,7 +181,7 @@ fn load_one(alloc: Global, loader: &mut Loader, head: Head, part: usize) -> Resu
 }
 
 /// A node for a function with this result and these parameters.
-fn load_function(
+pub fn load_function(
     alloc: Global,
     loader: &mut Loader,
     effects: &Effects,
@@ -315,22 +320,4 @@ fn load_fields(
         })?;
     }
     Ok(Some(found))
-}
-
-/// Makes nodes for the sides of an equation. The answer is the two nodes, or none where a row in a side has a label twice.
-pub fn load_equation(
-    alloc: Global,
-    loader: &mut Loader,
-    equation: &Equation,
-) -> Result<Option<Pair>, NoMemory>
-    requires { IsLoader loader.old }
-    ensures { IfOk result (λ answer. LoadedEquation loader.old loader.new equation.now answer) }
-{
-    let Some(left) = load_type(alloc, loader, &equation.left)? else {
-        return Ok(None);
-    };
-    let Some(right) = load_type(alloc, loader, &equation.right)? else {
-        return Ok(None);
-    };
-    Ok(Some(Pair { left, right }))
 }

@@ -1,18 +1,20 @@
 //! Lists of equations as nodes, and whether they have a solution.
 
 ghost use Rattle.lk_types.specs.Solutions.{HasSolution};
-ghost use Rattle.lk_types.specs.Variables.{equation_variables};
+ghost use Rattle.lk_types.specs.Variables.{equation_variables, variables_of};
+ghost use Rattle.lk_types.specs.declared.ty.Variable.{Variable as TheVariable};
 ghost use Rattle.lk_arena.specs.Counting.{IsPartsFirst};
-ghost use Rattle.lk_unify.specs.Loading.{IsLoader};
+ghost use Rattle.lk_unify.specs.Loading.{node_for, IsLoader};
 ghost use Rattle.lk_unify.specs.Solving.{AddsEquation, AddsSide, AreBound, AreLoaded, HasValues, IsFirstWithout, IsStart, NeverMeets};
-ghost use Rattle.std.specs.Prelude.{◌≡◌, ◌≤◌, false, length, take, IfNone, IfOk, IfSome, IsTrue, OnOk};
+ghost use Rattle.std.specs.Prelude.{◌≡◌, ◌≤◌, ℕ, false, length, take, IfNone, IfOk, IfSome, IsTrue, OnOk, Some};
 
-use crate::load::{load_equation, load_variable};
+use crate::load::load_variable;
+use crate::load_sides::load_equation;
 use crate::loader::Loader;
-use crate::variables::variables_in;
+use crate::variables::side_variables;
 use lk_arena::{is_clean, is_ordered, merge_nodes, parts_first};
 use lk_ast::{List, NoMemory};
-use lk_types::{Equation, Variable};
+use lk_types::{Equation, Side, Variable};
 use std::alloc::Global;
 
 /// Equations as nodes, and for each of them the node that stands for its sides.
@@ -27,6 +29,7 @@ fn bind_all(loader: &mut Loader, variables: &[Variable]) -> Result<(), NoMemory>
     requires { IsStart loader.old }
     ensures start { OnOk result (IsStart loader.new) }
     ensures bound { OnOk result (AreBound loader.new variables.now) }
+    ensures kept { OnOk result ((x : TheVariable) (n : ℕ) → node_for loader.old x ≡ Some n → node_for loader.new x ≡ Some n) }
 {
     for variable in variables {
         load_variable(loader, *variable)?;
@@ -34,14 +37,27 @@ fn bind_all(loader: &mut Loader, variables: &[Variable]) -> Result<(), NoMemory>
     Ok(())
 }
 
+/// Gives each variable of a side a node.
+fn bind_side(alloc: Global, loader: &mut Loader, side: &Side) -> Result<(), NoMemory>
+    requires { IsStart loader.old }
+    ensures start { OnOk result (IsStart loader.new) }
+    ensures bound { OnOk result (AreBound loader.new (variables_of side.now)) }
+    ensures kept { OnOk result ((x : TheVariable) (n : ℕ) → node_for loader.old x ≡ Some n → node_for loader.new x ≡ Some n) }
+{
+    let variables = side_variables(alloc, side)?;
+    bind_all(loader, variables.as_slice())
+}
+
 /// Nodes for all variables of the equations, of which nothing is said yet.
 fn start(alloc: Global, equations: &[Equation]) -> Result<Loader, NoMemory>
     ensures start { IfOk result (λ loader. IsStart loader) }
     ensures bound { IfOk result (λ loader. AreBound loader (equation_variables equations.now)) }
 {
-    let variables = variables_in(alloc, equations)?;
     let mut loader = Loader::new(alloc);
-    bind_all(&mut loader, variables.as_slice())?;
+    for equation in equations {
+        bind_side(alloc, &mut loader, &equation.left)?;
+        bind_side(alloc, &mut loader, &equation.right)?;
+    }
     Ok(loader)
 }
 

@@ -8,7 +8,7 @@ ghost use Rattle.std.specs.Prelude.{◌≡◌, IfOk, OnOk};
 use crate::walker::Walker;
 use lk_ast::{List, NoMemory, Span, Word};
 use lk_equations::{Own, one, only, same, unit};
-use lk_types::Ty;
+use lk_types::{Side, Ty};
 use std::alloc::Global;
 
 /// A block that was entered: its place in the text and among the nodes, and the number of the variable for the type of its
@@ -61,7 +61,7 @@ fn end(alloc: Global, walker: &mut Walker, block: Block, number: u32) -> Result<
         }
         Some(first) => {
             let own = Own {
-                ty: Ty::Var(number),
+                ty: Side::of(Ty::Var(number)),
                 equations: one(alloc, same(Ty::Var(first), unit(alloc)))?,
                 next: walker.next,
             };

@@ -9,8 +9,8 @@ use crate::expression::expr;
 use crate::member::{Member, function_types, is_mutual, members_of, own_functions, told_before};
 use crate::walker::{Walker, push_params};
 use lk_ast::{Decl, List, NoMemory, functions_in};
-use lk_equations::{Globals, Scope, Tables, any_effects, moved, one, same};
-use lk_types::{Scheme, Ty};
+use lk_equations::{Globals, Known, Scope, Tables, any_effects, moved, one, same};
+use lk_types::Ty;
 use lk_typing::Step;
 use std::alloc::Global;
 
@@ -26,7 +26,7 @@ pub struct GroupWalk {
 /// Walks through the functions of a declaration, where functions of earlier ones have these schemes.
 pub fn walk_group<'p>(
     alloc: Global,
-    earlier: &Scope<'p, Scheme>,
+    earlier: &Scope<'p, Known>,
     tables: &Tables<'p>,
     decl: &'p Decl,
 ) -> Result<GroupWalk, NoMemory>

@@ -65,8 +65,10 @@ fn bound_answer(
     ty: &Ty,
 ) -> Result<Option<String>, NoMemory> {
     let none = Bindings::none(alloc);
-    let right = ground_one(alloc, grounds, &none, &equation.right)?;
-    let bindings = Bindings::of(alloc, grounds, &equation.left, right)?;
+    let left = equation.left.tree(alloc)?;
+    let right = equation.right.tree(alloc)?;
+    let right = ground_one(alloc, grounds, &none, &right)?;
+    let bindings = Bindings::of(alloc, grounds, &left, right)?;
     answer(alloc, grounds, &bindings, asked, ty)
 }
 

@@ -2,7 +2,7 @@
 //! keep their order, and both may be there twice.
 
 use lk_ast::{Boxed, List, Text};
-use lk_types::{Effect, Effects, Equation, RowTail, Ty, TyField, TyRow};
+use lk_types::{Effect, Effects, Equation, RowTail, Side, Ty, TyField, TyRow};
 use std::alloc::Global;
 
 /// How deeply records, variants and functions may nest.
@@ -327,7 +327,10 @@ pub fn read_equation(alloc: Global, text: &str) -> Option<Equation> {
     let (left, right) = text.split_once(" = ")?;
     let left = read_type(alloc, left)?;
     let right = read_type(alloc, right)?;
-    Some(Equation { left, right })
+    Some(Equation {
+        left: Side::of(left),
+        right: Side::of(right),
+    })
 }
 
 /// Whether a text is an equation.

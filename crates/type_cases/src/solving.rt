@@ -3,7 +3,9 @@
 use crate::reader::{is_type, read_equation};
 use case_files::parted;
 use lk_ast::{Boxed, List, NoMemory};
-use lk_types::{Binding, Effects, Equation, Image, RowTail, Subst, Ty, TyRow, Types, print_type};
+use lk_types::{
+    Binding, Effects, Equation, Image, RowTail, Side, Subst, Ty, TyRow, Types, print_type,
+};
 use lk_unify::{Constraint, Sizing, UnifyError, first_unsolvable, solve, unify};
 use std::alloc::Global;
 use std::mem;
@@ -195,8 +197,8 @@ fn binding_equation(alloc: Global, binding: &mut Binding) -> Result<Equation, No
 /// `t1 = T`.
 fn plain_equation(var: u32, ty: &mut Ty) -> Equation {
     Equation {
-        left: Ty::Var(var),
-        right: mem::replace(ty, Ty::Int),
+        left: Side::of(Ty::Var(var)),
+        right: Side::of(mem::replace(ty, Ty::Int)),
     }
 }
 
@@ -210,8 +212,8 @@ fn tail_row(alloc: Global, tail: RowTail) -> TyRow {
 fn row_equation(alloc: Global, var: u32, row: &mut TyRow) -> Equation {
     let right = mem::replace(row, tail_row(alloc, RowTail::Closed));
     Equation {
-        left: Ty::Fields(tail_row(alloc, RowTail::Var(var))),
-        right: Ty::Fields(right),
+        left: Side::of(Ty::Fields(tail_row(alloc, RowTail::Var(var)))),
+        right: Side::of(Ty::Fields(right)),
     }
 }
 
@@ -226,7 +228,10 @@ fn effects_equation(alloc: Global, var: u32, effects: &mut Effects) -> Result<Eq
     let left = doing(alloc, tail_effects(alloc, RowTail::Var(var)))?;
     let effects = mem::replace(effects, tail_effects(alloc, RowTail::Closed));
     let right = doing(alloc, effects)?;
-    Ok(Equation { left, right })
+    Ok(Equation {
+        left: Side::of(left),
+        right: Side::of(right),
+    })
 }
 
 fn doing(alloc: Global, effects: Effects) -> Result<Ty, NoMemory> {

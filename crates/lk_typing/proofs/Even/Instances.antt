@@ -27,7 +27,7 @@ use Rattle.lk_typing.proofs.Even.Loose.{rows_of_row, rows_of_field, rows_rolled,
 use Rattle.lk_typing.specs.EffectRows.{ty_rows, rows_of, IsEven, IsEvenScheme}
 use Rattle.lk_typing.specs.Equations.{own, lacks, used}
 use Rattle.lk_typing.specs.Names.{Entry, One, Many}
-use Rattle.lk_typing.specs.Renamed.{place_among, place_from, width, tail_renamed, effects_renamed, ty_renamed, renamed, renamed_row, renamed_field}
+use Rattle.lk_types.specs.Renamed.{place_among, place_from, width, tail_renamed, effects_renamed, ty_renamed, renamed, renamed_row, renamed_field}
 
 -- ---- a renamed type
 

@@ -1,5 +1,5 @@
 use Rattle.std.proofs.Common.{◌≡◌, map, take}
-use Rattle.lk_equations.specs.Numbered.{place_in}
+use Rattle.lk_types.specs.Names.{place_in}
 use Rattle.lk_typing.specs.Equations.{lacks}
 use Rattle.lk_equations.proofs.functions.all_lacks.Given as goal
 

@@ -6,5 +6,5 @@ use Rattle.lk_equations.proofs.functions.instance.Goals as goal
 pub returns : goal.returns
 returns c =
     IfOk-weaker c.numbered.result _ _
-    (λ made is. is ∙ instance_is c.args.next c.args.scheme.now c.in_ok-names.names c.in_ok-names.ensures.numbers c.in_ok-names.ensures.count)
+    (λ made is. is ∙ instance_is c.args.next c.args.known.now c.parts-both.result.1.now c.parts-both.ensures.numbers c.parts-both.result.0.now c.parts-both.ensures.scheme)
     c.numbered.ensures
