@@ -1,5 +1,6 @@
 pub mod Labels
 pub mod Levels
+pub mod PlacedLevels
 pub mod AlikeNames
 pub mod Points
 pub mod AlikeCalls

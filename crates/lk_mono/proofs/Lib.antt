@@ -39,7 +39,6 @@ pub mod NumbersGrown
 pub mod OneAnswer
 pub mod Ones
 pub mod OwnMembers
-pub mod PlacedLevels
 pub mod PlacedUses
 pub mod PlacesCalled
 pub mod PlainSessions

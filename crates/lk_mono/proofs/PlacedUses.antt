@@ -11,7 +11,7 @@ use Rattle.lk_ast.specs.declared.expression.Case.{Case}
 use Rattle.lk_ast.specs.declared.expression.ChangeExpr.{ChangeExpr, out-ChangeExpr}
 use Rattle.lk_ast.specs.declared.expression.Expr.{Expr}
 use Rattle.lk_ground.specs.Sites.{PlacedUse, use_at, uses_in, outer_uses}
-use Rattle.lk_mono.proofs.PlacedLevels.{head_use, plain_uses, plain_outer, form_uses, form_outer}
+use Rattle.lk_ground.proofs.PlacedLevels.{head_use, plain_uses, plain_outer, form_uses, form_outer}
 use Rattle.lk_sound.specs.Nodes.{Use, TypedNode, used_by, nodes_of, each_nodes, case_nodes, change_nodes}
 use Rattle.lk_sound.proofs.Inside.{bodies_of}
 use Rattle.lk_types.specs.Rows.{EffectSet}

@@ -1,4 +1,4 @@
 pub mod Ascending
-mod LastValue
+pub mod LastValue
 mod Passing
 mod Samples

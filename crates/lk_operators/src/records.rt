@@ -66,7 +66,7 @@ fn label(
 }
 
 /// The record with these fields, unless a label comes twice.
-fn record_with(alloc: Global, fields: List<Field>) -> Result<Outcome, NoMemory>
+pub fn record_with(alloc: Global, fields: List<Field>) -> Result<Outcome, NoMemory>
     ensures { IfOk result (λ outcome. outcome ≡ record_of fields) }
 {
     let count = fields.len();

@@ -22,7 +22,7 @@ use Rattle.lk_places.proofs.Expressions.{block_holds}
 use Rattle.lk_places.proofs.Finds.{Finds, sites_of, uses_at, finds_none, finds_skip, finds_before, finds_behind, finds_both, finds_name, finds_so, finds_named}
 use Rattle.lk_places.proofs.Splits.{split_apart, apart_front, apart_back}
 use Rattle.lk_places.proofs.Walks.{Walk, Same, both, walk_all, same_by, same_alone, starts, starts_in, starts_flat, walk_of}
-use Rattle.lk_places.specs.Law.{PlacesLaw, UsesLaw, BlocksLaw}
+use Rattle.lk_places.specs.Law.{PlacesLaw, UsesLaw, BlocksLaw, AreMarksApart, MarksLaw}
 use Rattle.lk_read.specs.Kinds.{word_of}
 use Rattle.lk_scope.specs.Names.{no_names, bind_all}
 use Rattle.lk_scope.specs.Scoped.{scoped_decl, scoped_function}
@@ -122,6 +122,12 @@ uses_by fs w end h lie = subst AreApart (append-nil _) (split_apart 0 end h.used
 blocks_by : (fs : List FunDef) (w : List Token) (end : ℕ) → HoldFunctions fs w → LieBetween 0 w end → AreApart (starts (flat_map (λ (f : FunDef). blocks_in f.body) (map scoped_function fs)))
 blocks_by fs w end h lie = subst AreApart (append-nil _ ∙ sym (starts_flat (λ (f : FunDef). blocks_in f.body) (map scoped_function fs))) (split_apart 0 end h.listed lie)
 
+-- ---- that and the lambdas
+
+marks_by : (fs : List FunDef) (w : List Token) (end : ℕ) → HoldFunctions fs w → LieBetween 0 w end → AreApart (starts (flat_map (λ (f : FunDef). blocks_in f.body) (map scoped_function fs)) ++ sites_of (lambdas_of (map scoped_function fs)))
+marks_by fs w end h lie =
+    subst AreApart (ap₂ (λ a b. a ++ b) (sym (starts_flat (λ (f : FunDef). blocks_in f.body) (map scoped_function fs))) (sym (h.more []))) (split_apart 0 end h.marked lie)
+
 -- ---- the laws
 
 pub places_law : PlacesLaw
@@ -141,3 +147,9 @@ blocks_law text program is =
     subst AreBlocksApart (sym is.names)
     (subst (λ fs. AreApart (starts (flat_map (λ (f : FunDef). blocks_in f.body) fs))) (sym (of_scoped is.tree.decls))
     (blocks_by (functions_of is.tree) is.tokens (length text) (program_holds is.is) (tokens_lie text is.tokens is.has.read)))
+
+pub marks_law : MarksLaw
+marks_law text program is =
+    subst AreMarksApart (sym is.names)
+    (subst (λ fs. AreApart (starts (flat_map (λ (f : FunDef). blocks_in f.body) fs) ++ sites_of (lambdas_of fs))) (sym (of_scoped is.tree.decls))
+    (marks_by (functions_of is.tree) is.tokens (length text) (program_holds is.is) (tokens_lie text is.tokens is.has.read)))

@@ -2,7 +2,7 @@
 //! table or change is meant; and that its tables have columns.
 #![tactic(auto)]
 
-ghost use Rattle.lk_places.specs.Law.{BlocksLaw, ColumnsLaw, PlacesLaw, UsesLaw};
+ghost use Rattle.lk_places.specs.Law.{BlocksLaw, ColumnsLaw, MarksLaw, PlacesLaw, UsesLaw};
 
 /// Facts for those who need a place to say what is meant, or a table to have columns. A call does nothing.
 ///
@@ -12,10 +12,13 @@ ghost use Rattle.lk_places.specs.Law.{BlocksLaw, ColumnsLaw, PlacesLaw, UsesLaw}
 ///
 /// `blocks`: in such a program, the queries, readings of tables and changes in all bodies begin each at a place of its own.
 ///
+/// `marks`: in such a program, these and the lambdas together begin each at a place of its own.
+///
 /// `columns`: in such a program, each table has a column.
 pub fn places_law()
     ensures apart { PlacesLaw }
     ensures uses { UsesLaw }
     ensures blocks { BlocksLaw }
+    ensures marks { MarksLaw }
     ensures columns { ColumnsLaw }
 {}

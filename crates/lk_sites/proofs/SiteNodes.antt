@@ -10,7 +10,7 @@ use Rattle.lk_ast.specs.declared.expression.Node.TheOpen.{Node-F}
 use Rattle.lk_ground.specs.Language.{function_of}
 use Rattle.lk_ground.specs.declared.program.GroundFun.{GroundFun}
 use Rattle.lk_ground.specs.declared.program.GroundProgram.{GroundProgram}
-use Rattle.lk_mono.proofs.PlacedLevels.{operator_insides}
+use Rattle.lk_ground.proofs.PlacedLevels.{operator_insides}
 use Rattle.lk_mono.specs.Instanced.{AreInstancesOf, HasInstances, IsInstanceOf, nodes_in}
 use Rattle.lk_sites.proofs.Passing.{Passes, PassesFirst, first_other, first_called, passes_all, passes_block, passes_first, passes_split}
 use Rattle.lk_sites.proofs.SiteTyping.{behind_other, cases_visited, entered_left, expr_visited, exprs_visited, form_blocks, left, operator_open, takes_none, takes_use, uses_function}

@@ -1,5 +1,5 @@
 -- What a visit to a typed expression finds: typed queries, readings of tables, updates and deletions.
-use Rattle.lk_mono.proofs.PlacedLevels.{operator_insides}
+use Rattle.lk_ground.proofs.PlacedLevels.{operator_insides}
 use Rattle.std.proofs.Common.{◌≡◌, ℕ, Bool, true, false, ◌||◌, List, [], ◌∷◌, ◌++◌, append-nil, map, Some, None, refl, sym, ◌∙◌, ap, subst}
 use Rattle.std.proofs.Math.Bool.{or-false, or-true}
 use Rattle.std.proofs.lemmas.Option.{none-some}

@@ -1,0 +1,62 @@
+-- The laws of continuations; their proofs stand in proofs/.
+use Rattle.std.specs.Prelude.{◌≡◌, ℕ, List, [], ◌∷◌, ◌++◌, Option, Some, None, length}
+use Rattle.lk_ast.specs.declared.place.Loc.{Loc}
+use Rattle.lk_ast.specs.declared.value.Value.{Value}
+use Rattle.lk_evaluation.specs.Evaluation.{eval}
+use Rattle.lk_evaluation.specs.Run.{Run}
+use Rattle.lk_moves.specs.Frames.{Part, continued}
+use Rattle.lk_ir.specs.Continuing.{conts_at, continuing, only}
+use Rattle.lk_ir.specs.Environments.{Env, bind_each, lookup, lookup_all, no_names}
+use Rattle.lk_ir.specs.LetNormal.{Point, let_normal, under}
+use Rattle.lk_ir.specs.Tables.{form_at, names_of}
+use Rattle.lk_ir.specs.Uses.{AreNamed, Uses}
+use Rattle.lk_ir.specs.declared.nodes.Cont.{Cont}
+use Rattle.lk_ir.specs.declared.nodes.Conts.{Conts}
+use Rattle.lk_ir.specs.declared.nodes.Form.{Form}
+use Rattle.lk_ir.specs.declared.nodes.Forms.{Forms}
+
+-- the same node, under names that have the same values where it uses them
+abbrev pub Agree : Forms → Point → Point → Type 0
+Agree f p q = (p.node ≡ q.node) × ((x : ℕ) → Uses f x p.node → lookup p.names x ≡ lookup q.names x)
+
+-- With the names kept that are used, an evaluation comes to the same as with all of them.
+abbrev pub ContinuesLaw : Type 0
+ContinuesLaw = (f : Forms) (all : List Conts) → AreNamed f all → (n : ℕ) (names : Env) (place : Loc) (r : Run)
+    → eval (continuing f all) (under names n) place r ≡ eval (let_normal f) (under names n) place r
+
+-- the continuations of earlier positions have nothing more to take from the names
+abbrev pub IsSteady : List (Option Cont) → Env → Type 0
+IsSteady [] names = Unit {0}
+IsSteady (None ∷ cs) names = IsSteady cs names
+IsSteady (Some c ∷ cs) names = (only (names_of c.keeps) names ≡ names) × IsSteady cs names
+
+-- a continuation, or none, for each position
+abbrev pub AreMatched : List ℕ → List (Option Cont) → Type 0
+AreMatched [] [] = Unit {0}
+AreMatched (k ∷ ks) (c ∷ cs) = AreMatched ks cs
+AreMatched _ _ = ⊥
+
+-- This continuation is that of the position of a node which has so many others before it, and those before it have nothing more to
+-- take from the names.
+pub record IsContAt (f : Forms) (all : List Conts) (n before : ℕ) (c : Cont) (names : Env) : Type 0 where
+  pub form : Form
+  pub there : form_at f n ≡ Some form
+  pub earlier : List ℕ
+  pub position : ℕ
+  pub later : List ℕ
+  pub parts : form.parts ≡ earlier ++ position ∷ later
+  pub many : before ≡ length earlier
+  pub first : List (Option Cont)
+  pub rest : List (Option Cont)
+  pub conts : conts_at all n ≡ first ++ Some c ∷ rest
+  pub matched : AreMatched earlier first
+  pub steady : IsSteady first names
+
+-- A frame at a position with a continuation goes on alike from all names and from those alone that the continuation keeps.
+abbrev pub ResumesLaw : Type 0
+ResumesLaw = (f : Forms) (all : List Conts) (n : ℕ) (c : Cont) (names : Env) (done : List Value) → IsContAt f all n (length done) c names → (place : Loc) (v : Value) (r : Run)
+    → continued (continuing f all) (Part (under names n) done place) v r ≡ continued (continuing f all) (Part (under (only (names_of c.keeps) names) n) done place) v r
+
+-- These names alone are what binding their values to them anew makes.
+abbrev pub KeptLaw : Type 0
+KeptLaw = (names : Env) (xs : List ℕ) (kept : List Value) → lookup_all names xs ≡ Some kept → only xs names ≡ bind_each no_names xs kept

@@ -1,0 +1,4 @@
+pub mod Courses
+pub mod Equal
+pub mod Framed
+pub mod Rising
