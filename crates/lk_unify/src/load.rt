@@ -9,7 +9,7 @@ ghost use Rattle.lk_arena.specs.Values.{Plain};
 ghost use Rattle.lk_unify.specs.Loading.{type_meaning, types_meaning, row_meaning, effects_meaning, end_value, shape_for, kind_for, kind_of, CanAddRow, IsLoader, Makes, AddsRow, AddsFunction, Loads, LoadsEnd, Loaded, LoadedAll, LoadedFields, effect_fields, node_for};
 
 use crate::loader::{Loader, NodeKind};
-use crate::shared::{add_node, make_node};
+use crate::shared::{add_node, are_closed, are_fields_closed, is_closed_node, make_end, make_node};
 use lk_arena::{Field, Head, Shape, are_distinct};
 use lk_ast::{List, NoMemory, Text};
 use lk_types::{Effect, Effects, Ty, TyField, TyRow, Variable, effect_word};
@@ -59,18 +59,19 @@ pub fn load_variable(loader: &mut Loader, variable: Variable) -> Result<usize, N
     }
 }
 
-/// A node for the end of a row of this kind.
+/// A node for the end of a row of this kind, which is shared where it is closed as all that stands before it.
 pub fn load_end(
     alloc: Global,
     loader: &mut Loader,
     kind: NodeKind,
     tail: Option<Variable>,
+    shared: bool,
 ) -> Result<usize, NoMemory>
     requires { IsLoader loader.old }
     ensures { IfOk result (λ n. LoadsEnd loader.old loader.new (kind_for kind) tail n) }
 {
     match tail {
-        None => make_node(alloc, loader, kind, Shape::Empty),
+        None => make_end(alloc, loader, kind, shared),
         Some(variable) => load_variable(loader, variable),
     }
 }
@@ -143,11 +144,18 @@ fn load_effects(
     alloc: Global,
     loader: &mut Loader,
     effects: &Effects,
+    shared: bool,
 ) -> Result<Option<usize>, NoMemory>
     requires { IsLoader loader.old }
     ensures { IfOk result (λ answer. Loaded loader.old loader.new OfEffects (effects_meaning effects.now) answer) }
 {
-    let tail = load_end(alloc, loader, NodeKind::Effects, effects.tail.of_effects())?;
+    let tail = load_end(
+        alloc,
+        loader,
+        NodeKind::Effects,
+        effects.tail.of_effects(),
+        shared,
+    )?;
     if effects.labels.is_empty() {
         return Ok(Some(tail));
     }
@@ -193,7 +201,8 @@ pub fn load_function(
     requires params { AllBelow (length loader.old.arena.shapes) params.now }
     ensures { IfOk result (λ found. AddsFunction loader.old loader.new effects.now answer params.now found) }
 {
-    let Some(first) = load_effects(alloc, loader, effects)? else {
+    let shared = is_closed_node(loader, answer) && are_closed(loader, params);
+    let Some(first) = load_effects(alloc, loader, effects, shared)? else {
         return Ok(None);
     };
     let parts = function_parts(alloc, first, answer, params)?;
@@ -293,7 +302,8 @@ fn load_row(alloc: Global, loader: &mut Loader, row: &TyRow) -> Result<Option<us
     let Some(fields) = load_fields(alloc, loader, row.fields.as_slice())? else {
         return Ok(None);
     };
-    let tail = load_end(alloc, loader, NodeKind::Fields, row.tail.of_row())?;
+    let shared = are_fields_closed(loader, &fields);
+    let tail = load_end(alloc, loader, NodeKind::Fields, row.tail.of_row(), shared)?;
     if fields.is_empty() {
         return Ok(Some(tail));
     }

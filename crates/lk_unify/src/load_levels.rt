@@ -13,6 +13,7 @@ ghost use Rattle.lk_unify.specs.Loading.{row_meaning, type_meaning, IsLoader, Lo
 
 use crate::load::{add_row, load_base, load_end, load_function, load_one, load_variable};
 use crate::loader::{Loader, NodeKind};
+use crate::shared::are_fields_closed;
 use lk_arena::{Field, Head};
 use lk_ast::{List, NoMemory};
 use lk_types::{Effects, Level, LevelField, LevelRow, Variable};
@@ -62,7 +63,8 @@ fn load_level_row(
     ensures { IfOk result (λ answer. (ts : TheList Ty) → length nodes.now ≡ length ts → LoadedOn loader.old loader.new ts nodes.now OfFields (row_meaning (row_made ts row.now)) answer) }
 {
     let fields = level_fields(alloc, row.fields.as_slice(), nodes)?;
-    let tail = load_end(alloc, loader, NodeKind::Fields, row.tail.of_row())?;
+    let shared = are_fields_closed(loader, &fields);
+    let tail = load_end(alloc, loader, NodeKind::Fields, row.tail.of_row(), shared)?;
     if fields.is_empty() {
         return Ok(Some(tail));
     }

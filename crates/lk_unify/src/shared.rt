@@ -175,12 +175,12 @@ fn find_node(loader: &Loader, key: u64, kind: NodeKind, shape: &Shape) -> Option
 }
 
 /// Whether the node is closed: no variable stands in it.
-fn is_closed_node(loader: &Loader, node: usize) -> bool {
+pub fn is_closed_node(loader: &Loader, node: usize) -> bool {
     loader.closed.get(node).copied().unwrap_or(false)
 }
 
 /// Whether all parts are closed.
-fn are_closed(loader: &Loader, parts: &[usize]) -> bool {
+pub fn are_closed(loader: &Loader, parts: &[usize]) -> bool {
     parts.iter().all(|part| is_closed_node(loader, *part))
 }
 
@@ -189,6 +189,11 @@ fn fields_closed(loader: &Loader, fields: &[Field]) -> bool {
     fields
         .iter()
         .all(|field| is_closed_node(loader, field.node))
+}
+
+/// Whether fields are closed that stand before a row.
+pub fn are_fields_closed(loader: &Loader, fields: &List<Field>) -> bool {
+    fields_closed(loader, fields.as_slice())
 }
 
 /// Whether a node of this shape is closed.
@@ -232,6 +237,23 @@ fn keep_node(
     };
     drop(loader.made.insert(key, made)?);
     Ok(node)
+}
+
+/// A node for the end of a closed row: where something before it has variables, one of its own, since an end that is put together with
+/// an open one counts as one that was open once.
+pub fn make_end(
+    alloc: Global,
+    loader: &mut Loader,
+    kind: NodeKind,
+    shared: bool,
+) -> Result<usize, NoMemory>
+    requires { CanMake loader.old Shape.Empty }
+    ensures { IfOk result (λ n. Makes loader.old loader.new (kind_for kind) Shape.Empty n) }
+{
+    if shared {
+        return make_node(alloc, loader, kind, Shape::Empty);
+    }
+    add_node(loader, Shape::Empty)
 }
 
 /// A node for this: one that was made for it, or a new one.
