@@ -1,18 +1,19 @@
--- A row without a label twice: no row on the way down has one either.
+-- Ways down along which no label stands twice, and rows above them.
 use Rattle.std.proofs.Common.{◌≡◌, ◌≢◌, ℕ, zero, suc, ◌<◌, ⊎_elim, Bool, true, false, List, [], ◌∷◌, ◌++◌, length, set, refl, sym, ◌∙◌, ap, subst, arith, Option, Some, None}
 use Rattle.std.proofs.Common.{append_assoc, append-nil}
 use Rattle.std.proofs.lemmas.Bool.{cases_eq}
 use Rattle.std.proofs.lemmas.List.{length-set, length-replicate, get_or-set_other}
 use Rattle.std.specs.Prelude.{slice_index_or as get_or, replicate}
 use Rattle.lk_classes.specs.Classes.{class_at}
+use Rattle.lk_types.proofs.Members.{each_both}
 use Rattle.lk_types.specs.Each.{Each}
 use Rattle.lk_types.specs.Rows.{Label}
-use Rattle.lk_arena.proofs.Chains.{or_found, found_at-append}
+use Rattle.lk_arena.proofs.Chains.{or_found, found_at-append, IsDistinct-append}
 use Rattle.lk_arena.proofs.EachLemmas.{Each-zip}
 use Rattle.lk_arena.proofs.RowAlgebra.{found_same, found_other, lacks_less}
 use Rattle.lk_arena.proofs.Weak.{but_start, but_more, distinct_apart}
 use Rattle.lk_arena.specs.Shapes.{shape_at, found_at, fields_in, is_fields, is_row_shape, HasFields, IsArena, IsCleanAt, IsDistinct, IsFlatBut}
-use Rattle.lk_arena.specs.Ways.{tail_in, IsWay, fields_along, HasWay, HasCleanWay, AreMarked}
+use Rattle.lk_arena.specs.Ways.{tail_in, IsWay, fields_along, HasWay, HasDistinctWay, IsName, LacksAlong, AreMarked}
 use Rattle.lk_arena.specs.declared.node.Field.{Field}
 use Rattle.lk_arena.specs.declared.node.Shape.{Shape}
 use Rattle.lk_arena.specs.declared.node.Shape.TheVariants.{Free, Open, Empty, Made}
@@ -39,6 +40,10 @@ apart_turned (x ∷ xs) ys e =
 
 -- ---- the way
 
+not_both : (b : Bool) → b ≡ true → b ≡ false → ⊥
+not_both true e f = let g : true ≡ false = f in cc
+not_both false e f = let g : false ≡ true = e in cc
+
 -- a shape of fields is one
 pub fields_shape : (s : Shape) → is_fields s ≡ true → s ≡ shape.Row (fields_in s) (tail_in s)
 fields_shape (shape.Row fs t) e = refl
@@ -46,6 +51,13 @@ fields_shape Free e = let f : false ≡ true = e in cc
 fields_shape Open e = let f : false ≡ true = e in cc
 fields_shape Empty e = let f : false ≡ true = e in cc
 fields_shape (Made h ps) e = let f : false ≡ true = e in cc
+
+pub no_fields : (s : Shape) → ((fs : List Field) (t : ℕ) → s ≡ shape.Row fs t → ⊥) → is_fields s ≡ false
+no_fields (shape.Row fs t) not = absurd (not fs t refl)
+no_fields Free not = refl
+no_fields Open not = refl
+no_fields Empty not = refl
+no_fields (Made h ps) not = refl
 
 left_none : (a b : Option ℕ) → or_found a b ≡ None → a ≡ None
 unfolding or_found
@@ -127,11 +139,39 @@ module _ (shapes : List Shape) (classes : List ℕ) where
           way_clean way (class_at classes first) tail row last is.4 (distinct_right own (fields_along shapes way) d),
         )
 
--- ---- marks
+    -- a class of fields from which there is a way along which no label stands twice
+    pub distinct_clean : (k : ℕ) → HasDistinctWay shapes classes k → IsCleanAt shapes classes k
+    distinct_clean k ([], tail, is, row, last, d) = λ named fields. absurd (not_both (is_fields (shape_at shapes k)) fields (ap (λ t. is_fields (shape_at shapes t)) is ∙ last))
+    distinct_clean k (c ∷ way, tail, is, row, last, d) = subst (IsCleanAt shapes classes) (sym is.0) (way_clean (c ∷ way) c tail row last (refl, is.1, is.2, is.3, is.4) d).0
 
-not_both : (b : Bool) → b ≡ true → b ≡ false → ⊥
-not_both true e f = let g : true ≡ false = f in cc
-not_both false e f = let g : false ≡ true = e in cc
+  -- a class of fields above a way that has none of their labels
+  pub way_above :
+      (k : ℕ) (own : List Field) (first : ℕ) → IsName (length shapes) classes k → shape_at shapes k ≡ shape.Row own first → IsDistinct own →
+      HasDistinctWay shapes classes (class_at classes first) → LacksAlong shapes classes own (class_at classes first) → HasDistinctWay shapes classes k
+  way_above k own first name is d (way, tail, ways, row, last, distinct) lacks = (
+    k ∷ way,
+    tail,
+    (refl, name.0, name.1, ap is_fields is, subst (λ s. IsWay shapes classes way (class_at classes (tail_in s)) tail) (sym is) ways),
+    row,
+    last,
+    subst (λ s. IsDistinct (fields_in s ++ fields_along shapes way)) (sym is) (IsDistinct-append own (fields_along shapes way) d distinct (lacks way tail ways last)),
+  )
+
+  -- where there are no fields, no label stands along the way
+  pub lacks_end : (labels : List Field) (at : ℕ) → is_fields (shape_at shapes at) ≡ false → LacksAlong shapes classes labels at
+  lacks_end labels at e [] tail is last = tt
+  lacks_end labels at e (c ∷ way) tail is last = absurd (not_both (is_fields (shape_at shapes c)) is.3 (ap (λ t. is_fields (shape_at shapes t)) (sym is.0) ∙ e))
+
+  pub lacks_row :
+      (labels more : List Field) (at next : ℕ) → shape_at shapes at ≡ shape.Row more next → Each (λ f. found_at labels f.label ≡ None) more →
+      LacksAlong shapes classes labels (class_at classes next) → LacksAlong shapes classes labels at
+  lacks_row labels more at next e each lacks [] tail is last = tt
+  lacks_row labels more at next e each lacks (c ∷ way) tail is last =
+      let here : shape_at shapes c ≡ shape.Row more next = ap (shape_at shapes) (sym is.0) ∙ e in
+      each_both (λ f. found_at labels f.label ≡ None) (fields_in (shape_at shapes c)) (fields_along shapes way) (subst (λ s. Each (λ f. found_at labels f.label ≡ None) (fields_in s)) (sym here) each)
+      (lacks way tail (subst (λ s. IsWay shapes classes way (class_at classes (tail_in s)) tail) here is.4) last)
+
+-- ---- marks
 
 -- how many classes aren't marked
 abbrev pub unmarked : List Bool → ℕ
@@ -155,31 +195,13 @@ module _ (shapes : List Shape) (classes : List ℕ) where
   pub marks_start : AreMarked shapes classes (replicate (length shapes) false)
   marks_start = record {
     count = length-replicate (length shapes) false;
-    clean = λ k e. (let f : false ≡ true = sym (no_marks (length shapes) k) ∙ e in cc);
+    ways = λ k e. (let f : false ≡ true = sym (no_marks (length shapes) k) ∙ e in cc);
   }
 
-  pub marks_more : (marks : List Bool) (i : ℕ) → i < length shapes → AreMarked shapes classes marks → IsCleanAt shapes classes i → AreMarked shapes classes (set marks i true)
-  marks_more marks i b are clean = record {
+  pub marks_more : (marks : List Bool) (i : ℕ) → i < length shapes → AreMarked shapes classes marks → HasDistinctWay shapes classes i → AreMarked shapes classes (set marks i true)
+  marks_more marks i b are way = record {
     count = length-set marks i true ∙ are.count;
-    clean = λ k e.
-        ⊎_elim (λ (is : k ≡ i). subst (IsCleanAt shapes classes) (sym is) clean)
-        (λ (ne : k ≡ i → ⊥). are.clean k (sym (get_or-set_other marks i k true false ne) ∙ e)) (cases_eq k i);
+    ways = λ k e.
+        ⊎_elim (λ (is : k ≡ i). subst (HasDistinctWay shapes classes) (sym is) way)
+        (λ (ne : k ≡ i → ⊥). are.ways k (sym (get_or-set_other marks i k true false ne) ∙ e)) (cases_eq k i);
   }
-
-  -- a class of fields on a clean way, and what is further down
-  here_clean : (way : List ℕ) (at tail : ℕ) → IsWay shapes classes way at tail → is_fields (shape_at shapes tail) ≡ false → Each (IsCleanAt shapes classes) way →
-      is_fields (shape_at shapes at) ≡ true → IsCleanAt shapes classes at
-  here_clean [] at tail is last clean fields = absurd (not_both (is_fields (shape_at shapes at)) fields (ap (λ t. is_fields (shape_at shapes t)) is ∙ last))
-  here_clean (c ∷ way) at tail is last clean fields = subst (IsCleanAt shapes classes) (sym is.0) clean.0
-
-  below_clean : (way : List ℕ) (at tail : ℕ) → IsWay shapes classes way at tail → is_fields (shape_at shapes tail) ≡ false → Each (IsCleanAt shapes classes) way →
-      is_fields (shape_at shapes at) ≡ true → HasCleanWay shapes classes (class_at classes (tail_in (shape_at shapes at)))
-  below_clean [] at tail is last clean fields = absurd (not_both (is_fields (shape_at shapes at)) fields (ap (λ t. is_fields (shape_at shapes t)) is ∙ last))
-  below_clean (c ∷ way) at tail is last clean fields =
-      subst (λ k. HasCleanWay shapes classes (class_at classes (tail_in (shape_at shapes k)))) (sym is.0) (way, tail, is.4, last, clean.1)
-
-  pub clean_here : (at : ℕ) → HasCleanWay shapes classes at → is_fields (shape_at shapes at) ≡ true → IsCleanAt shapes classes at
-  clean_here at has = here_clean has.0 at has.1 has.2 has.3 has.4
-
-  pub clean_below : (at : ℕ) → HasCleanWay shapes classes at → is_fields (shape_at shapes at) ≡ true → HasCleanWay shapes classes (class_at classes (tail_in (shape_at shapes at)))
-  clean_below at has = below_clean has.0 at has.1 has.2 has.3 has.4

@@ -1,8 +1,8 @@
 -- The way down a row, over the classes of its tails that are fields before a row themselves.
-use Rattle.std.specs.Prelude.{◌≡◌, ℕ, ◌<◌, true, false, Bool, List, [], ◌∷◌, ◌++◌, length, slice_index_or as get_or}
+use Rattle.std.specs.Prelude.{◌≡◌, ℕ, ◌<◌, true, false, Bool, List, [], ◌∷◌, ◌++◌, length, slice_index_or as get_or, None}
 use Rattle.lk_classes.specs.Classes.{class_at}
 use Rattle.lk_types.specs.Each.{Each}
-use Rattle.lk_arena.specs.Shapes.{shape_at, is_fields, fields_in, IsCleanAt}
+use Rattle.lk_arena.specs.Shapes.{shape_at, found_at, is_fields, is_row_shape, fields_in, IsDistinct}
 use Rattle.lk_arena.specs.declared.node.Field.{Field}
 use Rattle.lk_arena.specs.declared.node.Shape.{Shape}
 use Rattle.lk_arena.specs.declared.node.Shape.TheVariants as shape
@@ -25,12 +25,21 @@ fields_along shapes (c ∷ way) = fields_in (shape_at shapes c) ++ fields_along 
 abbrev pub HasWay : List Shape → List ℕ → List Field → ℕ → List Field → ℕ → Type 0
 HasWay shapes classes own from fields tail = (way : List ℕ) × IsWay shapes classes way from tail × (fields ≡ own ++ fields_along shapes way)
 
--- no class on the way has a label twice
-abbrev pub HasCleanWay : List Shape → List ℕ → ℕ → Type 0
-HasCleanWay shapes classes from =
-    (way : List ℕ) × (tail : ℕ) × IsWay shapes classes way from tail × (is_fields (shape_at shapes tail) ≡ false) × Each (IsCleanAt shapes classes) way
+-- there is a way from here to a tail that is no fields, along which no label stands twice
+abbrev pub HasDistinctWay : List Shape → List ℕ → ℕ → Type 0
+HasDistinctWay shapes classes from =
+    (way : List ℕ) × (tail : ℕ) × IsWay shapes classes way from tail × (is_row_shape (shape_at shapes tail) ≡ true) × (is_fields (shape_at shapes tail) ≡ false) × IsDistinct (fields_along shapes way)
 
--- no class that is marked has a label twice
+-- along every way from here to a tail that is no fields, none of these labels stands
+abbrev pub LacksAlong : List Shape → List ℕ → List Field → ℕ → Type 0
+LacksAlong shapes classes labels from =
+    (way : List ℕ) (tail : ℕ) → IsWay shapes classes way from tail → is_fields (shape_at shapes tail) ≡ false → Each (λ f. found_at labels f.label ≡ None) (fields_along shapes way)
+
+-- one of n nodes, which names a class
+abbrev pub IsName : ℕ → List ℕ → ℕ → Type 0
+IsName n classes i = (i < n) × (class_at classes i ≡ i)
+
+-- from each class that is marked there is a way along which no label stands twice
 pub record AreMarked (shapes : List Shape) (classes : List ℕ) (marks : List Bool) : Type 0 where
   pub count : length marks ≡ length shapes
-  pub clean : (k : ℕ) → get_or marks k false ≡ true → IsCleanAt shapes classes k
+  pub ways : (k : ℕ) → get_or marks k false ≡ true → HasDistinctWay shapes classes k

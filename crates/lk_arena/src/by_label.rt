@@ -1,6 +1,6 @@
 //! Nodes of fields by their labels, found in a time that grows with the logarithm of the number of fields.
 
-ghost use Rattle.std.specs.Prelude.{◌≡◌, ◌||◌, IfOk, OnOk, IsTrue, false, true};
+ghost use Rattle.std.specs.Prelude.{◌≡◌, ◌||◌, IfOk, None, OnOk, IsTrue, false, true};
 ghost use Rattle.lk_types.specs.Each.{Each, OneOf};
 ghost use Rattle.lk_types.specs.Rows.{Label};
 ghost use Rattle.lk_arena.specs.Lookups.{HasNodes, is_label, is_noted};
@@ -88,6 +88,18 @@ impl<'f> Finder<'f> {
             None => node_of(self.fields, label),
             Some(nodes) => nodes.get(label.as_str()).copied(),
         }
+    }
+
+    /// Whether no field has the label of one of these.
+    pub fn lack(&self, others: &[Field]) -> bool
+        ensures { IsTrue result → Each (λ f. found_at self.now f.label ≡ None) others.now }
+    {
+        for other in others {
+            if self.find(&other.label).is_some() {
+                return false;
+            }
+        }
+        true
     }
 }
 

@@ -1,4 +1,5 @@
-//! Nodes that are used again where the same is to be made: those without variables, since types with variables seldom come twice.
+//! Nodes that are used again where the same is to be made: those without variables, since types with variables seldom come twice, and
+//! fields before a row, since that a row lacks their labels is said by an equation of both with themselves.
 //! Which these are and under which number one is looked for is no part of any contract: what is found is compared.
 
 ghost use Rattle.std.specs.Prelude.{◌≡◌, IfOk, IfSome, IsTrue};
@@ -208,12 +209,20 @@ fn is_closed(loader: &Loader, shape: &Shape) -> bool {
     }
 }
 
-/// Notes that a node is closed.
-fn note_closed(closed: &mut List<bool>, node: usize) -> Result<(), NoMemory> {
+/// Notes whether a node is closed.
+fn note_closed(closed: &mut List<bool>, node: usize, is_closed: bool) -> Result<(), NoMemory> {
     for _ in closed.len()..node {
         closed.push(false)?;
     }
-    closed.push(true)
+    closed.push(is_closed)
+}
+
+/// Whether a node is kept: one that is closed, or fields before a row.
+fn is_kept(kind: NodeKind, shape: &Shape, is_closed: bool) -> bool {
+    match shape {
+        Shape::Row(_, _) => is_closed || kind == NodeKind::Fields,
+        _ => is_closed,
+    }
 }
 
 /// Adds a node and keeps it under this number.
@@ -223,13 +232,14 @@ fn keep_node(
     key: u64,
     kind: NodeKind,
     shape: Shape,
+    is_closed: bool,
 ) -> Result<usize, NoMemory>
     requires { CanMake loader.old shape }
     ensures { IfOk result (λ n. Makes loader.old loader.new (kind_for kind) shape n) }
 {
     let copy = copy_shape(alloc, &shape)?;
     let node = add_node(loader, shape)?;
-    note_closed(&mut loader.closed, node)?;
+    note_closed(&mut loader.closed, node, is_closed)?;
     let made = MadeNode {
         kind,
         shape: copy,
@@ -266,12 +276,13 @@ pub fn make_node(
     requires { CanMake loader.old shape }
     ensures { IfOk result (λ n. Makes loader.old loader.new (kind_for kind) shape n) }
 {
-    if !is_closed(loader, &shape) {
+    let closed = is_closed(loader, &shape);
+    if !is_kept(kind, &shape, closed) {
         return add_node(loader, shape);
     }
     let key = key_of(kind, &shape);
     if let Some(node) = find_node(loader, key, kind, &shape) {
         return Ok(node);
     }
-    keep_node(alloc, loader, key, kind, shape)
+    keep_node(alloc, loader, key, kind, shape, closed)
 }

@@ -2,8 +2,8 @@ use Rattle.std.proofs.lemmas.Result.{IfOk-weaker}
 use Rattle.lk_unify.proofs.LoadShared.{makes_found, makes_new}
 use Rattle.lk_unify.proofs.shared.make_node.Goals as goal
 
-pub returns-then-not-is_closed : goal.returns-then-not-is_closed
-returns-then-not-is_closed c =
+pub returns-then-not-is_kept : goal.returns-then-not-is_kept
+returns-then-not-is_kept c =
     IfOk-weaker c.add_node.result _ _ (λ n. makes_new c.args.loader.now c.add_node.new.loader c.args.kind c.args.shape n c.requires) c.add_node.ensures
 
 pub returns-in-Some : goal.returns-in-Some
