@@ -118,7 +118,7 @@ pub breaks_behind : (program : Program) (command : SourceCommand) (run : SourceR
     → IsRun program command.arg command.fuel new run → Each (HasAnswer program) run.log → HasBegunSession program command.arg command.fuel run.log → HasHistory program loaded new run.log
     → after ≡ commits_after run.log before → BreaksOff program command fault loaded new before after
 breaks_behind program command run Failed loaded new before after is answered begun history committed = (run, is, answered, history, committed)
-breaks_behind program command run NoMemory loaded new before after is answered begun history committed = (run.log, begun, history, committed)
+breaks_behind program command run NoMemory loaded new before after is answered begun history committed = (run.log, begun, answered, history, committed)
 
 -- ---- fits
 

@@ -14,7 +14,7 @@ use Rattle.lk_evaluation.specs.Laws.{run_of}
 use Rattle.lk_evaluation.specs.Run.{Run, Entry, Out, Within, answers_in, events_of, start}
 use Rattle.lk_evaluation.specs.Source.{session}
 use Rattle.lk_outside.specs.Causes.{next_count}
-use Rattle.lk_sem.specs.Histories.{HasFollowed, read_event, write_event}
+use Rattle.lk_sem.specs.Histories.{HasAnswer, HasFollowed, read_event, write_event}
 use Rattle.lk_sem.specs.SourceRuns.{HasBegun, HasFirstHistory, HasHistory, HasSomeHistory, commits_after}
 use Rattle.lk_sem.specs.Standing.{IsSound, Stands}
 use Rattle.lk_sem.specs.Writings.{HasChanged}
@@ -27,6 +27,8 @@ use Rattle.lk_sem.proofs.Legality.{no_past, past_followed, past_history}
 use Rattle.lk_sem.proofs.Sound as sound
 use Rattle.lk_sem.proofs.Unread.{Kept}
 use Rattle.lk_sem.proofs.Whole.{answers_both}
+use Rattle.lk_types.proofs.Members.{each_both}
+use Rattle.lk_types.specs.Each.{Each}
 
 -- a writing has no answer
 pub answers_written : (log : List Event) (site : ℕ) (args : List Value) → answers_in (log ++ write_event site args ∷ []) ≡ answers_in log
@@ -47,7 +49,7 @@ module _ (p : Program) (first m : Machine) (o : Run → Out Value) (fuel : ℕ) 
 
   -- and so many transactions were committed before them, and behind them
   pub first_history : (before after : ℕ) (present : Option Tables) → present ≡ told → after ≡ commits_after m.log before → HasFirstHistory p o fuel old present before after
-  first_history before after present same count = (m.log, begun_here, subst (λ t. HasHistory p old t m.log) (sym same) (past_history p old told m.log s.past), count)
+  first_history before after present same count = (m.log, begun_here, s.answered, subst (λ t. HasHistory p old t m.log) (sym same) (past_history p old told m.log s.past), count)
 
   -- the same with a reading that isn't in the log yet
   begun_reading : (back : Loc) (site : ℕ) (args : List Value) (rows : List Row) → next ≡ now.Read back site args → HasBegun o fuel (m.log ++ read_event site args rows ∷ [])
@@ -59,11 +61,12 @@ module _ (p : Program) (first m : Machine) (o : Run → Out Value) (fuel : ℕ) 
       (map-append (λ (x : Entry). x.event) there.0.log (entry ∷ []) ∙ ap (λ xs. xs ++ read_event site args rows ∷ []) there.1.log)
 
   pub first_read : (before count after : ℕ) (present : Option Tables) (back : Loc) (site : ℕ) (args : List Value) (rows : List Row) → next ≡ now.Read back site args → present ≡ told
-      → HasFollowed p told told (read_event site args rows) → count ≡ commits_after m.log before → after ≡ next_count count → HasFirstHistory p o fuel old present before after
-  first_read before count after present back site args rows e same followed counted one =
+      → HasAnswer p (read_event site args rows) → HasFollowed p told told (read_event site args rows) → count ≡ commits_after m.log before → after ≡ next_count count → HasFirstHistory p o fuel old present before after
+  first_read before count after present back site args rows e same answer followed counted one =
       let log : List Event = m.log ++ read_event site args rows ∷ [] in (
         log,
         begun_reading back site args rows e,
+        each_both (HasAnswer p) m.log (read_event site args rows ∷ []) s.answered (answer, tt),
         subst (λ t. HasHistory p old t log) (sym same) (past_history p old told log (past_followed p old told told m.log (read_event site args rows) s.past followed)),
         commits_read before count m.log site args rows after counted one,
       )
@@ -89,6 +92,7 @@ module _ (p : Program) (first m : Machine) (o : Run → Out Value) (fuel : ℕ) 
   first_written before count after present back site args e changed counted one = (
     m.log ++ write_event site args ∷ [],
     begun_writing back site args e,
+    each_both (HasAnswer p) m.log (write_event site args ∷ []) s.answered (tt, tt),
     past_history p old present _ (past_written p old told present site args m.log s.past changed),
     commits_write before count m.log site args after counted one,
   )
@@ -99,10 +103,10 @@ begun_nothing : (o : Run → Out Value) (fuel : ℕ) → HasBegun o fuel []
 begun_nothing o fuel = (events_of (run_of (o (start fuel []))).log, refl)
 
 pub no_events : (p : Program) (o : Run → Out Value) (fuel : ℕ) (told : Option Tables) (count : ℕ) → HasFirstHistory p o fuel told told count count
-no_events p o fuel told count = ([], begun_nothing o fuel, past_history p told told [] (no_past p told), refl)
+no_events p o fuel told count = ([], begun_nothing o fuel, tt, past_history p told told [] (no_past p told), refl)
 
 pub no_session : (p : Program) (arg : List ℕ) (fuel : ℕ) (told : Option Tables) (count : ℕ) → HasSomeHistory p arg fuel told told count count
-no_session p arg fuel told count = ([], go (main_of p), past_history p told told [] (no_past p told), refl)
+no_session p arg fuel told count = ([], go (main_of p), tt, past_history p told told [] (no_past p told), refl)
   where
     go : (main : Option FunDef) → IfSome main (λ f. HasBegun (session p f arg) fuel [])
     go None = tt
@@ -111,4 +115,5 @@ no_session p arg fuel told count = ([], go (main_of p), past_history p told told
 -- the same of the session of a program's `main`
 pub session_history : (p : Program) (main : FunDef) (arg : List ℕ) (fuel : ℕ) (old new : Option Tables) (before after : ℕ) → Some main ≡ main_of p → HasFirstHistory p (session p main arg) fuel old new before after
     → HasSomeHistory p arg fuel old new before after
-session_history p main arg fuel old new before after is (events, begun, history, counted) = (events, subst (λ o. IfSome o (λ f. HasBegun (session p f arg) fuel events)) is begun, history, counted)
+session_history p main arg fuel old new before after is (events, begun, answered, history, counted) =
+    (events, subst (λ o. IfSome o (λ f. HasBegun (session p f arg) fuel events)) is begun, answered, history, counted)

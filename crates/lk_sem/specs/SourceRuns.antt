@@ -22,7 +22,7 @@ use Rattle.lk_evaluation.specs.Laws.{run_of}
 use Rattle.lk_evaluation.specs.Run.{Run, Out, Goes, Stops, Trapped, Spent, Waiting, events_of, answers_in, start}
 use Rattle.lk_evaluation.specs.Source.{session}
 use Rattle.lk_outside.specs.Causes.{next_count}
-use Rattle.lk_sem.specs.Histories.{write_event}
+use Rattle.lk_sem.specs.Histories.{HasAnswer, write_event}
 use Rattle.lk_sem.specs.declared.run.SourceEnd.{SourceEnd}
 use Rattle.lk_sem.specs.declared.run.SourceEnd.TheVariants as end
 use Rattle.lk_sem.specs.declared.run.SourceRun.{SourceRun}
@@ -94,10 +94,10 @@ commits_after (Leave ∷ events) count = commits_after events count
 commits_after (Read e ∷ events) count = commits_after events (next_count count)
 commits_after (Write e ∷ events) count = commits_after events (next_count count)
 
--- First events of an evaluation lead from the old tables to the new, and the count of committed transactions from that before to that
+-- First events of an evaluation, whose readings have answers over some tables that fit, lead from the old tables to the new, and the count of committed transactions from that before to that
 -- after: so the new tables are those after the last transaction that was committed.
 abbrev pub HasFirstHistory : Program → (Run → Out Value) → ℕ → Option Tables → Option Tables → ℕ → ℕ → Type 0
-HasFirstHistory p evaluation fuel old new before after = (events : List Event) × HasBegun evaluation fuel events × HasHistory p old new events × (after ≡ commits_after events before)
+HasFirstHistory p evaluation fuel old new before after = (events : List Event) × HasBegun evaluation fuel events × Each (HasAnswer p) events × HasHistory p old new events × (after ≡ commits_after events before)
 
 -- these events come first in a session
 abbrev pub HasBegunSession : Program → List ℕ → ℕ → List Event → Type 0
@@ -105,7 +105,7 @@ HasBegunSession p arg fuel events = IfSome (main_of p) (λ main. HasBegun (sessi
 
 -- the same of a session
 abbrev pub HasSomeHistory : Program → List ℕ → ℕ → Option Tables → Option Tables → ℕ → ℕ → Type 0
-HasSomeHistory p arg fuel old new before after = (events : List Event) × HasBegunSession p arg fuel events × HasHistory p old new events × (after ≡ commits_after events before)
+HasSomeHistory p arg fuel old new before after = (events : List Event) × HasBegunSession p arg fuel events × Each (HasAnswer p) events × HasHistory p old new events × (after ≡ commits_after events before)
 
 -- ---- what is shown
 

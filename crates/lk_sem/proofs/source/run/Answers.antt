@@ -35,7 +35,7 @@ pub returns-in_err-next-in-Ok-clause-refused : goal.returns-in_err-next-in-Ok-cl
 returns-in_err-next-in-Ok-clause-refused g c =
     if_err _ c.from_residual-in_err-next-in-Ok.result (first_read c.args.catalog.now c.args.machine.now c.loop-next.machine (outcome c.args.catalog.now c.args.first) c.args.machine.now.fuel c.requires.log refl c.requires.sound c.loop-next.next _ _ c.loop-next.invariant.stands
     ((goal.Store-dyn g c.args.store.now).commits c.args.store.now.1) _ _ _ c.in-Read.back c.in-Read.site c.in-Read.args c.in-Ok.rows c.in-Read.is c.read_at.ensures.tables
-    (rw c.as_slice.ensures at c.in-Ok.ensures.follows) c.loop-next.invariant.commits c.in-Ok.ensures.counted)
+    (rw c.as_slice.ensures at c.in-Ok.ensures.answered) (rw c.as_slice.ensures at c.in-Ok.ensures.follows) c.loop-next.invariant.commits c.in-Ok.ensures.counted)
 
 pub returns-in-Err-clause-refused : goal.returns-in-Err-clause-refused
 returns-in-Err-clause-refused g c =
