@@ -1,5 +1,6 @@
 //! Nodes that are used again where the same is to be made: those without variables, since types with variables seldom come twice, and
-//! fields before a row, since that a row lacks their labels is said by an equation of both with themselves.
+//! fields before a row with the record or variant of them, since that the row lacks their labels is said by an equation of that type
+//! with itself.
 //! Which these are and under which number one is looked for is no part of any contract: what is found is compared.
 
 ghost use Rattle.std.specs.Prelude.{◌≡◌, IfOk, IfSome, IsTrue};
@@ -217,10 +218,11 @@ fn note_closed(closed: &mut List<bool>, node: usize, is_closed: bool) -> Result<
     closed.push(is_closed)
 }
 
-/// Whether a node is kept: one that is closed, or fields before a row.
+/// Whether a node is kept: one that is closed, fields before a row, or a record or a variant.
 fn is_kept(kind: NodeKind, shape: &Shape, is_closed: bool) -> bool {
     match shape {
         Shape::Row(_, _) => is_closed || kind == NodeKind::Fields,
+        Shape::Made(head, _) => is_closed || *head == Head::Fields || *head == Head::Tags,
         _ => is_closed,
     }
 }
