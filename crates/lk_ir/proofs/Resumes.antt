@@ -1,6 +1,6 @@
 -- What a continuation keeps of the names is enough: a frame at its position goes on alike, and where the kept values are bound anew,
 -- the kept names have them again.
-use Rattle.std.proofs.Common.{◌≡◌, refl, sym, ap, ◌∙◌, ℕ, suc, Bool, true, false, cond, ◌==◌, List, [], ◌∷◌, ◌++◌, Option, Some, None, drop, length, length-append, add-one, slice_get}
+use Rattle.std.proofs.Common.{◌≡◌, refl, sym, ap, ◌∙◌, ℕ, suc, Bool, true, false, cond, ◌==◌, List, [], ◌∷◌, ◌++◌, Option, Some, None, drop, length, length-append, add-one, append-nil, slice_get}
 use Rattle.std.specs.Prelude.{◌||◌}
 use Rattle.std.proofs.lemmas.Bool.{eqb-true}
 use Rattle.std.proofs.lemmas.Option.{none-some}
@@ -15,7 +15,7 @@ use Rattle.lk_moves.specs.Frames.{Part, continued, handed_by}
 use Rattle.lk_ir.proofs.Lookups.{bound, only_lookup, same_names}
 use Rattle.lk_ir.specs.Continuing.{act_in, behind, continuing, conts_at, going, is_among, only, parts_in}
 use Rattle.lk_ir.specs.Environments.{Env, bind, bind_each, lookup, lookup_all, no_names}
-use Rattle.lk_ir.specs.Law.{AreMatched, IsContAt, IsSteady}
+use Rattle.lk_ir.specs.Law.{AreMatched, IsContAt, IsSteady, IsTurnAt}
 use Rattle.lk_ir.specs.LetNormal.{Point, act, under}
 use Rattle.lk_ir.specs.Tables.{names_of}
 use Rattle.lk_ir.specs.declared.nodes.Cont.{Cont}
@@ -136,6 +136,25 @@ module _ (f : Forms) (all : List Conts) (n : ℕ) (done : List Value) (place : L
         ∙ ap (λ env. goes_on (drop (length (done ++ v ∷ [])) (going ps cs kept)) (Some (under names at.position)) (λ values. act f at.form.at at.form.kind at.form.tails env values))
         (same_behind at.earlier at.later at.position at.first at.rest c at.matched names at.steady)
         ∙ sym (frame_is kept (kept_steady at.first (names_of c.keeps) names at.steady))
+
+-- ---- turns
+
+module _ (f : Forms) (all : List Conts) (n : ℕ) (c : Cont) (names : Env) (at : IsTurnAt f all n c names) where
+  abbrev turning : List (Option Cont) → Env → List Value → Act Point
+  turning ds env values = act f at.form.at at.form.kind at.form.tails (behind at.form.parts ds env) values
+
+  turning_is : (env : Env) (values : List Value) → (continuing f all).act (under env n) values ≡ turning (at.first ++ Some c ∷ []) env values
+  turning_is env values = ap (λ o. act_in f all o n env values) at.there ∙ ap (λ ds. turning ds env values) at.conts
+
+  turn_left : (env : Env) → IsSteady at.first env → behind at.form.parts (at.first ++ Some c ∷ []) env ≡ only (names_of c.keeps) env
+  turn_left env steady = ap (λ ks. behind ks (at.first ++ Some c ∷ []) env) (sym (append-nil at.form.parts)) ∙ behind_there at.form.parts [] at.first (Some c ∷ []) at.matched env steady
+
+  pub turns : (values : List Value) → (continuing f all).act (under names n) values ≡ (continuing f all).act (under (only (names_of c.keeps) names) n) values
+  turns values =
+      let xs = names_of c.keeps in
+      turning_is names values
+      ∙ ap (λ env. act f at.form.at at.form.kind at.form.tails env values) (turn_left names at.steady ∙ sym (only_again xs names) ∙ sym (turn_left (only xs names) (kept_steady at.first xs names at.steady)))
+      ∙ sym (turning_is (only xs names) values)
 
 -- ---- the values that a frame holds
 

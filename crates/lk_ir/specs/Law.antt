@@ -1,5 +1,5 @@
 -- The laws of continuations; their proofs stand in proofs/.
-use Rattle.std.specs.Prelude.{◌≡◌, ℕ, List, [], ◌∷◌, ◌++◌, Option, Some, None, length}
+use Rattle.std.specs.Prelude.{◌≡◌, ◌⊎◌, ℕ, false, List, [], ◌∷◌, ◌++◌, Option, Some, None, length, slice_get}
 use Rattle.lk_ast.specs.declared.place.Loc.{Loc}
 use Rattle.lk_ast.specs.declared.value.Value.{Value}
 use Rattle.lk_evaluation.specs.Evaluation.{eval}
@@ -7,13 +7,26 @@ use Rattle.lk_evaluation.specs.Run.{Run}
 use Rattle.lk_moves.specs.Frames.{Part, continued}
 use Rattle.lk_ir.specs.Continuing.{conts_at, continuing, only}
 use Rattle.lk_ir.specs.Environments.{Env, bind_each, lookup, lookup_all, no_names}
-use Rattle.lk_ir.specs.LetNormal.{Point, let_normal, under}
+use Rattle.lk_ir.specs.LetNormal.{Point, let_normal, plain_in, under}
 use Rattle.lk_ir.specs.Tables.{form_at, names_of}
-use Rattle.lk_ir.specs.Uses.{AreNamed, Uses}
+use Rattle.lk_ir.specs.Uses.{AreNamed, Uses, UsedIn, turned}
 use Rattle.lk_ir.specs.declared.nodes.Cont.{Cont}
 use Rattle.lk_ir.specs.declared.nodes.Conts.{Conts}
 use Rattle.lk_ir.specs.declared.nodes.Form.{Form}
 use Rattle.lk_ir.specs.declared.nodes.Forms.{Forms}
+use Rattle.lk_ir.specs.declared.nodes.Kind.TheVariants as kind
+
+-- A name that a node's only tail binds isn't used by it, unless by a position.
+abbrev pub HiddenLaw : Type 0
+HiddenLaw = (f : Forms) (n x body : ℕ) (form : Form) → form_at f n ≡ Some form → ((form.kind ≡ kind.Bind x) ⊎ (form.kind ≡ kind.For x)) → form.tails ≡ body ∷ [] → Uses f x n → UsedIn f x form.parts
+
+-- what has no continuation has a value without a step: each other position has one, and so has the body of a `for`
+pub record HasConts (f : Forms) (all : List Conts) (n : ℕ) (form : Form) : Type 0 where
+  pub position : (k m : ℕ) → slice_get form.parts k ≡ Some m → plain_in f (form_at f m) ≡ false → (c : Cont) × (slice_get (conts_at all n) k ≡ Some (Some c))
+  pub turn : (body : ℕ) → turned form.kind form.tails ≡ Some body → plain_in f (form_at f body) ≡ false → (c : Cont) × (slice_get (conts_at all n) (length form.parts) ≡ Some (Some c))
+
+abbrev pub HasContsLaw : Type 0
+HasContsLaw = (f : Forms) (all : List Conts) → AreNamed f all → (n : ℕ) (form : Form) → form_at f n ≡ Some form → HasConts f all n form
 
 -- the same node, under names that have the same values where it uses them
 abbrev pub Agree : Forms → Point → Point → Type 0
@@ -56,6 +69,21 @@ pub record IsContAt (f : Forms) (all : List Conts) (n before : ℕ) (c : Cont) (
 abbrev pub ResumesLaw : Type 0
 ResumesLaw = (f : Forms) (all : List Conts) (n : ℕ) (c : Cont) (names : Env) (done : List Value) → IsContAt f all n (length done) c names → (place : Loc) (v : Value) (r : Run)
     → continued (continuing f all) (Part (under names n) done place) v r ≡ continued (continuing f all) (Part (under (only (names_of c.keeps) names) n) done place) v r
+
+-- This continuation is that of the body of a node, behind those of all its positions, and these have nothing more to take from the
+-- names.
+pub record IsTurnAt (f : Forms) (all : List Conts) (n : ℕ) (c : Cont) (names : Env) : Type 0 where
+  pub form : Form
+  pub there : form_at f n ≡ Some form
+  pub first : List (Option Cont)
+  pub conts : conts_at all n ≡ first ++ Some c ∷ []
+  pub matched : AreMatched form.parts first
+  pub steady : IsSteady first names
+
+-- Behind all positions a node does the same from all names and from those alone that the continuation of its body keeps.
+abbrev pub TurnsLaw : Type 0
+TurnsLaw = (f : Forms) (all : List Conts) (n : ℕ) (c : Cont) (names : Env) (values : List Value) → IsTurnAt f all n c names
+    → (continuing f all).act (under names n) values ≡ (continuing f all).act (under (only (names_of c.keeps) names) n) values
 
 -- These names alone are what binding their values to them anew makes.
 abbrev pub KeptLaw : Type 0

@@ -1,15 +1,18 @@
 -- What an evaluation does next, for any language.
 use Rattle.std.proofs.Common.{◌≡◌, ℕ, zero, suc, ◌+◌, List, [], ◌∷◌, ◌++◌, length, drop, refl, sym, ◌∙◌, ap, length-append, add-one, append-nil, arith}
 use Rattle.std.specs.Prelude.{Some, None, slice_get}
+use Rattle.lk_ast.specs.declared.event.Event.TheVariants.{Enter, Leave}
 use Rattle.lk_ast.specs.declared.place.Loc.{Loc}
+use Rattle.lk_ast.specs.declared.place.Loc.TheVariants.{Client, Server}
 use Rattle.lk_ast.specs.declared.place.Span.{Span}
+use Rattle.lk_ast.specs.declared.value.FunValue.{FunValue}
 use Rattle.lk_ast.specs.declared.value.Value.{Value}
 use Rattle.lk_evaluation.proofs.Fixpoint.{eval_is}
-use Rattle.lk_evaluation.specs.Evaluation.{Language, all_parts, each, eval, handed, joined, node, perform}
-use Rattle.lk_evaluation.specs.Run.{Run, Out, Goes, Stops, and_then, enter_with}
+use Rattle.lk_evaluation.specs.Evaluation.{Language, Goto, client_call, all_parts, each, eval, handed, joined, node, perform}
+use Rattle.lk_evaluation.specs.Run.{Run, Out, Goes, Stops, and_then, enter_with, Function, Called, logs, step}
 use Rattle.lk_operators.specs.Values.{list_in}
-use Rattle.lk_moves.specs.Courses.{Takes, before, entering}
-use Rattle.lk_moves.specs.Frames.{Part, Turn, continued, handed_by, rest, resumed}
+use Rattle.lk_moves.specs.Courses.{Evaluation, Takes, before, entering, one_step}
+use Rattle.lk_moves.specs.Frames.{Part, Turn, Back, continued, handed_by, rest, resumed}
 use Rattle.lk_moves.specs.Laws.{MovesLaw}
 
 drop_past : {A : Type 0} (xs : List A) (n : ℕ) → slice_get xs n ≡ None → drop n xs ≡ []
@@ -58,5 +61,16 @@ module _ (l : Language) where
       go (Goes u s) = refl
       go (Stops z s) = refl
 
+  pub to_server : (function : FunValue) (args : List Value) (body : l.Point) (r : Run) → perform l (eval l) Client (Goto Server function args body) r ≡ and_then (eval l body Server (logs Enter (Called (Function function) args) (step r))) (continued l (Back Client))
+  to_server function args body r = refl
+
+  pub to_client : (function : FunValue) (args : List Value) (body : l.Point) (r : Run) → r.returns ≡ None → perform l (eval l) Server (Goto Client function args body) r ≡ and_then (eval l body Client (logs Leave (Called (Function function) args) (step r))) (continued l (Back Server))
+  to_client function args body r whole = ap (λ returns. client_call returns (Function function) args (eval l body Client) (logs Leave (Called (Function function) args) (step r))) whole
+
+  pub steps : (e : Evaluation) → Takes (λ r. e (step r)) one_step e
+  steps e r =
+      let fuel : 0 + r.fuel ≡ r.fuel = omega arith in
+      ap (λ n. e (step (record r { fuel = n }))) fuel ∙ ap (λ log. e (record r { steps = r.steps + 1; log = log })) (sym (append-nil r.log))
+
   pub moves_law : MovesLaw l
-  moves_law = record { enters = enters; acts = acts; waits = waits; turns = turns }
+  moves_law = record { enters = enters; acts = acts; waits = waits; turns = turns; to_server = to_server; to_client = to_client; steps = steps }

@@ -1,13 +1,16 @@
 -- The laws of stretches; their proofs stand in proofs/.
 use Rattle.std.specs.Prelude.{◌≡◌, ℕ, suc, ◌+◌, List, [], ◌∷◌, ◌++◌, Some, None, length, slice_get}
+use Rattle.lk_ast.specs.declared.event.Event.TheVariants.{Enter, Leave}
 use Rattle.lk_ast.specs.declared.place.Loc.{Loc}
+use Rattle.lk_ast.specs.declared.place.Loc.TheVariants.{Client, Server}
 use Rattle.lk_ast.specs.declared.place.Span.{Span}
+use Rattle.lk_ast.specs.declared.value.FunValue.{FunValue}
 use Rattle.lk_ast.specs.declared.value.Value.{Value}
-use Rattle.lk_evaluation.specs.Evaluation.{Language, each, perform, eval}
+use Rattle.lk_evaluation.specs.Evaluation.{Language, Goto, each, perform, eval}
 use Rattle.lk_evaluation.specs.Laws.{MatchingOuts}
-use Rattle.lk_evaluation.specs.Run.{Run, Out, Stops, Stop, and_then}
-use Rattle.lk_moves.specs.Courses.{Course, Evaluation, Takes, TakesWhole, entering, followed}
-use Rattle.lk_moves.specs.Frames.{Frame, Part, Turn, continued, resumed, wound}
+use Rattle.lk_evaluation.specs.Run.{Run, Out, Stops, Stop, and_then, Function, Called, logs, step}
+use Rattle.lk_moves.specs.Courses.{Course, Evaluation, Takes, TakesWhole, entering, followed, one_step}
+use Rattle.lk_moves.specs.Frames.{Frame, Part, Turn, Back, continued, resumed, wound}
 use Rattle.lk_moves.specs.Later.{Later}
 
 abbrev pub Equal : Value → Value → Type 0
@@ -45,6 +48,13 @@ pub record MovesLaw (l : Language) : Type 0 where
   -- the next of several bodies is evaluated, and those behind it wait
   pub turns : (at : Span) (body : l.Point) (bodies : List l.Point) (place : Loc) (made : List Value) (r : Run)
       → each l (eval l) at (body ∷ bodies) place made r ≡ and_then (eval l body place r) (continued l (Turn at body bodies place made))
+  -- a call of a function of the other place is its body there, behind what is logged of the call, and a frame goes back
+  pub to_server : (function : FunValue) (args : List Value) (body : l.Point) (r : Run)
+      → perform l (eval l) Client (Goto Server function args body) r ≡ and_then (eval l body Server (logs Enter (Called (Function function) args) (step r))) (continued l (Back Client))
+  pub to_client : (function : FunValue) (args : List Value) (body : l.Point) (r : Run) → r.returns ≡ None
+      → perform l (eval l) Server (Goto Client function args body) r ≡ and_then (eval l body Client (logs Leave (Called (Function function) args) (step r))) (continued l (Back Server))
+  -- what begins a step later is behind a stretch of one step
+  pub steps : (e : Evaluation) → Takes (λ r. e (step r)) one_step e
 
 -- an evaluation gets later
 pub record LaterLaw (l : Language) : Type 0 where

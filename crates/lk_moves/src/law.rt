@@ -16,7 +16,8 @@ ghost use Rattle.lk_moves.specs.Laws.{EqualLaw, FollowedLaw, FramesLaw, LaterLaw
 /// do, and what ends an evaluation passes all frames.
 ///
 /// `moves`: what an evaluation does next is a stretch, or the same evaluation said of its frames: it enters a point, acts, or goes on
-/// with a part or with one of several bodies while a frame waits.
+/// with a part or with one of several bodies while a frame waits. A call of a function of the other place is logged, and a frame
+/// takes its value back. What begins a step later is behind a stretch of one step.
 ///
 /// `later`: an evaluation only adds to the log, with numbers that never fall, from the steps at which it began to those at which
 /// it ends; so does what frames do.
