@@ -5,6 +5,7 @@ ghost use Rattle.lk_infer.specs.Inferred.{HasTypes};
 use crate::case::Case;
 use crate::changes::changes_lines;
 use crate::compare::compare_printed;
+use crate::forms::forms_lines;
 use crate::instances::{calls_lines, counts_line, types_lines};
 use crate::reader::read_case;
 use crate::run::Run;
@@ -27,6 +28,8 @@ enum View {
     Counts,
     /// Its updates and deletions as SQL.
     Changes,
+    /// The table of nodes that it becomes.
+    Forms,
     /// Nothing, since there is no view of that name.
     Unknown,
 }
@@ -73,6 +76,7 @@ fn view_of(run: &Run) -> View {
         b"types" => View::Types,
         b"counts" => View::Counts,
         b"changes" => View::Changes,
+        b"forms" => View::Forms,
         _ => View::Unknown,
     }
 }
@@ -123,6 +127,7 @@ fn lines_of(alloc: Global, view: View, program: &GroundProgram) -> Result<String
         View::Types => types_lines(alloc, program),
         View::Counts => counts_line(alloc, program),
         View::Changes => changes_lines(alloc, program),
+        View::Forms => forms_lines(alloc, program),
         View::Unknown => line(alloc, "no such view"),
     }
 }

@@ -5,6 +5,7 @@
 mod case;
 mod changes;
 mod compare;
+mod forms;
 mod ground;
 mod instances;
 mod reader;

@@ -41,7 +41,7 @@ drop_sum n (suc m) (x ∷ xs) = drop_sum n m xs ∙ sym (ap (λ k. drop k (x ∷
 abbrev pub children_of : Layer → List Expr
 children_of l = parts_of l ++ tails_of l
 
-same_last : (last : Option _) → last_bodies last ≡ last_body last
+pub same_last : (last : Option _) → last_bodies last ≡ last_body last
 same_last None = refl
 same_last (Some last) = refl
 

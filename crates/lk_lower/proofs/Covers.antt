@@ -1,14 +1,16 @@
 -- Each node of a table is that of an expression, and the numbers of a node's children are above its own.
-use Rattle.std.proofs.Common.{◌≡◌, ◌⊎◌, inl, inr, refl, sym, subst, ℕ, ◌+◌, ◌≤◌, ◌<◌, List, length, arith}
+use Rattle.std.proofs.Common.{◌≡◌, ◌⊎◌, inl, inr, refl, sym, subst, ◌∙◌, ℕ, ◌+◌, ◌≤◌, ◌<◌, List, length, arith}
 use Rattle.std.proofs.lemmas.Bool.{cases_lt}
+use Rattle.std.proofs.lemmas.Option.{same_Some, slice_get_within}
 use Rattle.lk_ast.specs.Layers.{Layer}
 use Rattle.lk_ast.specs.declared.expression.Expr.{Expr}
 use Rattle.lk_ast.specs.declared.place.Span.{Span}
 use Rattle.lk_ground.specs.declared.program.GroundFun.{GroundFun}
 use Rattle.lk_ground.specs.declared.program.GroundProgram.{GroundProgram}
+use Rattle.lk_ir.specs.declared.nodes.Form.{Form}
 use Rattle.lk_ir.specs.declared.nodes.Forms.{Forms}
 use Rattle.lk_ir.specs.declared.nodes.Kind.{Kind}
-use Rattle.lk_lower.specs.Law.{AreFrom, IsCovered}
+use Rattle.lk_lower.specs.Law.{AreFrom, ArePreOrdered, IsCovered}
 use Rattle.lk_lower.specs.Lowering as low
 use Rattle.lk_lower.specs.Lowering.{Pending, Shell, IsLowered, AreLowered, AreFuns, AreForms}
 
@@ -136,3 +138,10 @@ module _ (f : Forms) where
 
   pub each_node : (g : GroundProgram) → AreForms g f → (k : ℕ) → k < length f.nodes → IsCovered f k
   each_node g of k to = all_nodes 0 g.funs 1 0 of.funs k (let e : 0 ≤ k = omega arith in e) to
+
+-- the children of each node have greater numbers
+pub pre_ordered : (g : GroundProgram) (f : Forms) → AreForms g f → ArePreOrdered f
+pre_ordered g f of n form is =
+    let one : IsCovered f n = each_node f g of n (slice_get_within f.nodes n form is) in
+    let same : one.form ≡ form = same_Some _ _ (sym one.is ∙ is) in
+    subst (λ (form : Form). AreFrom (n + 1) form.parts × AreFrom (n + 1) form.tails) same (one.parts, one.tails)

@@ -1,38 +1,25 @@
 -- Tables that grow: what a walk over an expression makes of them, in the order of the text. A node's place is reserved before its
 -- children are walked, and filled behind them; labels, types and tables only grow at their end.
-use Rattle.std.proofs.Common.{◌≡◌, refl, sym, ap, subst, ◌∙◌, ℕ, zero, suc, ◌+◌, List, [], ◌∷◌, ◌++◌, Some, length, append_assoc, append-nil, length-append, slice_get}
-use Rattle.std.proofs.Math.ListN.{set}
+use Rattle.std.proofs.Common.{◌≡◌, refl, sym, ap, subst, ◌∙◌, ℕ, ◌+◌, List, [], ◌∷◌, ◌++◌, Some, length, append_assoc, append-nil, length-append, slice_get}
+use Rattle.std.proofs.Math.ListN.{set, length-set}
 use Rattle.std.proofs.Math.Seq.{set-append_seam}
-use Rattle.std.proofs.lemmas.Option.{none-some}
 use Rattle.lk_ast.specs.Layers.{layer}
 use Rattle.lk_ast.specs.declared.expression.Expr.{Expr}
 use Rattle.lk_ast.specs.declared.expression.LambdaExpr.{LambdaExpr}
 use Rattle.lk_ast.specs.declared.expression.Node.TheOpen.{Node-F}
 use Rattle.lk_evaluation.specs.Syntax.{parts_of}
+use Rattle.lk_ground_types.proofs.Entering.{front_there}
 use Rattle.lk_index.specs.Free.{captured}
-use Rattle.lk_types.specs.declared.ground.Ground.{Ground}
 use Rattle.lk_ir.specs.declared.nodes.Body.{Body}
 use Rattle.lk_ir.specs.declared.nodes.Form.{Form}
 use Rattle.lk_ir.specs.declared.nodes.Forms.{Forms}
 use Rattle.lk_ir.specs.declared.nodes.Kind.TheVariants as kind
-use Rattle.lk_ir.specs.declared.nodes.LabelForm.{LabelForm}
-use Rattle.lk_ir.specs.declared.nodes.Touched.{Touched}
+use Rattle.lk_lower.specs.Growing.{AllLower, Begins, Grows, Has, Lowers, State}
+use Rattle.lk_lower.specs.Steps.{with_form}
 use Rattle.lk_lower.specs.Lowering as low
 use Rattle.lk_lower.specs.Lowering.{Pending, Shell, IsLowered, AreLocals, AreLowered, IsBodyLabel, TypeIs, tails_of, behind_label}
 
--- ---- states of a walk
-
-pub record State : Type 0 where
-  pub nodes : List Form
-  pub labels : List LabelForm
-  -- the local names, which are known before the walk
-  pub locals : List (List ℕ)
-  pub types : List Ground
-  pub tables : List Touched
-  pub pending : Pending
-
-abbrev pub Begins : {A : Type 0} → List A → List A → Type 0
-Begins {A} xs ys = (more : List A) × (ys ≡ xs ++ more)
+-- ---- lists that begin with others
 
 abbrev pub begins_itself : {A : Type 0} (xs : List A) → Begins xs xs
 begins_itself xs = ([], sym (append-nil xs))
@@ -40,29 +27,14 @@ begins_itself xs = ([], sym (append-nil xs))
 abbrev pub begins_then : {A : Type 0} (xs ys zs : List A) → Begins xs ys → Begins ys zs → Begins xs zs
 begins_then xs ys zs one two = (one.0 ++ two.0, two.1 ∙ ap (λ r. r ++ two.0) one.1 ∙ append_assoc xs one.0 two.0)
 
-front_there : {A : Type 0} (xs more : List A) (k : ℕ) (x : A) → slice_get xs k ≡ Some x → slice_get (xs ++ more) k ≡ Some x
-front_there [] more k x is = absurd (none-some x is)
-front_there (y ∷ xs) more zero x is = is
-front_there (y ∷ xs) more (suc k) x is = front_there xs more k x is
+pub there : {A : Type 0} (front back : List A) (x : A) → slice_get (front ++ x ∷ back) (length front) ≡ Some x
+there [] back x = refl
+there (y ∷ front) back x = there front back x
 
 pub still_there : {A : Type 0} (xs ys : List A) (k : ℕ) (x : A) → Begins xs ys → slice_get xs k ≡ Some x → slice_get ys k ≡ Some x
 still_there xs ys k x begins is = ap (λ all. slice_get all k) begins.1 ∙ front_there xs begins.0 k x is
 
--- a table has what a state has of labels, names, types and tables
-pub record Has (s : State) (f : Forms) : Type 0 where
-  pub locals : f.locals ≡ s.locals
-  pub labels : Begins s.labels f.labels
-  pub types : Begins s.types f.types
-  pub tables : Begins s.tables f.tables
-
--- a state that another one has grown to
-pub record Grows (old new : State) : Type 0 where
-  pub locals : new.locals ≡ old.locals
-  pub own : List Form
-  pub is : new.nodes ≡ old.nodes ++ own
-  pub labels : Begins old.labels new.labels
-  pub types : Begins old.types new.types
-  pub tables : Begins old.tables new.tables
+-- ---- states
 
 abbrev pub grows_itself : (s : State) → Grows s s
 grows_itself s = record { locals = refl; own = []; is = sym (append-nil s.nodes); labels = begins_itself s.labels; types = begins_itself s.types; tables = begins_itself s.tables }
@@ -85,20 +57,12 @@ had a b f grows has = record {
   tables = begins_then a.tables b.tables f.tables grows.tables has.tables;
 }
 
+-- with a node's place reserved; labels, types and tables, and what is to come, may be others by then
+abbrev pub reserved : State → Form → State → State
+reserved old hole inside = record { nodes = old.nodes ++ hole ∷ []; labels = inside.labels; locals = inside.locals; types = inside.types; tables = inside.tables; pending = inside.pending }
+
 module _ (owner : ℕ) where
-  -- The tables have grown by nodes of their own, which are what the expression is lowered to whatever stands before and behind them.
-  pub record Lowers (within : ℕ) (old new : State) (e : Expr) (n : ℕ) : Type 0 where
-    pub grows : Grows old new
-    pub number : n ≡ length old.nodes
-    -- the next number is that of the next node
-    pub next : new.pending.next ≡ length new.nodes
-    pub stands : (f : Forms) (front back : List Form) → f.nodes ≡ front ++ (grows.own ++ back) → length front ≡ length old.nodes → Has new f → IsLowered f owner within e old.pending n new.pending
-
-  pub record AllLower (within : ℕ) (old new : State) (es : List Expr) (ns : List ℕ) : Type 0 where
-    pub grows : Grows old new
-    pub stands : (f : Forms) (front back : List Form) → f.nodes ≡ front ++ (grows.own ++ back) → length front ≡ length old.nodes → Has new f → AreLowered f owner within es old.pending ns new.pending
-
-  pub begins : (within : ℕ) (s : State) → AllLower within s s [] []
+  pub begins : (within : ℕ) (s : State) → AllLower owner within s s [] []
   begins within s = record { grows = grows_itself s; stands = λ f front back is same has. low.none }
 
   one_behind : {f : Forms} {within : ℕ} {es : List Expr} {p q r : Pending} {ns : List ℕ} (e : Expr) (n : ℕ) → AreLowered f owner within es p ns q → IsLowered f owner within e q n r → AreLowered f owner within (es ++ e ∷ []) p (ns ++ n ∷ []) r
@@ -109,7 +73,7 @@ module _ (owner : ℕ) where
   longer front a b g same = length-append front g.own ∙ ap (λ k. k + length g.own) same ∙ sym (length-append a.nodes g.own) ∙ ap length (sym g.is)
 
   -- one more expression
-  pub one_more : (within : ℕ) (old mid new : State) (es : List Expr) (ns : List ℕ) (e : Expr) (n : ℕ) → AllLower within old mid es ns → Lowers within mid new e n → AllLower within old new (es ++ e ∷ []) (ns ++ n ∷ [])
+  pub one_more : (within : ℕ) (old mid new : State) (es : List Expr) (ns : List ℕ) (e : Expr) (n : ℕ) → AllLower owner within old mid es ns → Lowers owner within mid new e n → AllLower owner within old new (es ++ e ∷ []) (ns ++ n ∷ [])
   one_more within old mid new es ns e n are one = record {
     grows = grows_then old mid new are.grows one.grows;
     stands = λ f front back is same has.
@@ -118,29 +82,12 @@ module _ (owner : ℕ) where
         (one.stands f (front ++ are.grows.own) back (is ∙ ap (λ xs. front ++ xs) (append_assoc are.grows.own one.grows.own back) ∙ sym (append_assoc front are.grows.own (one.grows.own ++ back))) (longer front old mid are.grows same) has);
   }
 
-  set_long : (xs : List Form) (k : ℕ) (x : Form) → length (set xs k x) ≡ length xs
-  set_long [] k x = refl
-  set_long (y ∷ xs) zero x = refl
-  set_long (y ∷ xs) (suc k) x = ap suc (set_long xs k x)
-
-  there : (front back : List Form) (form : Form) → slice_get (front ++ form ∷ back) (length front) ≡ Some form
-  there [] back form = refl
-  there (f ∷ front) back form = there front back form
-
-  -- with a node's place reserved; labels, types and tables, and what is to come, may be others by then
-  abbrev pub reserved : State → Form → State → State
-  reserved old hole inside = record { nodes = old.nodes ++ hole ∷ []; labels = inside.labels; locals = inside.locals; types = inside.types; tables = inside.tables; pending = inside.pending }
-
-  -- the reserved place gets its form
-  abbrev pub with_form : State → ℕ → Form → State
-  with_form s n form = record { nodes = set s.nodes n form; labels = s.labels; locals = s.locals; types = s.types; tables = s.tables; pending = s.pending }
-
   module _ (within : ℕ) (old inside between new : State) (hole form : Form) (e : Expr) where
     pub filled : Grows old (reserved old hole inside) → old.pending.next ≡ length old.nodes → new.pending.next ≡ length new.nodes → form.at ≡ e.span → form.within ≡ within
         → ((f : Forms) → Has new f → TypeIs f form.ty old.pending.types)
         → ((f : Forms) → Has new f → Shell f owner (length old.nodes) form.ty (layer e) e.span old.pending form.kind inside.pending)
-        → AllLower within (reserved old hole inside) between (parts_of (layer e)) form.parts → AllLower within between new (tails_of (layer e)) form.tails
-        → Lowers within old (with_form new (length old.nodes) form) e (length old.nodes)
+        → AllLower owner within (reserved old hole inside) between (parts_of (layer e)) form.parts → AllLower owner within between new (tails_of (layer e)) form.tails
+        → Lowers owner within old (with_form new (length old.nodes) form) e (length old.nodes)
     filled first here behind at in_it type shell parts tails =
         let own = parts.grows.own ++ tails.grows.own in
         let all = grows_then (reserved old hole inside) between new parts.grows tails.grows in
@@ -154,7 +101,7 @@ module _ (owner : ℕ) where
             tables = begins_then old.tables inside.tables new.tables first.tables all.tables;
           };
           number = refl;
-          next = behind ∙ sym (set_long new.nodes (length old.nodes) form);
+          next = behind ∙ sym (length-set new.nodes (length old.nodes) form);
           stands = λ f front back is same has.
               let has_new : Has new f = record { locals = has.locals; labels = has.labels; types = has.types; tables = has.tables } in
               let whole : f.nodes ≡ (front ++ form ∷ []) ++ (parts.grows.own ++ (tails.grows.own ++ back)) = is ∙ ap (λ xs. front ++ form ∷ xs) (append_assoc parts.grows.own tails.grows.own back) ∙ sym (append_assoc front (form ∷ []) (parts.grows.own ++ (tails.grows.own ++ back))) in
@@ -173,8 +120,8 @@ module _ (owner : ℕ) where
         → form.kind ≡ kind.Lambda old.pending.label xs → ((f : Forms) → Has new f → AreLocals f xs (captured l)) → form.parts ≡ [] → form.tails ≡ []
         → ((f : Forms) → Has new f → IsBodyLabel f owner (Some (length old.nodes)) form.ty old.pending.label l.place (captured l) l.params body)
         → inside.pending ≡ behind_label old.pending
-        → Lowers old.pending.label (reserved old form inside) new l.body body.root
-        → Lowers within old new e (length old.nodes)
+        → Lowers owner old.pending.label (reserved old form inside) new l.body body.root
+        → Lowers owner within old new e (length old.nodes)
     lambda_made first here is_lambda at in_it type kind_is locals no_part no_tail label pending inner =
         record {
           grows = grows_then old (reserved old form inside) new (record { locals = first.locals; own = form ∷ []; is = refl; labels = first.labels; types = first.types; tables = first.tables }) inner.grows;

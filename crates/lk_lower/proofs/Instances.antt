@@ -10,7 +10,7 @@ use Rattle.lk_ir.specs.declared.nodes.Kept.{Kept}
 use Rattle.lk_ir.specs.declared.nodes.Kind.TheVariants as kind
 use Rattle.lk_ground.specs.declared.program.GroundFun.{GroundFun}
 use Rattle.lk_ground.specs.declared.program.GroundProgram.{GroundProgram}
-use Rattle.lk_ir.specs.Tables.{body_of, mark_of, place_by, place_of}
+use Rattle.lk_ir.specs.Tables.{HasBodies, body_of, mark_of, most_instances, place_by, place_of}
 use Rattle.lk_ir.specs.declared.nodes.Forms.{Forms}
 use Rattle.lk_lower.specs.Law.{ArePlaces, IsBlock, place_of_fun, title_of_fun}
 use Rattle.lk_lower.specs.Lowering as low
@@ -63,3 +63,6 @@ pub placed_below : (g : GroundProgram) (f : Forms) → AreForms g f → (i : ℕ
 placed_below g f of i below =
     let all = all_places g f of in
     subst IsSome (sym (all.places i)) (some_below g.funs i (subst (λ n. i < n) all.counted below))
+
+pub have_bodies : (g : GroundProgram) (f : Forms) → length f.wholes < most_instances → AreForms g f → HasBodies f
+have_bodies g f few of = record { counted = few; bodies = placed_below g f of }

@@ -1,6 +1,11 @@
 pub mod Counted
+pub mod Counting
 pub mod Covers
+pub mod Following
 pub mod Growing
 pub mod Instances
+pub mod Naming
 pub mod NodesInside
 pub mod Samples
+pub mod Shaping
+pub mod Walking

@@ -27,6 +27,10 @@ use Rattle.lk_lower.specs.Lowering.{AreForms, IsLocal, IsLowered, IsTouched, Pen
 abbrev pub AreFrom : ℕ → List ℕ → Type 0
 AreFrom n ns = Each (λ k. n ≤ k) ns
 
+-- the children of a node have greater numbers than itself
+abbrev pub ArePreOrdered : Forms → Type 0
+ArePreOrdered f = (n : ℕ) (form : Form) → form_at f n ≡ Some form → AreFrom (n + 1) form.parts × AreFrom (n + 1) form.tails
+
 -- the node with this number is that of an expression, and its children have greater numbers
 pub record IsCovered (f : Forms) (n : ℕ) : Type 0 where
   pub owner : ℕ
