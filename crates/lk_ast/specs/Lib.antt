@@ -7,3 +7,4 @@ pub mod Layers
 pub mod Plain
 pub mod Rows
 pub mod Tables
+pub mod Texts

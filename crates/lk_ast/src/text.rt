@@ -1,27 +1,51 @@
+ghost use Rattle.lk_ast.specs.Texts.{bytes_of};
 ghost use Rattle.std.specs.Prelude.{◌≡◌, [], ◌++◌, length, bytes_eq, IsTrue, ◌↔◌, IfOk, OnOk, OnErr, string_bytes};
 
 use crate::memory::NoMemory;
+use crate::shared::Shared;
 use std::alloc::Global;
+use std::fmt;
 use std::marker::Model;
 
-/// A text, which contracts see as the list of its bytes in UTF-8.
-#[derive(Debug)]
+/// A text, which contracts see as the list of its bytes in UTF-8. Copies of a text that was made of a `&str` share its bytes.
 pub struct Text {
-    text: String,
+    bytes: TextBytes,
+}
+
+/// The bytes of a text: its own, which may grow, or those that it shares with its copies.
+enum TextBytes {
+    Own(String),
+    Shared(Shared<String>),
 }
 
 impl Drop for Text {
     fn drop(self) {
-        let Self { text: _ } = self;
+        let Self { bytes: _ } = self;
+    }
+}
+
+impl Drop for TextBytes {
+    fn drop(self) {
+        match self {
+            Self::Own(_) => {}
+            Self::Shared(_) => {}
+        }
     }
 }
 
 impl Model for Text {
-    ghost use Rattle.std.specs.Prelude.{List, ℕ, string_bytes};
+    ghost use Rattle.lk_ast.specs.Texts.{bytes_of};
+    ghost use Rattle.std.specs.Prelude.{List, ℕ};
 
     ghost Value = { List ℕ };
 
-    ghost view = { λ text. string_bytes text.text };
+    ghost view = { λ text. bytes_of text.bytes };
+}
+
+impl fmt::Debug for Text {
+    fn fmt<W: fmt::Write>(&self, f: &mut fmt::Formatter<W>) -> fmt::Result {
+        fmt::Debug::fmt(self.as_str(), f)
+    }
 }
 
 impl Text {
@@ -29,17 +53,16 @@ impl Text {
     pub fn new(alloc: Global) -> Text
         ensures { result ≡ [] }
     {
-        Text {
-            text: String::new(alloc),
-        }
+        Text::from_string(String::new(alloc))
     }
 
     /// A copy of a `&str`.
     pub fn from_str(alloc: Global, text: &str) -> Result<Text, NoMemory>
         ensures { IfOk result (λ made. made ≡ text.now) }
     {
+        let text = String::from_str(alloc, text)?;
         Ok(Text {
-            text: String::from_str(alloc, text)?,
+            bytes: TextBytes::Shared(Shared::new(alloc, text)?),
         })
     }
 
@@ -47,28 +70,33 @@ impl Text {
     pub fn from_string(text: String) -> Text
         ensures { result ≡ string_bytes text }
     {
-        Text { text }
+        Text {
+            bytes: TextBytes::Own(text),
+        }
     }
 
     /// The text as a `&str`.
     pub fn as_str(&self) -> &str
         ensures { result.now ≡ self.now }
     {
-        self.text.as_str()
+        match &self.bytes {
+            TextBytes::Own(text) => text.as_str(),
+            TextBytes::Shared(text) => text.get().as_str(),
+        }
     }
 
     /// How many bytes it has.
     pub fn len(&self) -> usize
         ensures { result ≡ length self.now }
     {
-        self.text.len()
+        self.as_str().len()
     }
 
     /// Whether it has no byte.
     pub fn is_empty(&self) -> bool
         ensures { IsTrue result ↔ (self.now ≡ []) }
     {
-        self.text.is_empty()
+        self.as_str().is_empty()
     }
 
     /// Adds a piece at the end, or is refused for want of memory and stays as it was.
@@ -76,7 +104,15 @@ impl Text {
         ensures ok { OnOk result (self.new ≡ self.old ++ piece.now) }
         ensures err { OnErr result (self.new ≡ self.old) }
     {
-        self.text.push_str(piece)?;
+        match &mut self.bytes {
+            TextBytes::Own(text) => {
+                text.push_str(piece)?;
+            }
+            TextBytes::Shared(text) => {
+                let grown = joined(text.get(), piece)?;
+                self.bytes = TextBytes::Own(grown);
+            }
+        }
         Ok(())
     }
 
@@ -85,13 +121,27 @@ impl Text {
         ensures same { IsTrue result ↔ (self.now ≡ other.now) }
         ensures test { result ≡ bytes_eq self.now other.now }
     {
-        self.text.as_str() == other.text.as_str()
+        self.as_str() == other.as_str()
     }
 
     /// The same text once more.
     pub fn copy(&self, alloc: Global) -> Result<Text, NoMemory>
         ensures { IfOk result (λ copy. copy ≡ self.now) }
     {
-        Text::from_str(alloc, self.text.as_str())
+        match &self.bytes {
+            TextBytes::Own(text) => Text::from_str(alloc, text.as_str()),
+            TextBytes::Shared(text) => Ok(Text {
+                bytes: TextBytes::Shared(text.share()?),
+            }),
+        }
     }
+}
+
+/// A text and a piece behind it.
+fn joined(text: &String, piece: &str) -> Result<String, NoMemory>
+    ensures { IfOk result (λ joined. string_bytes joined ≡ string_bytes text.now ++ piece.now) }
+{
+    let mut joined = String::from_str(*text.allocator(), text.as_str())?;
+    joined.push_str(piece)?;
+    Ok(joined)
 }
