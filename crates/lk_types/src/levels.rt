@@ -1,12 +1,13 @@
 //! Types as levels whose parts are named by their places.
 
-ghost use Rattle.lk_types.specs.Levels.{at, built, row_made, row_parts, types_at, AreBelow, IsTable};
+ghost use Rattle.lk_types.specs.Levels.{at, built, field_renumbered, level_renumbered, row_made, row_parts, row_renumbered, types_at, AreBelow, IsTable};
+ghost use Rattle.lk_types.specs.Moves.{renumbered};
 ghost use Rattle.lk_types.specs.Each.{Each};
 ghost use Rattle.lk_types.specs.Names.{place_in};
 ghost use Rattle.lk_types.specs.OneTypes.{level_renamed, level_row_renamed};
 ghost use Rattle.lk_types.specs.Sizes.{most_nodes, nodes};
 ghost use Rattle.std.specs.List.{list_any};
-ghost use Rattle.std.specs.Prelude.{◌≡◌, ◌<◌, ◌++◌, ◌∷◌, [], drop, IfOk, OnOk, length, nat_lt, Some, slice_get, take};
+ghost use Rattle.std.specs.Prelude.{◌≡◌, ◌<◌, ◌++◌, ◌∷◌, [], drop, IfOk, OnOk, length, map, nat_lt, Some, slice_get, take};
 
 use crate::counts::{any_over, level_counts};
 use crate::moves::{Numbering, count_of, kept_levels, moved_levels, moved_numbers, some_numbers};
@@ -92,6 +93,93 @@ impl LevelRow {
         let tail = names.row_end(first, tail)?;
         Ok(LevelRow { fields, tail })
     }
+}
+
+impl Level {
+    /// The level with its parts at their new places.
+    pub fn moved(self, numbering: Numbering<'_>) -> Result<Level, NoMemory>
+        ensures { IfOk result (λ moved. moved ≡ level_renumbered (renumbered numbering.entry) self) }
+    {
+        match self {
+            Self::Int => Ok(Self::Int),
+            Self::Bool => Ok(Self::Bool),
+            Self::Text => Ok(Self::Text),
+            Self::List(part) => numbering.of(part).map(Self::List),
+            Self::Fields(row) => row.moved(numbering).map(Self::Fields),
+            Self::Tags(row) => row.moved(numbering).map(Self::Tags),
+            Self::Fun(params, effects, part) => {
+                let part = numbering.of(part)?;
+                let params = params.into_vec();
+                let params = moved_numbers(*params.allocator(), numbering, params.as_slice())?;
+                Ok(Self::Fun(List::from_vec(params), effects, part))
+            }
+            Self::Var(number) => Ok(Self::Var(number)),
+        }
+    }
+
+    /// The same level once more.
+    pub fn copy(&self, alloc: Global) -> Result<Level, NoMemory>
+        ensures { IfOk result (λ copy. copy ≡ self.now) }
+    {
+        match self {
+            Self::Int => Ok(Self::Int),
+            Self::Bool => Ok(Self::Bool),
+            Self::Text => Ok(Self::Text),
+            Self::List(part) => Ok(Self::List(*part)),
+            Self::Fields(row) => row.copy(alloc).map(Self::Fields),
+            Self::Tags(row) => row.copy(alloc).map(Self::Tags),
+            Self::Fun(params, effects, part) => {
+                let params = Vec::from_slice(alloc, params.as_slice())?;
+                let effects = effects.copy(alloc)?;
+                Ok(Self::Fun(List::from_vec(params), effects, *part))
+            }
+            Self::Var(number) => Ok(Self::Var(*number)),
+        }
+    }
+}
+
+impl LevelRow {
+    /// The row with its parts at their new places.
+    fn moved(self, numbering: Numbering<'_>) -> Result<LevelRow, NoMemory>
+        ensures { IfOk result (λ moved. moved ≡ row_renumbered (renumbered numbering.entry) self) }
+    {
+        let LevelRow { fields, tail } = self;
+        let fields = moved_fields(fields.into_vec(), numbering)?;
+        Ok(LevelRow { fields, tail })
+    }
+
+    /// The same row once more.
+    fn copy(&self, alloc: Global) -> Result<LevelRow, NoMemory>
+        ensures { IfOk result (λ copy. copy ≡ self.now) }
+    {
+        let mut fields = List::new(alloc);
+        for field in self.fields.as_slice() {
+            let label = field.label.copy(alloc)?;
+            fields.push(LevelField {
+                label,
+                part: field.part,
+            })?;
+        }
+        Ok(LevelRow {
+            fields,
+            tail: self.tail,
+        })
+    }
+}
+
+/// The fields with their parts at their new places.
+fn moved_fields(
+    fields: Vec<LevelField>,
+    numbering: Numbering<'_>,
+) -> Result<List<LevelField>, NoMemory>
+    ensures { IfOk result (λ moved. moved ≡ map (field_renumbered (renumbered numbering.entry)) fields.items) }
+{
+    let mut moved = List::new(*fields.allocator());
+    for LevelField { label, part } in fields {
+        let part = numbering.of(part)?;
+        moved.push(LevelField { label, part })?;
+    }
+    Ok(moved)
 }
 
 /// Types, of which what stands in several is there once. Contracts see the list of the types.
@@ -185,6 +273,17 @@ impl Types {
         Types::thinned(alloc, self.levels.as_slice(), roots)
     }
 
+    /// As `part`, but over all the levels, of which none is copied.
+    pub fn into_part(self, from: usize, count: usize) -> Result<Types, NoMemory>
+        ensures { IfOk result (λ part. part ≡ take count (drop from self)) }
+    {
+        let Types { levels, roots } = self;
+        let alloc = *levels.allocator();
+        let numbers = some_numbers(roots.as_slice(), from, count);
+        let kept = Vec::from_slice(alloc, numbers)?;
+        Ok(Types::of(levels, kept))
+    }
+
     /// The types at these places, with the levels that stand in them alone.
     fn thinned(alloc: Global, levels: &[Level], roots: &[u32]) -> Result<Types, NoMemory>
         requires { IsTable levels.now roots.now }
@@ -200,11 +299,11 @@ impl Types {
     pub fn append(&mut self, other: Types) -> Result<(), NoMemory>
         ensures { OnOk result (self.new ≡ self.old ++ other) }
     {
-        let alloc = *self.levels.allocator();
+        let Types { levels, roots } = other;
         let by = count_of(self.levels.as_slice())?;
         let behind = Numbering::Behind(by);
-        let mut levels = moved_levels(alloc, behind, other.levels.as_slice())?;
-        let mut roots = moved_numbers(alloc, behind, other.roots.as_slice())?;
+        let mut levels = moved_levels(behind, levels)?;
+        let mut roots = moved_numbers(*self.roots.allocator(), behind, roots.as_slice())?;
         self.levels.append(&mut levels)?;
         self.roots.append(&mut roots)?;
         Ok(())

@@ -1,16 +1,14 @@
 //! Copies of levels, their parts at other places.
 
 ghost use Rattle.lk_types.specs.Each.{Each};
-ghost use Rattle.lk_types.specs.Levels.{field_renumbered, level_renumbered, row_renumbered};
+ghost use Rattle.lk_types.specs.Levels.{level_renumbered};
 ghost use Rattle.lk_types.specs.Moves.{renumbered};
 ghost use Rattle.lk_types.specs.Places.{kept};
-ghost use Rattle.lk_types.specs.declared.levels.Level.TheVariants as level;
 ghost use Rattle.std.specs.Prelude.{◌≡◌, ◌<◌, IfOk, drop, length, map, take};
 
-use crate::levels::{Level, LevelField, LevelRow};
+use crate::levels::Level;
 use crate::places::Places;
-use crate::ty::Effects;
-use lk_ast::{List, NoMemory};
+use lk_ast::NoMemory;
 use std::alloc::Global;
 
 /// Where the parts of levels that are copied stand.
@@ -37,16 +35,12 @@ impl Numbering<'_> {
 }
 
 /// All the levels, each with its parts at their new places.
-pub fn moved_levels(
-    alloc: Global,
-    numbering: Numbering<'_>,
-    levels: &[Level],
-) -> Result<Vec<Level>, NoMemory>
-    ensures { IfOk result (λ all. all.items ≡ map (level_renumbered (renumbered numbering.entry)) levels.now) }
+pub fn moved_levels(numbering: Numbering<'_>, levels: Vec<Level>) -> Result<Vec<Level>, NoMemory>
+    ensures { IfOk result (λ all. all.items ≡ map (level_renumbered (renumbered numbering.entry)) levels.items) }
 {
-    let mut all = Vec::new(alloc);
+    let mut all = Vec::new(*levels.allocator());
     for level in levels {
-        all.push(moved_level(alloc, numbering, level)?)?;
+        all.push(level.moved(numbering)?)?;
     }
     Ok(all)
 }
@@ -58,8 +52,8 @@ pub fn kept_levels(alloc: Global, levels: &[Level], places: &Places) -> Result<V
 {
     let mut all = Vec::new(alloc);
     for place in places.as_slice() {
-        let level = &levels[*place as usize];
-        all.push(moved_level(alloc, Numbering::Among(places), level)?)?;
+        let level = levels[*place as usize].copy(alloc)?;
+        all.push(level.moved(Numbering::Among(places))?)?;
     }
     Ok(all)
 }
@@ -92,61 +86,4 @@ pub fn count_of(levels: &[Level]) -> Result<u32, NoMemory>
     ensures { IfOk result (λ count. count ≡ length levels.now) }
 {
     u32::try_from(levels.len()).map_err(|_| NoMemory)
-}
-
-fn moved_level(alloc: Global, numbering: Numbering<'_>, level: &Level) -> Result<Level, NoMemory>
-    ensures { IfOk result (λ moved. moved ≡ level_renumbered (renumbered numbering.entry) level.now) }
-{
-    match level {
-        Level::Int => Ok(Level::Int),
-        Level::Bool => Ok(Level::Bool),
-        Level::Text => Ok(Level::Text),
-        Level::List(part) => numbering.of(*part).map(Level::List),
-        Level::Fields(row) => moved_row(alloc, numbering, row).map(Level::Fields),
-        Level::Tags(row) => moved_row(alloc, numbering, row).map(Level::Tags),
-        Level::Fun(params, effects, part) => {
-            moved_function(alloc, numbering, params.as_slice(), effects, *part)
-        }
-        Level::Var(number) => Ok(Level::Var(*number)),
-    }
-}
-
-fn moved_function(
-    alloc: Global,
-    numbering: Numbering<'_>,
-    params: &[u32],
-    effects: &Effects,
-    part: u32,
-) -> Result<Level, NoMemory>
-    ensures { IfOk result (λ moved. moved ≡ level.Fun (map (renumbered numbering.entry) params.now) effects.now (renumbered numbering.entry part)) }
-{
-    let part = numbering.of(part)?;
-    let params = moved_numbers(alloc, numbering, params)?;
-    let effects = effects.copy(alloc)?;
-    Ok(Level::Fun(List::from_vec(params), effects, part))
-}
-
-fn moved_row(alloc: Global, numbering: Numbering<'_>, row: &LevelRow) -> Result<LevelRow, NoMemory>
-    ensures { IfOk result (λ moved. moved ≡ row_renumbered (renumbered numbering.entry) row.now) }
-{
-    let mut fields = List::new(alloc);
-    for field in row.fields.as_slice() {
-        fields.push(moved_field(alloc, numbering, field)?)?;
-    }
-    Ok(LevelRow {
-        fields,
-        tail: row.tail,
-    })
-}
-
-fn moved_field(
-    alloc: Global,
-    numbering: Numbering<'_>,
-    field: &LevelField,
-) -> Result<LevelField, NoMemory>
-    ensures { IfOk result (λ moved. moved ≡ field_renumbered (renumbered numbering.entry) field.now) }
-{
-    let part = numbering.of(field.part)?;
-    let label = field.label.copy(alloc)?;
-    Ok(LevelField { label, part })
 }
