@@ -16,6 +16,7 @@ pub mod Matched
 pub mod OnlyType
 pub mod PuttingFields
 pub mod Results
+pub mod RisingFields
 pub mod RowNumbers
 pub mod ShapesUnfold
 pub mod Standing

@@ -1,14 +1,15 @@
 -- What a level of a type becomes, by numbers in a table of ground types, once it is known what those before it become.
-use Rattle.std.specs.Prelude.{◌≡◌, ℕ, ◌<◌, ◌++◌, ◌||◌, List, [], ◌∷◌, Option, None, length, map, slice_index_or}
+use Rattle.std.specs.Prelude.{◌≡◌, ℕ, ◌<◌, ◌++◌, ◌||◌, List, [], ◌∷◌, Option, None, Some, length, map, slice_get, slice_index_or}
 use Rattle.std.specs.BTreeMap.{get}
 use Rattle.std.specs.FinMap as fin
 use Rattle.std.specs.Option.{unwrap_or}
 use Rattle.std.specs.Ordering.{nat_cmp}
+use Rattle.std.specs.declared.cmp.Ordering.TheVariants.{Less}
 use Rattle.lk_types.specs.Each.{Each}
 use Rattle.lk_types.specs.Grounding.{Grounding, under}
 use Rattle.lk_types.specs.Levels.{built}
 use Rattle.lk_types.specs.Levels as levels
-use Rattle.lk_types.specs.Rows.{effects_of}
+use Rattle.lk_types.specs.Rows.{effects_of, label_order}
 use Rattle.lk_types.specs.declared.ground.Ground.{Ground}
 use Rattle.lk_types.specs.declared.levels.Level.{Level}
 use Rattle.lk_types.specs.declared.levels.Level.TheVariants as level
@@ -24,6 +25,7 @@ use Rattle.lk_ground_types.specs.Grounds.{Parts, at, parts_in}
 use Rattle.lk_ground_types.specs.Made.{IsIfThere}
 use Rattle.lk_ground_types.specs.declared.bindings.Bindings.{Bindings}
 use Rattle.lk_ground_types.specs.declared.ground_level.GroundLevel.{GroundLevel}
+use Rattle.lk_ground_types.specs.declared.ground_level.GroundPart.{GroundPart}
 use Rattle.lk_ground_types.specs.declared.ground_level.GroundLevel.TheVariants as ground
 
 abbrev pub number_at : List ℕ → ℕ → ℕ
@@ -46,6 +48,19 @@ bound_effects b (Var n) = unwrap_or (get nat_cmp b.effects n) []
 abbrev pub fields_put : List ℕ → List LevelField → Parts → Parts
 fields_put ns [] row = row
 fields_put ns (f ∷ fs) row = fin.insert (fields_put ns fs row) f.label (number_at ns f.part)
+
+-- the label is below that of the field behind it, if there is one
+abbrev pub IsLabelBelow : LevelField → Option LevelField → Type 0
+IsLabelBelow f None = Unit {0}
+IsLabelBelow f (Some g) = label_order f.label g.label ≡ Less
+
+-- the labels rise, as they do wherever types were read back
+abbrev pub AreRising : List LevelField → Type 0
+AreRising [] = Unit {0}
+AreRising (f ∷ fs) = IsLabelBelow f (slice_get fs 0) × AreRising fs
+
+abbrev pub part_at : List ℕ → LevelField → GroundPart
+part_at ns f = record { label = f.label; part = number_at ns f.part }
 
 abbrev pub row_made : Bindings → List ℕ → LevelRow → Parts
 row_made b ns row = fields_put ns row.fields (bound_row b row.tail)

@@ -1,6 +1,6 @@
 //! What the types of a table become.
 
-ghost use Rattle.lk_ground_types.specs.Becoming.{AreGround, Stand, bound_effects as the_effects, bound_number as the_number, bound_row as the_row, effects_made as the_effects_made, fields_put, level_of, number_at as the_number_at, row_made as the_row_made};
+ghost use Rattle.lk_ground_types.specs.Becoming.{AreGround, AreRising, IsLabelBelow, Stand, bound_effects as the_effects, bound_number as the_number, bound_row as the_row, effects_made as the_effects_made, fields_put, level_of, number_at as the_number_at, part_at, row_made as the_row_made};
 ghost use Rattle.lk_ground_types.specs.Bound.{AreWithin, grounding_in};
 ghost use Rattle.lk_ground_types.specs.Grounds.{at, parts_in};
 ghost use Rattle.lk_ground_types.specs.Made.{IsIfThere};
@@ -8,9 +8,10 @@ ghost use Rattle.lk_types.specs.Each.{Each};
 ghost use Rattle.lk_types.specs.Grounding.{all_of, under};
 ghost use Rattle.lk_types.specs.Levels.{AreBelow, IsBelow, made as the_made};
 ghost use Rattle.lk_types.specs.declared.ground.Ground.{Ground as TheGround};
+ghost use Rattle.lk_types.specs.declared.ty.RowTail.TheVariants as tails;
 ghost use Rattle.lk_types.specs.declared.ty.Ty.{Ty as TheTy};
-ghost use Rattle.std.specs.Option.{option_map};
-ghost use Rattle.std.specs.Prelude.{◌≡◌, ◌++◌, ◌<◌, ℕ, IfOk, List as TheList, OnOk, Some, length, map, slice_get};
+ghost use Rattle.std.specs.Option.{option_copied, option_map};
+ghost use Rattle.std.specs.Prelude.{◌≡◌, ◌++◌, ◌<◌, ℕ, IfOk, IsTrue, List as TheList, OnOk, Some, length, map, slice_get};
 
 use crate::bindings::Bindings;
 use crate::effect_lists::in_order;
@@ -20,6 +21,7 @@ use crate::part_row::PartRow;
 use lk_ast::{List, NoMemory};
 use lk_types::{Effect, Effects, Level, LevelField, LevelRow, RowTail, Ty, Types};
 use std::alloc::Global;
+use std::cmp::Ordering;
 
 /// The numbers of what the types of a table become with these bindings. Nothing is said of the number of one that becomes nothing,
 /// since a row in it gets a label twice. `NoMemory` where memory runs out.
@@ -163,9 +165,62 @@ fn row_made(
 ) -> Result<List<GroundPart>, NoMemory>
     ensures { IfOk result (λ parts. parts ≡ parts_in (the_row_made bindings.now numbers.now row.now)) }
 {
+    if is_in_order(row) {
+        return parts_at(alloc, numbers, row.fields.as_slice());
+    }
     let mut made = bound_row(alloc, bindings, row.tail)?;
     put_fields(alloc, numbers, &mut made, row.fields.as_slice())?;
     made.into_parts(alloc)
+}
+
+/// Whether a row is closed and its labels rise.
+fn is_in_order(row: &LevelRow) -> bool
+    ensures closed { IsTrue result → row.now.tail ≡ tails.Closed }
+    ensures rising { IsTrue result → AreRising row.now.fields }
+{
+    match row.tail {
+        RowTail::Closed => are_rising(row.fields.as_slice()),
+        RowTail::Var(_) => false,
+    }
+}
+
+/// Whether the labels of these fields rise.
+fn are_rising(fields: &[LevelField]) -> bool
+    ensures { IsTrue result → AreRising fields.now }
+{
+    for i in (0..fields.len()).rev() {
+        if !is_label_below(&fields[i], fields.get(i + 1)) {
+            return false;
+        }
+    }
+    true
+}
+
+/// Whether the label of a field is below that of the one behind it, if there is one.
+fn is_label_below(field: &LevelField, next: Option<&LevelField>) -> bool
+    ensures { IsTrue result → IsLabelBelow field.now (option_copied next.entry) }
+{
+    match next {
+        Some(next) => field.label.cmp(&next.label) == Ordering::Less,
+        None => true,
+    }
+}
+
+/// The parts that fields become, in the order of the fields.
+fn parts_at(
+    alloc: Global,
+    numbers: &[u32],
+    fields: &[LevelField],
+) -> Result<List<GroundPart>, NoMemory>
+    ensures { IfOk result (λ parts. parts ≡ map (part_at numbers.now) fields.now) }
+{
+    let mut parts = List::new(alloc);
+    for field in fields {
+        let label = field.label.copy(alloc)?;
+        let part = number_at(numbers, field.part);
+        parts.push(GroundPart { label, part })?;
+    }
+    Ok(parts)
 }
 
 /// Puts what fields become before others, the last one first.

@@ -45,7 +45,7 @@ fn generalise(alloc: Global, walk: GroupWalk) -> Result<Group, InferError>
     let nodes = walk.nodes.len();
     let all = solve_walk(alloc, walk)?;
     let schemes = schemes_of(alloc, &all, functions)?;
-    let types = all.part(alloc, functions, nodes)?;
+    let types = all.into_part(functions, nodes)?;
     Ok(Group { schemes, types })
 }
 

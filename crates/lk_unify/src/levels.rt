@@ -50,7 +50,7 @@ fn put_fields(
 {
     for field in own {
         let place = places[arena.class_of(field.node)];
-        row.put(alloc, field.label.as_str(), place)?;
+        row.put(field.label.copy(alloc)?, place)?;
     }
     Ok(())
 }

@@ -14,7 +14,7 @@ use std::marker::Model;
 /// Types under their labels.
 #[derive(Drop)]
 pub struct TypesByLabel {
-    types: BTreeMap<String, Ty>,
+    types: BTreeMap<Text, Ty>,
 }
 
 impl Model for TypesByLabel {
@@ -23,13 +23,12 @@ impl Model for TypesByLabel {
     ghost use Rattle.lk_types.specs.declared.ty.Ty.{Ty as TheTy};
     ghost use Rattle.std.specs.Coded.{coded_list, coded_ℕ};
     ghost use Rattle.std.specs.FinMap as finite;
-    ghost use Rattle.std.specs.Prelude.{map, string_bytes};
 
     ghost Value = { finite.FinMap label_order TheTy };
 
     ghost coded = { finite.code (coded_list coded_ℕ) t.the_row.coded };
 
-    ghost view = { λ row. finite.from_sorted (map (λ e. (string_bytes e.0, e.1)) row.types.entries) };
+    ghost view = { λ row. finite.from_sorted row.types.entries };
 }
 
 impl TypesByLabel {
@@ -43,10 +42,9 @@ impl TypesByLabel {
     }
 
     /// One more type, in place of one with its label.
-    fn put(&mut self, alloc: Global, label: &str, ty: Ty) -> Result<(), NoMemory>
-        ensures { OnOk result (self.new ≡ finite.insert self.old label.now ty) }
+    fn put(&mut self, label: Text, ty: Ty) -> Result<(), NoMemory>
+        ensures { OnOk result (self.new ≡ finite.insert self.old label ty) }
     {
-        let label = String::from_str(alloc, label)?;
         self.types.insert(label, ty)?;
         Ok(())
     }
@@ -57,7 +55,6 @@ impl TypesByLabel {
     {
         let mut fields = List::new(alloc);
         for (label, ty) in self.types {
-            let label = Text::from_string(label);
             fields.push(TyField { label, ty })?;
         }
         Ok(fields)
@@ -86,7 +83,7 @@ pub fn with_field(alloc: Global, row: MadeRow, label: &Text, ty: Ty) -> Result<M
     ensures { IfOk result (λ more. as_open more ≡ with_entry (as_open row) label.now ty) }
 {
     let MadeRow { mut types, tail } = row;
-    types.put(alloc, label.as_str(), ty)?;
+    types.put(label.copy(alloc)?, ty)?;
     Ok(MadeRow { types, tail })
 }
 

@@ -13,20 +13,20 @@ use std::marker::Model;
 /// Places under their labels.
 #[derive(Drop)]
 pub struct RowPlaces {
-    places: BTreeMap<String, u32>,
+    places: BTreeMap<Text, u32>,
 }
 
 impl Model for RowPlaces {
     ghost use Rattle.lk_types.specs.Rows.{label_order};
     ghost use Rattle.std.specs.Coded.{coded_list, coded_ℕ};
     ghost use Rattle.std.specs.FinMap as finite;
-    ghost use Rattle.std.specs.Prelude.{ℕ, map, string_bytes};
+    ghost use Rattle.std.specs.Prelude.{ℕ};
 
     ghost Value = { finite.FinMap label_order ℕ };
 
     ghost coded = { finite.code (coded_list coded_ℕ) coded_ℕ };
 
-    ghost view = { λ row. finite.from_sorted (map (λ e. (string_bytes e.0, e.1)) row.places.entries) };
+    ghost view = { λ row. finite.from_sorted row.places.entries };
 }
 
 impl RowPlaces {
@@ -40,10 +40,9 @@ impl RowPlaces {
     }
 
     /// One more place, instead of one with its label.
-    pub fn put(&mut self, alloc: Global, label: &str, place: u32) -> Result<(), NoMemory>
-        ensures { OnOk result (self.new ≡ finite.insert self.old label.now place) }
+    pub fn put(&mut self, label: Text, place: u32) -> Result<(), NoMemory>
+        ensures { OnOk result (self.new ≡ finite.insert self.old label place) }
     {
-        let label = String::from_str(alloc, label)?;
         self.places.insert(label, place)?;
         Ok(())
     }
@@ -54,7 +53,6 @@ impl RowPlaces {
     {
         let mut fields = List::new(alloc);
         for (label, part) in self.places {
-            let label = Text::from_string(label);
             fields.push(LevelField { label, part })?;
         }
         Ok(LevelRow { fields, tail })
