@@ -17,6 +17,7 @@ use Rattle.lk_lower.specs.Instances.{FollowFuns, IsMade, LowersFun, OpensFun, as
 use Rattle.lk_lower.specs.Lowering as low
 use Rattle.lk_lower.specs.Lowering.{AreForms, AreFuns, IsLowered}
 use Rattle.lk_lower.proofs.Walking.{body_labelled}
+use Rattle.lk_lower.specs.Once.{StandOnce}
 use Rattle.lk_lower.specs.Steps.{IsBody, IsType, Learns, with_label, with_types}
 use Rattle.lk_types.specs.declared.ground.Ground.{Ground}
 use Rattle.lk_lower.specs.declared.lowering.Made.{Made}
@@ -79,14 +80,15 @@ one_followed funs i s t wholes more_wholes titles more_titles fun label were at 
 
 -- behind the last one
 pub all_made : (funs : List GroundFun) (i : ℕ) (s : State) (wholes : List ℕ) (titles : List (List ℕ)) → FollowFuns funs i s wholes titles → drop i funs ≡ [] → i < most_instances → s.pending.label ≡ length s.labels → s.pending.next ≡ length s.nodes
-    → IsMade funs s.locals (made_of s wholes titles)
-all_made funs i s wholes titles were none small label next =
+    → StandOnce s.types s.tables → IsMade funs s.locals (made_of s wholes titles)
+all_made funs i s wholes titles were none small label next once =
     let f : Forms = as_forms s.locals (made_of s wholes titles) in
     record {
       few = subst (λ k. k < most_instances) (sym were.wholes_long) small;
       first_label = still_there (printer ∷ []) s.labels 0 printer were.first_label refl;
       funs_are = were.follow f [] (sym (append-nil s.nodes)) (record { locals = refl; labels = begins_itself s.labels; types = begins_itself s.types; tables = begins_itself s.tables }) (begins_itself wholes) (begins_itself titles)
           (subst (λ rest. AreFuns f i rest s.pending.label s.pending.next) (sym none) (low.no_fun were.wholes_long were.titles_long (sym label) (sym next)));
+      distinct = once;
     }
 
 -- names in byte order and the table of all instances

@@ -3,9 +3,11 @@ pub mod Counting
 pub mod Covers
 pub mod Following
 pub mod Growing
+pub mod HintLevels
 pub mod Instances
 pub mod Naming
 pub mod NodesInside
 pub mod Samples
 pub mod Shaping
+pub mod TypesOnce
 pub mod Walking

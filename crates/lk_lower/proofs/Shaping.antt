@@ -244,15 +244,15 @@ query_shaped owner n ty s mid t long keys e kept k nodes uses learns captures no
     (subst (λ k. IsShaped owner n ty (Node-F.Query keys e) s k (past (1 + nodes_in e) (length (uses_in e)) (with_label (block_label owner n ty) (with_types learns.0 s)))) (sym (is ∙ ap (λ (mid : State). kind.Reach block.Query mid.pending.label kept) learns.1))
     (query_is owner n ty s long learns.0 keys e kept (subst (λ (mid : State). Captures (captured_query e) (query_uses e (drop 1 s.pending.types)) mid kept) learns.1 captures)))
 
-pub change_made : (owner n ty : ℕ) (s mid touched t : State) → s.pending.label ≡ length s.labels → (b : Block) (rows : ChangeExpr) (kept : List Kept) (k : Kind) (nodes uses : ℕ) → Learns s mid
+pub change_made : (owner n ty : ℕ) (s mid t : State) → s.pending.label ≡ length s.labels → (b : Block) (rows : ChangeExpr) (kept : List Kept) (k : Kind) (nodes uses : ℕ) → Learns s mid
     → Captures (captured_change rows) (change_uses rows (drop 1 s.pending.types)) mid kept → nodes ≡ nodes_of (change_exprs rows) → uses ≡ uses_of (change_exprs rows)
-    → touched ≡ with_table (touched_by (out-ChangeExpr rows).table.text mid) mid → k ≡ kind.Reach b touched.pending.label kept
-    → t ≡ past (1 + nodes) uses (with_label (block_label owner n ty) touched) → IsChange owner n ty b rows s k t
-change_made owner n ty s mid touched t long b rows kept k nodes uses learns captures nodes_are uses_are touches is step =
+    → k ≡ kind.Reach b mid.pending.label kept → t ≡ past (1 + nodes) uses (with_label (block_label owner n ty) (with_table (touched_by (out-ChangeExpr rows).table.text mid) mid)) → IsChange owner n ty b rows s k t
+change_made owner n ty s mid t long b rows kept k nodes uses learns captures nodes_are uses_are is step =
     let table = (out-ChangeExpr rows).table.text in
     let es = change_exprs rows in
-    subst (IsChange owner n ty b rows s k) (sym (step ∙ ap (λ m. past (1 + m) uses (with_label (block_label owner n ty) touched)) nodes_are ∙ ap (λ m. past (1 + nodes_of es) m (with_label (block_label owner n ty) touched)) uses_are ∙ ap (λ (s : State). past (1 + nodes_of es) (uses_of es) (with_label (block_label owner n ty) s)) touches ∙ ap (λ (mid : State). past (1 + nodes_of es) (uses_of es) (with_label (block_label owner n ty) (with_table (touched_by table mid) mid))) learns.1))
-    (subst (λ k. IsChange owner n ty b rows s k (past (1 + nodes_of es) (uses_of es) (with_label (block_label owner n ty) (with_table (touched_by table (with_types learns.0 s)) (with_types learns.0 s))))) (sym (is ∙ ap (λ (s : State). kind.Reach b s.pending.label kept) touches ∙ ap (λ (mid : State). kind.Reach b mid.pending.label kept) learns.1))
+    let labelled = with_label (block_label owner n ty) (with_table (touched_by table mid) mid) in
+    subst (IsChange owner n ty b rows s k) (sym (step ∙ ap (λ m. past (1 + m) uses labelled) nodes_are ∙ ap (λ m. past (1 + nodes_of es) m labelled) uses_are ∙ ap (λ (mid : State). past (1 + nodes_of es) (uses_of es) (with_label (block_label owner n ty) (with_table (touched_by table mid) mid))) learns.1))
+    (subst (λ k. IsChange owner n ty b rows s k (past (1 + nodes_of es) (uses_of es) (with_label (block_label owner n ty) (with_table (touched_by table (with_types learns.0 s)) (with_types learns.0 s))))) (sym (is ∙ ap (λ (mid : State). kind.Reach b mid.pending.label kept) learns.1))
     (change_is owner n ty s long learns.0 b rows kept (subst (λ (mid : State). Captures (captured_change rows) (change_uses rows (drop 1 s.pending.types)) mid kept) learns.1 captures)))
 
 module _ (owner n ty : ℕ) (rows : ChangeExpr) (s t : State) (k : Kind) where
@@ -272,11 +272,16 @@ module _ (owner n ty : ℕ) (rows : ChangeExpr) (s t : State) (k : Kind) where
     shell = λ f at has. subst (Shell f owner n ty (Node-F.Delete rows) at s.pending (kind.Reach block.Delete s.pending.label is.kept)) (sym is.pending) (low.delete (is.labelled f has) (is.captured_are f has) (is.touched f has));
   })
 
--- a state whose walk has one more label, one more node, or another form of a node
-pub label_pushed : (w : Walk) (labels : List LabelForm) (form : LabelForm) → labels ≡ w.labels ++ form ∷ [] → state_of (record w { labels = labels }) ≡ with_label form (state_of w)
+-- a state whose walk has one more label, perhaps one that changes a table, one more node, or another form of a node
+pub label_pushed : (w : Walk) (labels : List LabelForm × List Touched) (form : LabelForm) → labels ≡ (w.labels.0 ++ form ∷ [], w.labels.1) → state_of (record w { labels = labels }) ≡ with_label form (state_of w)
 label_pushed w labels form is =
-    ap (λ (ls : List LabelForm). state_of (record w { labels = ls })) is
-    ∙ ap (λ (k : ℕ). record (with_label form (state_of w)) { pending = record (state_of w).pending { label = k } }) (length-append w.labels (form ∷ []))
+    ap (λ (ls : List LabelForm × List Touched). state_of (record w { labels = ls })) is
+    ∙ ap (λ (k : ℕ). record (with_label form (state_of w)) { pending = record (state_of w).pending { label = k } }) (length-append w.labels.0 (form ∷ []))
+
+pub changing_pushed : (w : Walk) (labels : List LabelForm × List Touched) (form : LabelForm) (table : Touched) → labels ≡ (w.labels.0 ++ form ∷ [], w.labels.1 ++ table ∷ []) → state_of (record w { labels = labels }) ≡ with_label form (with_table table (state_of w))
+changing_pushed w labels form table is =
+    ap (λ (ls : List LabelForm × List Touched). state_of (record w { labels = ls })) is
+    ∙ ap (λ (k : ℕ). record (with_label form (with_table table (state_of w))) { pending = record (state_of w).pending { label = k } }) (length-append w.labels.0 (form ∷ []))
 
 pub node_pushed : (s : State) (nodes : List Form) (form : Form) → s.pending.next ≡ length s.nodes → nodes ≡ s.nodes ++ form ∷ [] → record s { nodes = nodes; pending = record s.pending { next = length nodes } } ≡ with_node form s
 node_pushed s nodes form next is =

@@ -9,6 +9,7 @@ use Rattle.lk_ir.specs.declared.nodes.Forms.{Forms}
 use Rattle.lk_ir.specs.declared.nodes.LabelForm.{LabelForm}
 use Rattle.lk_lower.specs.Growing.{Begins, Grows, Has, State}
 use Rattle.lk_lower.specs.Lowering.{AreFuns, IsBodyLabel, Pending, TypeIs}
+use Rattle.lk_lower.specs.Once.{StandOnce}
 use Rattle.lk_lower.specs.declared.lowering.Made.{Made}
 
 -- `print`, which has no body
@@ -68,3 +69,4 @@ pub record IsMade (funs : List GroundFun) (locals : List (List ℕ)) (made : Mad
   pub few : length made.wholes < most_instances
   pub first_label : label_at (as_forms locals made) 0 ≡ Some printer
   pub funs_are : AreFuns (as_forms locals made) 0 funs 1 0
+  pub distinct : StandOnce made.types made.tables

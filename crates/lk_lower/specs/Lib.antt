@@ -1,7 +1,9 @@
 pub mod Children
 pub mod Growing
+pub mod Hints
 pub mod Instances
 pub mod Law
 pub mod Lowering
+pub mod Once
 pub mod Steps
 pub mod Walked

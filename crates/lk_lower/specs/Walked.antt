@@ -12,9 +12,9 @@ shown es = map (λ (e : Bor Expr). e.now) es
 abbrev pub state_of : Walk → State
 state_of w = record {
   nodes = w.nodes.items;
-  labels = w.labels;
+  labels = w.labels.0;
   locals = w.locals.now;
   types = w.types;
-  tables = w.tables;
-  pending = record { types = w.types_left.now; calls = w.calls_left.now; label = length w.labels; next = length w.nodes.items };
+  tables = w.labels.1;
+  pending = record { types = w.types_left.now; calls = w.calls_left.now; label = length w.labels.0; next = length w.nodes.items };
 }

@@ -11,10 +11,9 @@ ghost use Rattle.std.specs.Prelude.{◌≡◌, ◌+◌, IfOk, List as TheList, O
 
 use crate::captured::{kept_by_change, kept_by_query};
 use crate::counts::{Counts, count_change, count_query};
-use crate::walk::{At, Place, Walk, next_label, push_label, push_touched, take, take_type};
+use crate::walk::{At, Place, Walk, next_label, push_changing, push_label, take, take_type};
 use lk_ast::{ChangeExpr, Expr, List, NoMemory, Text, Word};
 use lk_ir::{Block, Kept, Kind, LabelForm, Touched};
-use std::alloc::Global;
 
 /// The label of the node with this place.
 fn take_label(at: &At, place: Place, walk: &mut Walk) -> Result<u32, NoMemory>
@@ -22,23 +21,31 @@ fn take_label(at: &At, place: Place, walk: &mut Walk) -> Result<u32, NoMemory>
     ensures state { OnOk result (state_of walk.new ≡ with_label (block_label at.now.owner place.number place.ty) (state_of walk.old)) }
 {
     let label = next_label(walk)?;
-    let form = LabelForm {
+    push_label(label_form(at, place), walk)?;
+    Ok(label)
+}
+
+/// The label of the node with this place, which changes this table.
+fn take_label_of(at: &At, place: Place, table: &Text, walk: &mut Walk) -> Result<u32, NoMemory>
+    ensures label { IfOk result (λ label. label ≡ (state_of walk.old).pending.label) }
+    ensures state { OnOk result (state_of walk.new ≡ with_label (block_label at.now.owner place.number place.ty) (with_table (touched_by table.now (state_of walk.old)) (state_of walk.old))) }
+{
+    let label = next_label(walk)?;
+    let table = table.copy(at.alloc)?;
+    push_changing(label_form(at, place), Touched { label, table }, walk)?;
+    Ok(label)
+}
+
+/// What the node with this place has under its label.
+fn label_form(at: &At, place: Place) -> LabelForm
+    ensures { result ≡ block_label at.now.owner place.number place.ty }
+{
+    LabelForm {
         owner: at.owner,
         ty: place.ty,
         node: Some(place.number),
         body: None,
-    };
-    push_label(form, walk)?;
-    Ok(label)
-}
-
-/// Notes which table what has the next label changes.
-fn touch(alloc: Global, table: &Text, walk: &mut Walk) -> Result<(), NoMemory>
-    ensures { OnOk result (state_of walk.new ≡ with_table (touched_by table.now (state_of walk.old)) (state_of walk.old)) }
-{
-    let label = next_label(walk)?;
-    let table = table.copy(alloc)?;
-    push_touched(Touched { label, table }, walk)
+    }
 }
 
 /// The reading of a table.
@@ -55,8 +62,7 @@ pub fn read(at: &At, place: Place, walk: &mut Walk) -> Result<Kind, NoMemory>
 pub fn insert(at: &At, place: Place, table: &Word, walk: &mut Walk) -> Result<Kind, NoMemory>
     ensures { IfOk result (λ kind. (e : TheExpr) → IsShaped at.now.owner place.number place.ty (Node-F.Insert table.now e) (state_of walk.old) kind (state_of walk.new)) }
 {
-    touch(at.alloc, &table.text, walk)?;
-    let label = take_label(at, place, walk)?;
+    let label = take_label_of(at, place, &table.text, walk)?;
     take_type(walk);
     let kept = List::new(at.alloc);
     Ok(Kind::Reach(Block::Insert, label, kept))
@@ -68,7 +74,8 @@ pub fn query(at: &At, place: Place, body: &Expr, walk: &mut Walk) -> Result<Kind
 {
     let kept = kept_by_query(at.alloc, body, walk)?;
     let inside = count_query(at.alloc, body)?;
-    Ok(reach(at, place, Block::Query, kept, inside, walk)?)
+    let label = take_label(at, place, walk)?;
+    Ok(reach(Block::Query, label, kept, inside, walk)?)
 }
 
 /// An update or a deletion.
@@ -83,24 +90,22 @@ pub fn change(
 {
     let kept = kept_by_change(at.alloc, rows, walk)?;
     let inside = count_change(at.alloc, rows)?;
-    touch(at.alloc, &rows.table.text, walk)?;
-    Ok(reach(at, place, block, kept, inside, walk)?)
+    let label = take_label_of(at, place, &rows.table.text, walk)?;
+    Ok(reach(block, label, kept, inside, walk)?)
 }
 
-/// What captures these names and has so much in it.
+/// What has this label, captures these names and has so much in it.
 fn reach(
-    at: &At,
-    place: Place,
     block: Block,
+    label: u32,
     kept: List<Kept>,
     inside: Counts,
     walk: &mut Walk,
 ) -> Result<Kind, NoMemory>
-    ensures kind { IfOk result (λ made. made ≡ kind.Reach block (state_of walk.old).pending.label kept) }
-    ensures state { OnOk result (state_of walk.new ≡ past (1 + inside.nodes) inside.uses (with_label (block_label at.now.owner place.number place.ty) (state_of walk.old))) }
+    ensures kind { IfOk result (λ made. made ≡ kind.Reach block label kept) }
+    ensures state { OnOk result (state_of walk.new ≡ past (1 + inside.nodes) inside.uses (state_of walk.old)) }
 {
     let types = 1usize.checked_add(inside.nodes).ok_or(NoMemory)?;
-    let label = take_label(at, place, walk)?;
     take(walk, types, inside.uses);
     Ok(Kind::Reach(block, label, kept))
 }

@@ -1,6 +1,7 @@
 //! Lowering: a ground program as one table of nodes.
 //!
-//! `specs/Lowering` says which table is that of a ground program, `specs/Growing` and `specs/Steps` what the walk that makes it keeps;
+//! `specs/Lowering` says which table is that of a ground program, `specs/Once` that nothing stands in it twice, `specs/Growing` and
+//! `specs/Steps` what the walk that makes it keeps;
 //! `lower_laws` says what holds of each such table.
 #![tactic(auto)]
 
@@ -11,6 +12,7 @@ mod children;
 mod counts;
 mod hints;
 mod kinds;
+mod labels;
 mod lambdas;
 mod law;
 mod locals;

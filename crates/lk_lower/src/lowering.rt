@@ -5,11 +5,13 @@ ghost use Rattle.lk_lower.specs.Lowering.{AreForms};
 ghost use Rattle.lk_ground.specs.Language.{function_of};
 ghost use Rattle.lk_ir.specs.Tables.{HasBodies, most_instances};
 ghost use Rattle.lk_lower.specs.Instances.{IsMade, LowersFun, OpensFun, as_forms, beginning, made_of};
+ghost use Rattle.lk_lower.specs.Once.{StandOnce};
 ghost use Rattle.lk_lower.specs.Steps.{IsBody};
 ghost use Rattle.lk_lower.specs.Walked.{state_of};
 ghost use Rattle.std.specs.Prelude.{◌≡◌, ◌+◌, ◌++◌, ◌∷◌, ◌<◌, [], IfOk, OnOk};
 
 use crate::bodies::{ROOM, expr};
+use crate::labels::Labels;
 use crate::locals::word_places;
 use crate::names::local_names;
 use crate::type_table::TypeTable;
@@ -36,6 +38,7 @@ struct Made {
 pub fn lower(alloc: Global, p: &GroundProgram) -> Result<Ir, NoMemory>
     ensures lowered { IfOk result (AreForms p.now) }
     ensures ordered { IfOk result ArePreOrdered }
+    ensures distinct { IfOk result (λ forms. StandOnce forms.types forms.tables) }
 {
     let locals = local_names(alloc, p.funs.as_slice())?;
     let made = instances(alloc, locals.as_slice(), p.funs.as_slice())?;
@@ -110,17 +113,18 @@ fn one_more(number: u32) -> Result<u32, NoMemory>
 
 /// What the walk has made with these labels and names of instances.
 fn finish(walk: Walk, wholes: List<u32>, titles: List<Text>) -> Made
-    ensures { result ≡ made_of (state_of walk.entry) wholes titles }
+    ensures are { result ≡ made_of (state_of walk.entry) wholes titles }
+    ensures distinct { StandOnce result.types result.tables }
 {
     let Walk {
         locals: _,
         nodes,
         labels,
         types,
-        tables,
         types_left: _,
         calls_left: _,
     } = walk;
+    let (labels, tables) = labels.into_parts();
     Made {
         nodes: List::from_vec(nodes),
         labels,
@@ -135,7 +139,7 @@ fn finish(walk: Walk, wholes: List<u32>, titles: List<Text>) -> Made
 fn begin(alloc: Global, locals: &[Text]) -> Result<Walk, NoMemory>
     ensures { IfOk result (λ walk. state_of walk ≡ beginning locals.now) }
 {
-    let mut labels = List::new(alloc);
+    let mut labels = Labels::new(alloc);
     labels.push(LabelForm {
         owner: 0,
         ty: 0,
@@ -147,7 +151,6 @@ fn begin(alloc: Global, locals: &[Text]) -> Result<Walk, NoMemory>
         nodes: Vec::new(alloc),
         labels,
         types: TypeTable::new(alloc),
-        tables: List::new(alloc),
         types_left: &[],
         calls_left: &[],
     })

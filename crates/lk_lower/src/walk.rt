@@ -5,6 +5,7 @@ ghost use Rattle.lk_lower.specs.Steps.{IsOwnType, IsType, Learns, past, with_for
 ghost use Rattle.lk_lower.specs.Walked.{state_of};
 ghost use Rattle.std.specs.Prelude.{◌≡◌, ◌<◌, Some, drop, length, slice_get, IfOk, OnOk};
 
+use crate::labels::Labels;
 use crate::type_table::TypeTable;
 use lk_ast::{List, NoMemory, Span, Text};
 use lk_ir::{Form, Kind, LabelForm, Touched};
@@ -25,9 +26,8 @@ pub struct At {
 pub struct Walk<'w> {
     pub locals: &'w [Text],
     pub nodes: Vec<Form>,
-    pub labels: List<LabelForm>,
+    pub labels: Labels,
     pub types: TypeTable,
-    pub tables: List<Touched>,
     /// The types of the nodes from the next one on, in text order.
     pub types_left: &'w [Ground],
     /// What the uses from here on call, in text order.
@@ -132,11 +132,12 @@ pub fn push_label(form: LabelForm, walk: &mut Walk) -> Result<(), NoMemory>
     Ok(())
 }
 
-/// A table that what has this label changes.
-pub fn push_touched(touched: Touched, walk: &mut Walk) -> Result<(), NoMemory>
-    ensures { OnOk result (state_of walk.new ≡ with_table touched (state_of walk.old)) }
+/// What has the next label, and the table that it changes.
+pub fn push_changing(form: LabelForm, table: Touched, walk: &mut Walk) -> Result<(), NoMemory>
+    requires { table.label ≡ (state_of walk.old).pending.label }
+    ensures { OnOk result (state_of walk.new ≡ with_label form (with_table table (state_of walk.old))) }
 {
-    walk.tables.push(touched)?;
+    walk.labels.push_beside(form, table)?;
     Ok(())
 }
 

@@ -4,7 +4,9 @@ use Rattle.lk_lower.proofs.Following.{all_made, next_fun, none_followed, one_fol
 use Rattle.lk_lower.proofs.lowering.instances.Goals as goal
 use Rattle.lk_lower.specs.Growing.{State}
 use Rattle.lk_lower.specs.Instances.{FollowFuns, IsMade, beginning, made_of}
+use Rattle.lk_lower.specs.Once.{StandOnce}
 use Rattle.lk_lower.specs.Walked.{state_of}
+use Rattle.lk_lower.specs.declared.lowering.Made.{Made}
 
 pub loop-fun-init : goal.loop-fun-init
 loop-fun-init c = (
@@ -30,8 +32,8 @@ loop-fun-preserved c = (
 pub returns : goal.returns
 returns c =
     let s = state_of c.loop-fun.walk in
-    subst (IsMade c.args.funs.now c.args.locals.now) (sym c.finish.ensures)
+    subst (IsMade c.args.funs.now c.args.locals.now) (sym c.finish.ensures.are)
     (subst (λ (ls : List (List ℕ)). IsMade c.args.funs.now ls (made_of s c.loop-fun.wholes c.loop-fun.titles)) c.loop-fun.invariant.1
     (all_made c.args.funs.now c.loop-fun.number s c.loop-fun.wholes c.loop-fun.titles c.loop-fun.invariant.0
     (ap (λ (k : ℕ). drop k c.args.funs.now) c.loop-fun.invariant.2 ∙ drop_all c.loop-fun.fun-index c.args.funs.now c.loop-fun-test.false)
-    c.loop-fun.invariant.3 refl refl))
+    c.loop-fun.invariant.3 refl refl (subst (λ (made : Made). StandOnce made.types made.tables) c.finish.ensures.are c.finish.ensures.distinct)))
