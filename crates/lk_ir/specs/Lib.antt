@@ -3,5 +3,7 @@ pub mod Environments
 pub mod Law
 pub mod LetNormal
 pub mod Operations
+pub mod Orders
 pub mod Tables
+pub mod TypedUses
 pub mod Uses

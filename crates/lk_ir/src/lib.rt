@@ -7,6 +7,7 @@ mod ir;
 mod law;
 mod nodes;
 mod operate;
+mod same;
 
 pub use ir::{CpsProgram, Ir};
 pub use law::ir_laws;
@@ -14,3 +15,4 @@ pub use nodes::{
     Block, Body, CaseForm, Choice, Cont, Conts, Form, Forms, Kept, Kind, LabelForm, Op, Touched,
 };
 pub use operate::operate_op;
+pub use same::{same_effects, same_type, same_types};

@@ -19,7 +19,6 @@ mod locals;
 mod lowering;
 mod named;
 mod names;
-mod same_type;
 mod type_table;
 mod walk;
 

@@ -7,9 +7,9 @@ ghost use Rattle.lk_types.specs.declared.ground.Ground.{Ground as TheGround};
 ghost use Rattle.std.specs.Prelude.{◌≡◌, ◌↔◌, ◌++◌, [], IfNone, IfOk, IfSome, IsTrue, List as TheList, Some, slice_get};
 
 use crate::hints::hint_of;
-use crate::same_type::same_type;
 use lk_ast::{List, NoMemory};
 use lk_ground_types::share_type;
+use lk_ir::same_type;
 use lk_types::Ground;
 use std::alloc::Global;
 use std::collections::BTreeMap;

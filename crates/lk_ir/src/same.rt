@@ -1,4 +1,4 @@
-//! Whether two ground types are the same.
+//! Whether two ground types are the same. A type stands once in a table of nodes.
 
 ghost use Rattle.std.specs.Prelude.{◌≡◌, ◌↔◌, IsTrue};
 
@@ -29,8 +29,9 @@ pub fn same_type(a: &Ground, b: &Ground) -> bool
     }
 }
 
+/// Whether both lists have the same types.
 #[cycle(same)]
-fn same_types(xs: &[Ground], ys: &[Ground]) -> bool
+pub fn same_types(xs: &[Ground], ys: &[Ground]) -> bool
     ensures { IsTrue result ↔ (xs.now ≡ ys.now) }
 {
     if xs.len() != ys.len() {
@@ -60,7 +61,8 @@ fn same_fields(xs: &[GroundField], ys: &[GroundField]) -> bool
     true
 }
 
-fn same_effects(xs: &[Effect], ys: &[Effect]) -> bool
+/// Whether both lists have the same effects, in the same order.
+pub fn same_effects(xs: &[Effect], ys: &[Effect]) -> bool
     ensures { IsTrue result ↔ (xs.now ≡ ys.now) }
 {
     if xs.len() != ys.len() {

@@ -1,5 +1,5 @@
 use Rattle.std.proofs.Common.{◌≡◌, take}
-use Rattle.lk_lower.proofs.same_type.+same.Given as goal
+use Rattle.lk_ir.proofs.same.+same.Given as goal
 
 abbrev pub invariant-same_types-loop-i : goal.invariant-same_types-loop-i
 invariant-same_types-loop-i l = take l.i l.xs ≡ take l.i l.ys

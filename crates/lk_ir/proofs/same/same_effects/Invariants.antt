@@ -1,5 +1,5 @@
 use Rattle.std.proofs.Common.{◌≡◌, take}
-use Rattle.lk_lower.proofs.same_type.same_effects.Given as goal
+use Rattle.lk_ir.proofs.same.same_effects.Given as goal
 
 abbrev pub invariant-loop-i : goal.invariant-loop-i
 invariant-loop-i l = take l.i l.xs ≡ take l.i l.ys
