@@ -1,0 +1,4 @@
+pub mod Conts
+pub mod Live
+pub mod Numbered
+pub mod Steps
