@@ -1,0 +1,9 @@
+pub mod FieldValues
+pub mod Fitting
+pub mod Levels
+pub mod Lists
+pub mod Operations
+pub mod Operators
+pub mod Records
+pub mod Results
+pub mod Shapes
