@@ -1,0 +1,16 @@
+use Rattle.lk_code.proofs.Chaining.{chains_law}
+use Rattle.lk_code.proofs.Holding.{holds_law}
+use Rattle.lk_code.proofs.Soundness.{acts_law, points_law}
+use Rattle.lk_code.proofs.Waiting.{frame_goes}
+use Rattle.lk_code.proofs.Whole.{whole_law}
+use Rattle.lk_code.proofs.law.sound_laws.Goals as goal
+
+pub returns : goal.returns
+returns c = record {
+  whole = λ code sound client server. whole_law code sound client server;
+  acts = λ code whole. acts_law code whole;
+  points = λ code whole. points_law code whole;
+  frames = λ code whole h form cont i there is info_is env fit place. frame_goes code whole h form cont i there is info_is env place fit;
+  holds = λ code whole h form cont i there is info_is context t has names fit done held held_are fits. holds_law code whole h form cont i there is info_is context t has names fit done held held_are fits;
+  chains = λ code whole homes frames t chained held place. chains_law code whole homes place frames t chained held;
+}

@@ -1,0 +1,12 @@
+pub mod Acting
+pub mod Chains
+pub mod Law
+pub mod Meaning
+pub mod Parts
+pub mod Running
+pub mod Sound
+pub mod Tables
+pub mod Told
+pub mod TypedLaw
+pub mod Values
+pub mod Waiting
