@@ -1,0 +1,4 @@
+pub mod Numbers
+pub mod Signatures
+pub mod Whole
+pub mod Words
