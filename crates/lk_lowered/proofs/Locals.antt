@@ -33,7 +33,7 @@ below_at P (y ∷ ys) (suc m) x all is = below_at P ys m x all.1 is
 not_below_itself : (x : List ℕ) → slice_cmp nat_cmp x x ≡ Less → ⊥
 not_below_itself x less = let wrong : false ≡ true = sym (ap is_eq less) ∙ ap is_eq (tied_itself nat_list_cmp_total x) in cc
 
-one_place : (xs : List (List ℕ)) → IsStrictlySortedBy (slice_cmp nat_cmp) xs → (n m : ℕ) (x : List ℕ) → slice_get xs n ≡ Some x → slice_get xs m ≡ Some x → n ≡ m
+pub one_place : (xs : List (List ℕ)) → IsStrictlySortedBy (slice_cmp nat_cmp) xs → (n m : ℕ) (x : List ℕ) → slice_get xs n ≡ Some x → slice_get xs m ≡ Some x → n ≡ m
 unfolding IsStrictlySortedBy
 one_place [] rise n m x is also = absurd (none-some x is)
 one_place (y ∷ ys) rise zero zero x is also = refl
@@ -65,7 +65,7 @@ all_alike f names scope alike (n ∷ ns) [] are = absurd are
 all_alike f names scope alike (n ∷ ns) (x ∷ xs) are = ap₂ with_value (alike n x are.0) (all_alike f names scope alike ns xs are.1)
 
 module _ (f : Forms) (rise : IsStrictlySortedBy (slice_cmp nat_cmp) f.locals) where
-  same_test : (n m : ℕ) (x y : List ℕ) → IsLocal f n x → IsLocal f m y → bytes_eq x y ≡ (n == m)
+  pub same_test : (n m : ℕ) (x y : List ℕ) → IsLocal f n x → IsLocal f m y → bytes_eq x y ≡ (n == m)
   same_test n m x y is also = by_number (n == m) refl
     where
       apart : (n == m) ≡ false → (b : Bool) → bytes_eq x y ≡ b → b ≡ false

@@ -1,6 +1,7 @@
 //! The laws of lowering.
 
 ghost use Rattle.lk_lowered.specs.Law.{BeginsLaw, LowersLaw, SessionsLaw};
+ghost use Rattle.lk_lowered.specs.Typing.{CapturedLaw, TypedLaw};
 
 /// The laws for those who lower programs, as facts. A call does nothing.
 ///
@@ -10,8 +11,15 @@ ghost use Rattle.lk_lowered.specs.Law.{BeginsLaw, LowersLaw, SessionsLaw};
 /// `begins`: so stand the body of label 1, which is there, and that of the first instance, their parameters bound to an argument.
 ///
 /// `session_same`: so a session of the table is the session of the ground program.
+///
+/// `captured`: in the table of a ground program of typed instances, each lambda uses all that it captures.
+///
+/// `typed`: with continuations that keep what is used behind them, each name with the type of a use, that table is typed by what it tells
+/// itself of its labels: each body and each node has a rule.
 pub fn lowered_laws()
     ensures lowers { LowersLaw }
     ensures begins { BeginsLaw }
     ensures session_same { SessionsLaw }
+    ensures captured { CapturedLaw }
+    ensures typed { TypedLaw }
 {}
