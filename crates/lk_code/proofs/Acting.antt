@@ -109,7 +109,7 @@ module _ (IsFun : ℕ → Ground → List Ground → Type 0) (f : Forms) (info :
         subst (λ o. Well of.result (reach at b o values)) (sym found.are) (reach_well b of.result at found.values values takes (label, of, site b label kept refl, is, found.fit, refl))
 
   -- the site of what has the label of a node is where the node begins
-  site_there : AreTypedForms f info → (n : ℕ) (form : Form) → form_at f n ≡ Some form → (b : Block) (label : ℕ) (kept : List Kept) → form.kind ≡ kind.Reach b label kept → site_of f label ≡ form.at.start
+  pub site_there : AreTypedForms f info → (n : ℕ) (form : Form) → form_at f n ≡ Some form → (b : Block) (label : ℕ) (kept : List Kept) → form.kind ≡ kind.Reach b label kept → site_of f label ≡ form.at.start
   site_there sound n form there b label kept is =
       ap (λ o. unwrap_or (option_map (λ (form : Form). form.at.start) (option_and_then (form_at f) o)) 0) (sound.blocks n form b label kept there is).0
       ∙ ap (λ o. unwrap_or (option_map (λ (form : Form). form.at.start) o) 0) there

@@ -2,6 +2,7 @@ pub mod Acting
 pub mod Calling
 pub mod Casing
 pub mod Chaining
+pub mod Crossing
 pub mod Deciding
 pub mod Following
 pub mod Holding
@@ -11,11 +12,12 @@ pub mod Naming
 pub mod Operating
 pub mod Places
 pub mod Points
+pub mod Reaching
 pub mod Resuming
 pub mod Samples
+pub mod Soundness
 pub mod Stacking
 pub mod TypedUnder
 pub mod TypedUses
-pub mod Soundness
 pub mod Waiting
 pub mod Whole

@@ -1,21 +1,28 @@
 -- The laws of typed nodes; their proofs stand in proofs/.
-use Rattle.std.specs.Prelude.{◌≡◌, ℕ, ◌+◌, ◌≤◌, true, List, [], ◌∷◌, ◌++◌, Some}
+use Rattle.std.specs.Prelude.{◌≡◌, ℕ, ◌+◌, ◌≤◌, true, List, [], ◌∷◌, ◌++◌, Some, length}
 use Rattle.lk_ast.specs.declared.place.Loc.{Loc}
 use Rattle.lk_ast.specs.declared.place.Loc.TheVariants.{Client, Server}
 use Rattle.lk_ast.specs.declared.value.Value.{Value}
+use Rattle.lk_evaluation.specs.Evaluation.{Act, Primitive, Uses, eval}
+use Rattle.lk_evaluation.specs.Run.{Run}
 use Rattle.lk_fits.specs.Values.{FitEach}
-use Rattle.lk_ir.specs.Environments.{Env, lookup_all}
-use Rattle.lk_ir.specs.Tables.{form_at, names_of}
-use Rattle.lk_ir.specs.Uses.{Among}
+use Rattle.lk_ir.specs.Environments.{Env, bind_each, lookup_all, no_names}
+use Rattle.lk_ir.specs.LetNormal.{Point, act, under}
+use Rattle.lk_ir.specs.Tables.{body_at, form_at, names_of}
+use Rattle.lk_ir.specs.Uses.{Among, Needs}
+use Rattle.lk_ir.specs.declared.nodes.Block.{Block}
+use Rattle.lk_ir.specs.declared.nodes.Body.{Body}
 use Rattle.lk_ir.specs.declared.nodes.Cont.{Cont}
 use Rattle.lk_ir.specs.declared.nodes.Form.{Form}
+use Rattle.lk_ir.specs.declared.nodes.Kept.{Kept}
+use Rattle.lk_ir.specs.declared.nodes.Kind.TheVariants as kind
 use Rattle.lk_types.specs.Each.{Each}
 use Rattle.lk_types.specs.declared.ground.Ground.{Ground}
 use Rattle.lk_code.specs.Acting.{FitNames, TypedActs, TypedPoints}
 use Rattle.lk_code.specs.Chains.{AreChained}
 use Rattle.lk_code.specs.Law.{frame}
-use Rattle.lk_code.specs.Meaning.{frame_meant}
-use Rattle.lk_code.specs.Parts.{Context, HasBody, IsTyped}
+use Rattle.lk_code.specs.Meaning.{does, frame_meant, language, primitive}
+use Rattle.lk_code.specs.Parts.{Asked, Context, HasBody, IsTyped, Rule}
 use Rattle.lk_code.specs.Running.{RunsAt}
 use Rattle.lk_code.specs.Sound.{AreSound, held_types, told_by}
 use Rattle.lk_code.specs.Tables.{cont_at, first_frame, frame_info, fun_info, is_function}
@@ -40,6 +47,28 @@ WholeLaw = (c : Contents) → AreSound c.tables → RunsAt c Client → RunsAt c
 -- a node by its rule: no step on values of its positions' types lacks a rule, and what it comes to is of the node's type
 abbrev pub TypedActsLaw : Type 0
 TypedActsLaw = (c : CodeTables) → IsWhole c → TypedActs (IsFun c) c.forms (told_by c)
+
+-- the label does this with values of the types of its parameters, and its result is of this type
+pub record Reaches (c : CodeTables) (label : ℕ) (t : Ground) (a : Act Point) : Type 0 where
+  pub info : FunInfo
+  pub told : fun_info c label ≡ Some info
+  pub args : List Value
+  pub fit : FitEach (IsFun c) args info.params
+  pub result : info.result ≡ t
+  pub one : Primitive
+  pub does : primitive c info.kind label args ≡ Some one
+  pub acts : a ≡ Uses Server one
+
+-- a node that reads or changes tables does what its label does
+abbrev pub ReachesLaw : Type 0
+ReachesLaw = (c : CodeTables) → IsWhole c → (n : ℕ) (form : Form) (b : Block) (label : ℕ) (kept : List Kept) → form_at c.forms n ≡ Some form → form.kind ≡ kind.Reach b label kept
+    → (context : Context) (ts : List Ground) (asked : List Asked) (t : Ground) → Rule c.forms (told_by c) context form.kind ts asked t → (names : Env) → FitNames (IsFun c) (Needs form.kind) context names
+    → (values : List Value) → FitEach (IsFun c) values ts → Reaches c label t (act c.forms form.at form.kind form.tails names values)
+
+-- What a call enters (`body_entered` of lk_ir) does what its label does, with the values of what is kept and then those passed.
+abbrev pub CallsLaw : Type 0
+CallsLaw = (c : CodeTables) (label : ℕ) (i : FunInfo) (b : Body) → fun_info c label ≡ Some i → is_function i.kind ≡ true → body_at c.forms label ≡ Some b → (env args : List Value) → length b.names ≡ length env → (place : Loc) (r : Run)
+    → eval (language c) (under (bind_each (bind_each no_names b.names env) b.params args) b.root) place r ≡ does c label (env ++ args) place r
 
 -- a point of a type: its positions are points of types, and from values of these it does what one of its type does
 abbrev pub TypedPointsLaw : Type 0

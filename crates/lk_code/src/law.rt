@@ -1,7 +1,7 @@
 //! The laws of what numbers stand for.
 
 ghost use Rattle.lk_code.specs.Law.{FramesLaw, LaterLaw, ResumesLaw, StacksLaw, TurnsLaw};
-ghost use Rattle.lk_code.specs.TypedLaw.{HoldsLaw, TypedActsLaw, TypedChainsLaw, TypedFramesLaw, TypedPointsLaw, WholeLaw};
+ghost use Rattle.lk_code.specs.TypedLaw.{CallsLaw, HoldsLaw, ReachesLaw, TypedActsLaw, TypedChainsLaw, TypedFramesLaw, TypedPointsLaw, WholeLaw};
 
 /// The laws of what labels and frames stand for, as facts. A call does nothing.
 ///
@@ -30,7 +30,11 @@ pub fn meaning_laws()
 /// `acts`: a typed node, from values of the types of its positions and under names that have values of theirs, never lacks a rule; what
 /// it gives is of its type, and what it goes on with is typed at it.
 ///
-/// `points`: so does a point with the names that continuations keep, whose positions are typed points themselves.
+/// `reaches`: a node that reads or changes tables does what its label does, with values of the types of its parameters.
+///
+/// `calls`: what a call enters does what its label does with what is kept and what is passed.
+///
+/// `points`: what `acts` says holds of a point with the names that continuations keep, and its positions are typed points.
 ///
 /// `frames`: the frame of a continuation, with values of the types told of it, goes on from a value of the type that it waits for with what
 /// is of its result's type.
@@ -41,6 +45,8 @@ pub fn meaning_laws()
 pub fn sound_laws()
     ensures whole { WholeLaw }
     ensures acts { TypedActsLaw }
+    ensures reaches { ReachesLaw }
+    ensures calls { CallsLaw }
     ensures points { TypedPointsLaw }
     ensures frames { TypedFramesLaw }
     ensures holds { HoldsLaw }
