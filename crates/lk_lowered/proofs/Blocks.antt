@@ -16,7 +16,7 @@ use Rattle.lk_ast.specs.declared.expression.SortKey.{SortKey}
 use Rattle.lk_ast.specs.declared.place.Span.{Span}
 use Rattle.lk_bodies.specs.Uses.{change_uses, query_uses}
 use Rattle.lk_code.specs.Parts as code
-use Rattle.lk_code.specs.Parts.{AreKept, Context, Info, captures, type_in}
+use Rattle.lk_code.specs.Parts.{AreKept, Context, Info, captures}
 use Rattle.lk_index.specs.Free.{captured_change, captured_query}
 use Rattle.lk_inline.proofs.UsesTyped.{IsTypedUse, change_typed, uses_typed}
 use Rattle.lk_ir.specs.Tables.{names_of}

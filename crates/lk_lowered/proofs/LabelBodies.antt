@@ -13,7 +13,7 @@ use Rattle.lk_ir.specs.declared.nodes.Form.{Form}
 use Rattle.lk_ir.specs.declared.nodes.Forms.{Forms}
 use Rattle.lk_ir.specs.declared.nodes.Kind.{Kind}
 use Rattle.lk_lower.specs.Lowering as low
-use Rattle.lk_lower.specs.Lowering.{AreLocals, AreLowered, IsBlockLabel, IsLocal, IsLowered, Pending, Shell, tails_of, text_of}
+use Rattle.lk_lower.specs.Lowering.{AreLowered, IsBlockLabel, IsLowered, Pending, Shell}
 use Rattle.lk_types.proofs.Parts.{same_some}
 use Rattle.lk_types.specs.declared.ground.Ground.{Ground}
 

@@ -35,7 +35,7 @@ use Rattle.lk_lowered.proofs.Locals.{long_locals}
 use Rattle.lk_code.proofs.TypedUnder.{typed_under}
 use Rattle.lk_code.proofs.TypedUses.{typed_use}
 use Rattle.lk_code.specs.Parts as code
-use Rattle.lk_code.specs.Parts.{Context, Info, AreNamed, under_names, IsTyped, IsTypedBody, HasBodies, type_in}
+use Rattle.lk_code.specs.Parts.{Context, Info, AreNamed, under_names, IsTyped, HasBodies, type_in}
 use Rattle.lk_ir.specs.Tables.{body_at, body_of}
 use Rattle.lk_ir.specs.Uses as used_in
 use Rattle.lk_ir.specs.Uses.{Among, Uses}
@@ -45,7 +45,7 @@ use Rattle.lk_ir.specs.declared.nodes.Kind.TheVariants as kind
 use Rattle.lk_lower.specs.Lowering.{AreLocals, IsLocal, Pending, IsLowered}
 use Rattle.lk_lowered.proofs.Told as told
 use Rattle.lk_lowered.proofs.Told.{AreFromUses, Tells}
-use Rattle.lk_lowered.proofs.Contexts.{AreNamesOf, among_number, local_of, named_alike, nothing_alike, params_under, same_numbers}
+use Rattle.lk_lowered.proofs.Contexts.{AreNamesOf, among_number, named_alike, nothing_alike, params_under, same_numbers}
 use Rattle.lk_lowered.proofs.Contexts as contexts
 use Rattle.lk_lowered.proofs.Inverted.{IsLambdaNode}
 use Rattle.lk_lowered.proofs.Typed.{IsOk, is_block, type_there, typed_in}

@@ -1,6 +1,7 @@
 pub mod Acts
 pub mod Blocks
 pub mod Contexts
+pub mod Continued
 pub mod Inverted
 pub mod LabelBodies
 pub mod Labelling

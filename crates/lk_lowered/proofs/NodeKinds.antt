@@ -25,7 +25,7 @@ use Rattle.lk_ir.specs.declared.nodes.Kept.{Kept}
 use Rattle.lk_ir.specs.declared.nodes.Kind.{Kind}
 use Rattle.lk_ir.specs.declared.nodes.Kind.TheVariants as kind
 use Rattle.lk_lower.specs.Lowering as low
-use Rattle.lk_lower.specs.Lowering.{AreLocals, IsCase, IsLocal, IsMaybeLocal, Pending, Shell, IsLowered, AreLowered, tails_of, case_bodies, last_bodies, last_name, text_of}
+use Rattle.lk_lower.specs.Lowering.{AreLocals, IsCase, IsLocal, IsMaybeLocal, Pending, Shell, last_name}
 use Rattle.lk_lowered.proofs.Inverted.{is_lambda}
 use Rattle.std.proofs.lemmas.Option.{none-some}
 

@@ -24,7 +24,7 @@ use Rattle.lk_ir.specs.declared.nodes.Forms.{Forms}
 use Rattle.lk_ir.specs.declared.nodes.LabelForm.{LabelForm}
 use Rattle.lk_lower.proofs.Counted.{children_of, takes}
 use Rattle.lk_lower.specs.Lowering as low
-use Rattle.lk_lower.specs.Lowering.{AreLocals, AreLowered, IsBodyLabel, IsLocal, IsLowered, Pending, tails_of, text_of}
+use Rattle.lk_lower.specs.Lowering.{AreLocals, AreLowered, IsBodyLabel, IsLowered, Pending, tails_of}
 use Rattle.lk_lowered.proofs.Contexts.{among_local, local_of}
 use Rattle.lk_lowered.proofs.LabelBodies.{inside_from, own_step}
 use Rattle.lk_lowered.proofs.Lambdas as lambdas

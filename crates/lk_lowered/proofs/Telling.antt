@@ -26,10 +26,9 @@ use Rattle.lk_ir.specs.declared.nodes.LabelForm.{LabelForm}
 use Rattle.lk_lower.proofs.Covers.{each_node}
 use Rattle.lk_lower.specs.Law.{IsCovered}
 use Rattle.lk_lower.specs.Lowering as low
-use Rattle.lk_lower.specs.Lowering.{AreForms, IsKept, IsLowered, Pending, Shell, TypeIs}
+use Rattle.lk_lower.specs.Lowering.{AreForms, IsKept, IsLowered, Pending, Shell}
 use Rattle.lk_lowered.proofs.Told as known_of
-use Rattle.lk_lowered.proofs.Told.{AreFromUses, KeptTypes, Tells}
-use Rattle.lk_lowered.specs.Typing.{AreEnvsOf}
+use Rattle.lk_lowered.proofs.Told.{AreEnvsOf, AreFromUses, KeptTypes, Tells}
 use Rattle.lk_types.proofs.Parts.{same_some}
 use Rattle.lk_types.specs.Each.{Each}
 use Rattle.lk_types.specs.declared.ground.Ground.{Ground}

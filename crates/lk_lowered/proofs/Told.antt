@@ -2,8 +2,11 @@
 -- of a use in its body, a block by its captured names and its own type.
 use Rattle.std.specs.Prelude.{◌≡◌, ℕ, true, List, [], ◌∷◌, Option, None, Some, slice_get}
 use Rattle.lk_code.specs.Parts.{Info, captures}
-use Rattle.lk_ir.specs.Tables.{form_at, label_at}
+use Rattle.lk_code.specs.Told.{env_of}
+use Rattle.lk_evaluation.specs.Laws.{Both}
+use Rattle.lk_ir.specs.Tables.{body_at, form_at, label_at}
 use Rattle.lk_ir.specs.TypedUses.{UsesAs}
+use Rattle.lk_ir.specs.declared.ir.CpsProgram.{CpsProgram}
 use Rattle.lk_ir.specs.declared.nodes.Block.{Block}
 use Rattle.lk_ir.specs.declared.nodes.Block.TheVariants as block
 use Rattle.lk_ir.specs.declared.nodes.Body.{Body}
@@ -38,3 +41,7 @@ module _ (f : Forms) where
         → label_at f label ≡ Some l → l.node ≡ Some n → l.body ≡ None → form_at f n ≡ Some form → form.kind ≡ kind.Reach block.Insert label [] → form.parts ≡ k ∷ [] → form_at f k ≡ Some part
         → slice_get f.types part.ty ≡ Some a → slice_get f.types l.ty ≡ Some t
         → (effects : List Effect) × (env : List Ground) × (info label ≡ Some (record { params = a ∷ []; effects = effects; result = t; env = env }))
+
+-- what a body captures has the type of a use in it
+abbrev pub AreEnvsOf : CpsProgram → Type 0
+AreEnvsOf c = (label : ℕ) (b : Body) → body_at c.forms label ≡ Some b → Both (λ x ty. UsesAs c.forms x ty b.root) b.names (env_of c label)

@@ -25,7 +25,7 @@ use Rattle.lk_typing.specs.Rules as rule
 use Rattle.lk_typing.specs.Types.{function_of}
 use Rattle.lk_typing.specs.Typing.{label_of, expr_of}
 use Rattle.lk_code.specs.Parts as code
-use Rattle.lk_code.specs.Parts.{Context, Info, Asked, CaseRules, Rule, IsTyped, AreTyped, under_names, IsTypedBody, HasBodies, HaveBodies, function_type, captures, HasBody}
+use Rattle.lk_code.specs.Parts.{Context, Info, Asked, Rule, AreTyped, function_type, HasBody}
 use Rattle.lk_ir.specs.Tables.{form_at, whole_at}
 use Rattle.lk_ir.specs.declared.nodes.Block.TheVariants as block
 use Rattle.lk_ir.specs.declared.nodes.Choice.TheVariants as choice
@@ -36,7 +36,7 @@ use Rattle.lk_ir.specs.declared.nodes.Kind.TheVariants as kind
 use Rattle.lk_ir.specs.declared.nodes.Op.{Op}
 use Rattle.lk_ir.specs.declared.nodes.Op.TheVariants as op
 use Rattle.lk_lower.specs.Lowering as low
-use Rattle.lk_lower.specs.Lowering.{Pending, Shell, IsLowered, AreLowered, IsBlockLabel, IsCase, IsLocal, AreLocals, tails_of, case_bodies}
+use Rattle.lk_lower.specs.Lowering.{Pending, Shell, AreLowered, IsBlockLabel, IsLocal, tails_of}
 use Rattle.lk_mono.specs.Grounded as called
 use Rattle.lk_mono.specs.Grounded.{AreCalled}
 use Rattle.lk_lowered.proofs.Told.{Tells}

@@ -24,16 +24,16 @@ use Rattle.lk_types.specs.declared.ground.Ground.{Ground}
 use Rattle.lk_types.specs.declared.ground.Ground.TheVariants as known
 use Rattle.lk_typing.specs.Names.{Named, Entry, names_of, types_of, texts}
 use Rattle.lk_typing.specs.Types.{function_of, variant_of}
-use Rattle.lk_typing.specs.Typing.{HasType, HaveTypes, HaveCases, IsHeld, label_of, expr_of, head_of}
+use Rattle.lk_typing.specs.Typing.{HasType, HaveTypes, HaveCases}
 use Rattle.lk_typing.specs.Typing as typing
 use Rattle.lk_code.specs.Parts as code
-use Rattle.lk_code.specs.Parts.{Context, Info, Asked, CaseRules, Rule, IsTyped, AreTyped, under_names, IsTypedBody, HasBodies, HaveBodies, function_type, captures, HasBody}
+use Rattle.lk_code.specs.Parts.{Context, Info, Asked, CaseRules, Rule, IsTyped, AreTyped, under_names, HasBodies, HaveBodies}
 use Rattle.lk_ir.specs.declared.nodes.CaseForm.{CaseForm}
 use Rattle.lk_ir.specs.declared.nodes.Forms.{Forms}
 use Rattle.lk_ir.specs.declared.nodes.Kind.{Kind}
 use Rattle.lk_ir.specs.declared.nodes.Kind.TheVariants as kind
 use Rattle.lk_lower.specs.Lowering as low
-use Rattle.lk_lower.specs.Lowering.{Pending, Shell, IsLowered, AreLowered, IsBlockLabel, IsCase, IsLocal, AreLocals, tails_of, case_bodies}
+use Rattle.lk_lower.specs.Lowering.{Pending, Shell, IsLowered, AreLowered, IsCase, AreLocals, case_bodies}
 use Rattle.lk_mono.specs.Grounded.{AreCalled}
 use Rattle.lk_lowered.proofs.Told.{Tells}
 use Rattle.lk_lower.proofs.Counted.{lowered_both}

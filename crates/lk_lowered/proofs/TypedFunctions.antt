@@ -9,7 +9,7 @@ use Rattle.lk_ast.specs.Tables.{tables_of}
 use Rattle.lk_ast.specs.declared.declaration.Program.{Program}
 use Rattle.lk_ast.specs.declared.place.Loc.{Loc}
 use Rattle.lk_code.specs.Parts as code
-use Rattle.lk_code.specs.Parts.{Context, Info, IsTypedBody, under_names}
+use Rattle.lk_code.specs.Parts.{Info, IsTypedBody, under_names}
 use Rattle.lk_evaluation.specs.Laws.{Both}
 use Rattle.lk_ground.specs.Language.{function_of}
 use Rattle.lk_ground.specs.declared.program.GroundFun.{GroundFun}

@@ -22,6 +22,7 @@ use Rattle.lk_ir.specs.declared.nodes.LabelForm.{LabelForm}
 use Rattle.lk_lower.specs.Lowering as low
 use Rattle.lk_lower.specs.Lowering.{AreForms, IsBlockLabel, IsLowered, Pending, Shell}
 use Rattle.lk_lowered.proofs.Contexts.{same_numbers}
+use Rattle.lk_lowered.proofs.Continued.{envs_of}
 use Rattle.lk_lowered.proofs.OwnBodies.{IsOwnBody}
 use Rattle.lk_lowered.proofs.Telling.{covered, tells_in}
 use Rattle.lk_lowered.proofs.Turning.{IsWholeOf}
@@ -138,7 +139,7 @@ pub typed_programs : TypedLaw
 typed_programs p g c source of conts =
     let used = captured p g c.forms source of in
     record {
-      forms = typed_forms p g c.forms source of (info_in c) (tells_in g c of (conts.envs used));
+      forms = typed_forms p g c.forms source of (info_in c) (tells_in g c of (envs_of c conts.envs used));
       named = conts.named;
       named_as = conts.types used;
     }

@@ -21,7 +21,7 @@ use Rattle.lk_types.specs.declared.ground.Ground.{Ground}
 use Rattle.lk_typing.specs.Heads as operator
 use Rattle.lk_typing.specs.Heads.{Head, head, parts}
 use Rattle.lk_typing.specs.Names.{Named, Entry}
-use Rattle.lk_typing.specs.Typing.{HasType, HaveTypes, HaveCases, IsChange, plain, lambda, var, switch, switch_open, for_list, for_table, query, update, delete, none, more, no_cases, case_of, changed, label_of, expr_of, head_of}
+use Rattle.lk_typing.specs.Typing.{HasType, HaveTypes, HaveCases, plain, lambda, var, switch, switch_open, for_list, for_table, query, update, delete, none, more, no_cases, case_of, label_of, expr_of, head_of}
 use Rattle.lk_typing.specs.Typing as typing
 use Rattle.lk_sound.proofs.FreeLevels.{case_level, lambda_level, free_all, free_cases, own_uses, free_plain, free_lambda_form, free_var, free_switch, free_switch_open, free_for_list, free_for_table, free_query, free_update, free_delete}
 use Rattle.lk_sound.proofs.FreeUnder.{free_also}
@@ -30,14 +30,14 @@ use Rattle.lk_sound.proofs.OrderedWords.{ordered_of}
 use Rattle.lk_sound.proofs.Standing.{bound_one}
 use Rattle.lk_ir.specs.Tables.{form_at, names_of}
 use Rattle.lk_ir.specs.Uses as used_by
-use Rattle.lk_ir.specs.Uses.{Among, IsFreeOf, Needs, Uses, UsedIn, UsedInTails, binds, first_binds, last_binds}
+use Rattle.lk_ir.specs.Uses.{Among, IsFreeOf, Needs, Uses, UsedIn, UsedInTails, binds, first_binds}
 use Rattle.lk_ir.specs.declared.nodes.CaseForm.{CaseForm}
 use Rattle.lk_ir.specs.declared.nodes.Form.{Form}
 use Rattle.lk_ir.specs.declared.nodes.Forms.{Forms}
 use Rattle.lk_ir.specs.declared.nodes.Kind.{Kind}
 use Rattle.lk_ir.specs.declared.nodes.Kind.TheVariants as kind
 use Rattle.lk_lower.specs.Lowering as low
-use Rattle.lk_lower.specs.Lowering.{AreLocals, IsCase, IsLocal, IsMaybeLocal, Pending, Shell, IsLowered, AreLowered, tails_of, case_bodies, last_bodies, last_name, text_of}
+use Rattle.lk_lower.specs.Lowering.{IsCase, IsLocal, IsMaybeLocal, Pending, Shell, IsLowered, AreLowered, case_bodies, text_of}
 use Rattle.lk_code.proofs.TypedUnder.{case_binds}
 use Rattle.lk_lower.proofs.Counted.{lowered_both}
 use Rattle.lk_code.specs.Parts as code

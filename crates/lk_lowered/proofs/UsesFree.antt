@@ -14,7 +14,7 @@ use Rattle.lk_evaluation.specs.Laws.{Both}
 use Rattle.lk_index.specs.Free.{captured, free, free_case, free_change, free_lambda}
 use Rattle.lk_ir.specs.Tables.{form_at, names_of}
 use Rattle.lk_ir.specs.Uses as used_by
-use Rattle.lk_ir.specs.Uses.{IsFreeOf, Needs, UsedIn, UsedInTails, Uses, binds, first_binds}
+use Rattle.lk_ir.specs.Uses.{IsFreeOf, Needs, UsedIn, UsedInTails, Uses, binds}
 use Rattle.lk_ir.specs.declared.nodes.CaseForm.{CaseForm}
 use Rattle.lk_ir.specs.declared.nodes.Form.{Form}
 use Rattle.lk_ir.specs.declared.nodes.Forms.{Forms}
