@@ -10,7 +10,6 @@ use Rattle.lk_ast.specs.declared.declaration.Program.{Program}
 use Rattle.lk_ast.specs.declared.place.Loc.{Loc}
 use Rattle.lk_code.specs.Parts as code
 use Rattle.lk_code.specs.Parts.{Info, IsTypedBody, under_names}
-use Rattle.lk_evaluation.specs.Laws.{Both}
 use Rattle.lk_ground.specs.Language.{function_of}
 use Rattle.lk_ground.specs.declared.program.GroundFun.{GroundFun}
 use Rattle.lk_ir.specs.Tables.{body_at, body_of, whole_at}
@@ -31,7 +30,6 @@ use Rattle.lk_lowered.proofs.Turning.{IsWholeOf}
 use Rattle.lk_lowered.proofs.TypedInside.{typed_in}
 use Rattle.lk_lowered.proofs.Told as known_of
 use Rattle.lk_lowered.proofs.Told.{AreFromUses, Tells}
-use Rattle.lk_lowered.specs.Typing.{HasItsType}
 use Rattle.lk_mono.proofs.NodeTypes.{types_of as node_types}
 use Rattle.lk_mono.specs.Grounded.{AreCalled}
 use Rattle.lk_mono.specs.Instanced as instanced
@@ -67,12 +65,12 @@ module _ (f : Forms) (rise : IsStrictlySortedBy (slice_cmp nat_cmp) f.locals) (i
     is : info label ≡ Some (record { params = types_of params; effects = effects_of effects; result = answer; env = [] })
 
   module _ (tells : Tells f info) where
-    told_fun : {fun : GroundFun} {u : Use} (is : IsInstanceOf p i false (IsFine i) (function_of fun) fun u) → HasItsType fun u → {owner label : ℕ} {place : Loc} (ty : ℕ) (body : Body) → TypeIs f ty (fun.ty ∷ []) → IsBodyLabel f owner None ty label place [] (function_of fun).params body
+    told_fun : {fun : GroundFun} {u : Use} (is : IsInstanceOf p i false (IsFine i) (function_of fun) fun u) → {owner label : ℕ} {place : Loc} (ty : ℕ) (body : Body) → TypeIs f ty (fun.ty ∷ []) → IsBodyLabel f owner None ty label place [] (function_of fun).params body
         → IsToldFun label body is.has.typed.params is.has.typed.effects is.has.typed.answer
-    told_fun {fun} {u} is type {label = label} ty body type_is of =
+    told_fun {fun} {u} is {label = label} ty body type_is of =
         let t = is.has.typed in
         let none : body.names ≡ [] = nothing_named f body.names of.names_are in
-        let has : slice_get f.types ty ≡ Some (known.Fun (types_of t.params) (effects_of t.effects) t.answer) = type_is.1 ∙ sym type_is.2 ∙ ap (λ a. Some a) (type ∙ t.is) in
+        let has : slice_get f.types ty ≡ Some (known.Fun (types_of t.params) (effects_of t.effects) t.answer) = type_is.1 ∙ sym type_is.2 ∙ ap (λ a. Some a) (is.type ∙ t.is) in
         let told = tells.bodies label of.form body (types_of t.params) (effects_of t.effects) t.answer of.is of.body_is (ap (slice_get f.types) of.ty_is ∙ has) in
         record {
           no_names = none;
@@ -81,10 +79,10 @@ module _ (f : Forms) (rise : IsStrictlySortedBy (slice_cmp nat_cmp) f.locals) (i
 
     -- ---- what each instance has
 
-    pub wholes : {k label next : ℕ} {funs : List GroundFun} {us : List Use} → AreFuns f k funs label next → Funs funs us → Both HasItsType funs us → (place : ℕ) (u : Use) → slice_get us place ≡ Some u → IsWholeOf f info (place + k) u
-    wholes (low.no_fun a b c d) instanced.none types place u at = absurd (none-some u at)
-    wholes {k} (low.one_fun {label = label} body after ty whole titled type_is of lowered others) (instanced.more {u = v} is rest) types zero u at =
-        let told = told_fun is types.0 ty body type_is of in
+    pub wholes : {k label next : ℕ} {funs : List GroundFun} {us : List Use} → AreFuns f k funs label next → Funs funs us → (place : ℕ) (u : Use) → slice_get us place ≡ Some u → IsWholeOf f info (place + k) u
+    wholes (low.no_fun a b c d) instanced.none place u at = absurd (none-some u at)
+    wholes {k} (low.one_fun {label = label} body after ty whole titled type_is of lowered others) (instanced.more {u = v} is rest) zero u at =
+        let told = told_fun is ty body type_is of in
         let same : v ≡ u = same_some at in
         subst (λ (w : Use). IsWholeOf f info (zero + k) w) same
         (record {
@@ -96,8 +94,8 @@ module _ (f : Forms) (rise : IsStrictlySortedBy (slice_cmp nat_cmp) f.locals) (i
           has = (body, ap body_of of.is ∙ of.body_is);
           type = is.has.typed.is;
         })
-    wholes {k} (low.one_fun body after ty whole titled type_is of lowered others) (instanced.more is rest) types (suc place) u at =
-        subst (λ n. IsWholeOf f info n u) (let e : place + (1 + k) ≡ suc place + k = omega arith in e) (wholes others rest types.1 place u at)
+    wholes {k} (low.one_fun body after ty whole titled type_is of lowered others) (instanced.more is rest) (suc place) u at =
+        subst (λ n. IsWholeOf f info n u) (let e : place + (1 + k) ≡ suc place + k = omega arith in e) (wholes others rest place u at)
 
   -- ---- what is bound and kept
 
@@ -147,9 +145,9 @@ module _ (f : Forms) (rise : IsStrictlySortedBy (slice_cmp nat_cmp) f.locals) (i
       pub nodes : (n : ℕ) → next ≤ n → n < length f.nodes → IsTypedAt f info n
 
     -- one instance, and those behind it
-    with_others : {fun : GroundFun} {u : Use} (is : IsInstanceOf p i false (IsFine i) (function_of fun) fun u) → HasItsType fun u → {owner label next : ℕ} {place : Loc} (own : Body) (after : Pending) (ty : ℕ) → TypeIs f ty (fun.ty ∷ []) → IsBodyLabel f owner None ty label place [] (function_of fun).params own
+    with_others : {fun : GroundFun} {u : Use} (is : IsInstanceOf p i false (IsFine i) (function_of fun) fun u) → {owner label next : ℕ} {place : Loc} (own : Body) (after : Pending) (ty : ℕ) → TypeIs f ty (fun.ty ∷ []) → IsBodyLabel f owner None ty label place [] (function_of fun).params own
         → IsLowered f owner label (function_of fun).body (record { types = fun.types; calls = fun.calls; label = label + 1; next = next }) own.root after → AreTypedFrom after.label after.next → AreTypedFrom label next
-    with_others {fun} is type {owner = owner} {label = label} {next = next} own after ty type_is of lowered others =
+    with_others {fun} is {owner = owner} {label = label} {next = next} own after ty type_is of lowered others =
         let ok = body_ok is own.params of.params_are lowered in
         record {
           bodies = λ n from to body at. by_label n (cases_lt label n) (cases_lt n after.label)
@@ -160,7 +158,7 @@ module _ (f : Forms) (rise : IsStrictlySortedBy (slice_cmp nat_cmp) f.locals) (i
         }
       where
         told : IsToldFun label own is.has.typed.params is.has.typed.effects is.has.typed.answer
-        told = told_fun tells is type ty own type_is of
+        told = told_fun tells is ty own type_is of
 
         at_start : code.IsTyped f info (under_names own.params (types_of is.has.typed.params) []) own.root is.has.typed.answer → IsTypedBody f info label own
         at_start typed = record {
@@ -180,9 +178,9 @@ module _ (f : Forms) (rise : IsStrictlySortedBy (slice_cmp nat_cmp) f.locals) (i
         by_node n (inl before) first others = first before
         by_node n (inr behind) first others = others behind
 
-    pub typed_all : {k label next : ℕ} {funs : List GroundFun} {us : List Use} → AreFuns f k funs label next → Funs funs us → Both HasItsType funs us → AreTypedFrom label next
-    typed_all (low.no_fun a b labels nodes) instanced.none types = record {
+    pub typed_all : {k label next : ℕ} {funs : List GroundFun} {us : List Use} → AreFuns f k funs label next → Funs funs us → AreTypedFrom label next
+    typed_all (low.no_fun a b labels nodes) instanced.none = record {
       bodies = λ n from to body is. absurd (omega (arith, labels));
       nodes = λ n from to. absurd (omega (arith, nodes));
     }
-    typed_all (low.one_fun own after ty whole titled type_is of lowered others) (instanced.more is rest) types = with_others is types.0 own after ty type_is of lowered (typed_all others rest types.1)
+    typed_all (low.one_fun own after ty whole titled type_is of lowered others) (instanced.more is rest) = with_others is own after ty type_is of lowered (typed_all others rest)

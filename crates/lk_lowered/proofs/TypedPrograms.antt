@@ -116,11 +116,11 @@ module _ (p : Program) (g : GroundProgram) (f : Forms) (source : IsTypedGround p
   own label b is = own_all f of.locals info p i source.bound of.funs source.instances.mains label (from_one f g of label b is) (within f g of label b is) b is
 
   every : Tells f info → (place : ℕ) (u : Use) → slice_get i.mains place ≡ Some u → IsWholeOf f info place u
-  every tells place u at = subst (λ n. IsWholeOf f info n u) (let e : place + 0 ≡ place = omega arith in e) (wholes f of.locals info p i tells of.funs source.instances.mains source.types place u at)
+  every tells place u at = subst (λ n. IsWholeOf f info n u) (let e : place + 0 ≡ place = omega arith in e) (wholes f of.locals info p i tells of.funs source.instances.mains place u at)
 
   typed_forms : Tells f info → AreTypedForms f info
   typed_forms tells =
-      let all : AreTypedFrom f of.locals info p i tells source.instances.shaped.closed (every tells) 1 0 = typed_all f of.locals info p i tells source.instances.shaped.closed (every tells) of.funs source.instances.mains source.types in
+      let all : AreTypedFrom f of.locals info p i tells source.instances.shaped.closed (every tells) 1 0 = typed_all f of.locals info p i tells source.instances.shaped.closed (every tells) of.funs source.instances.mains in
       record {
         bodies = λ label b is. all.bodies label (from_one f g of label b is) (within f g of label b is) b is;
         nodes = λ n form is. all.nodes n (let e : 0 ≤ n = omega arith in e) (slice_get_within f.nodes n form is);

@@ -1,10 +1,7 @@
 -- The law of types: a table that is made of a ground program, with its continuations, is typed.
-use Rattle.std.specs.Prelude.{◌≡◌}
 use Rattle.lk_ast.specs.declared.declaration.Program.{Program}
 use Rattle.lk_code.specs.Sound.{IsTypedProgram}
 use Rattle.lk_cps.specs.Conts.{AreEnvs, AreTyped}
-use Rattle.lk_evaluation.specs.Laws.{Both}
-use Rattle.lk_ground.specs.declared.program.GroundFun.{GroundFun}
 use Rattle.lk_ground.specs.declared.program.GroundProgram.{GroundProgram}
 use Rattle.lk_ir.specs.TypedUses.{UseCaptured}
 use Rattle.lk_ir.specs.Uses.{AreNamed}
@@ -13,17 +10,11 @@ use Rattle.lk_ir.specs.declared.nodes.Forms.{Forms}
 use Rattle.lk_lower.specs.Lowering.{AreForms}
 use Rattle.lk_mono.specs.Instanced.{HasInstances}
 use Rattle.lk_names.specs.Programs.{IsBound}
-use Rattle.lk_sound.specs.Nodes.{Use}
 
--- an instance has the type of its use
-abbrev pub HasItsType : GroundFun → Use → Type 0
-HasItsType fun u = fun.ty ≡ u.type
-
--- The ground program has typed instances of a program with bound names, each at its own type.
+-- The ground program has typed instances of a program with bound names.
 pub record IsTypedGround (p : Program) (g : GroundProgram) : Type 0 where
   pub bound : IsBound p
   pub instances : HasInstances p g
-  pub types : Both HasItsType g.funs instances.shaped.instances.mains
 
 -- Its continuations keep just what is used behind them, each name with the type of a use, and so do lambdas.
 pub record IsContinued (c : CpsProgram) : Type 0 where

@@ -204,6 +204,7 @@ module _ (use_law : UseLaw) (p : Program) (schemes : List Scheme) (types : List 
         record {
           named = its.named;
           has = typed_there has its;
+          type = is.type;
           nodes = subst (Each P) its.are all;
           types = is.types ∙ ap types_in its.are;
           calls = subst (λ nodes. AreCalled mains (uses_of helpers) in_helper nodes f.calls) its.are is.calls;

@@ -18,6 +18,7 @@ use Rattle.lk_types.specs.Each.{Each}
 pub record IsInstanceOf (p : Program) (i : Instances) (in_helper : Bool) (P : TypedNode → Type 0) (function : FunDef) (f : GroundFun) (u : Use) : Type 0 where
   pub named : function_named p u.name ≡ Some function
   pub has : HasFunctionType p function u.type
+  pub type : f.ty ≡ u.type
   pub nodes : Each P (nodes_of false has.typed.body)
   pub types : f.types ≡ types_in (nodes_of false has.typed.body)
   pub calls : AreCalled i.mains i.helpers in_helper (nodes_of false has.typed.body) f.calls
