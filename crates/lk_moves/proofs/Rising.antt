@@ -14,7 +14,7 @@ use Rattle.lk_evaluation.specs.Evaluation.{Language, all_parts, client_call, eac
 use Rattle.lk_evaluation.specs.Laws.{run_of}
 use Rattle.lk_evaluation.specs.Run.{Run, Entry, Out, Goes, Stops, and_then, step, logs, enter_with, Callee, Crossing, Called}
 use Rattle.lk_operators.specs.Values.{list_in}
-use Rattle.lk_moves.specs.Frames.{Frame, Part, Turn, Back, continued, handed_by, returned, wound}
+use Rattle.lk_moves.specs.Frames.{Frame, Part, Turn, Back, continued, handed_by, resumed, returned, wound}
 use Rattle.lk_moves.specs.Later.{Later, Reaches, Rise}
 use Rattle.lk_moves.specs.Laws.{LaterLaw}
 
@@ -27,6 +27,19 @@ rise_further n (entry ∷ log) m k le rise = (rise.0, rise_further entry.number 
 rise_at_end : (n : ℕ) (log : List Entry) (m : ℕ) (event : Event) (what : Crossing) → Rise n log m → Rise n (log ++ record { number = m; event = event; crossing = what } ∷ []) m
 rise_at_end n [] m event what rise = (rise, let e : m ≤ m = omega arith in e)
 rise_at_end n (entry ∷ log) m event what rise = (rise.0, rise_at_end entry.number log m event what rise.1)
+
+rise_both : (n : ℕ) (log : List Entry) (m : ℕ) (others : List Entry) (k : ℕ) → Rise n log m → Rise m others k → Rise n (log ++ others) k
+rise_both n [] m [] k rise others = omega (arith, rise, others)
+rise_both n [] m (entry ∷ more) k rise others = (let e : n ≤ entry.number = omega (arith, rise, others.0) in e, others.1)
+rise_both n (entry ∷ log) m others k rise more = (rise.0, rise_both entry.number log m others k rise.1 more)
+
+-- what is later than a run that was reached is reached
+pub reaches_on : (first : ℕ) (log : List Entry) (r s : Run) → Reaches first log r → Reaches r.steps r.log s → Reaches first log s
+reaches_on first log r s h g = record {
+  more = h.more ++ g.more;
+  logged = g.logged ∙ ap (λ all. all ++ g.more) h.logged ∙ append_assoc log h.more g.more;
+  rise = rise_both first h.more r.steps g.more s.steps h.rise g.rise;
+}
 
 -- an index: the first number, and the log that there was
 record Begun : Type 0 where
@@ -127,16 +140,27 @@ module _ (l : Language) where
   joined_reaches i at made None k r h next = h
   joined_reaches i at made (Some values) k r h next = next (made ++ values)
 
+  resumed_reaches : (i : Begun) (e : l.Point) (done : List Value) (place : Loc) (s : Run) → Reaches i.first i.log s → Reaches i.first i.log (run_of (resumed l e done place s))
+  resumed_reaches i e done place s h =
+      then_reaches i (all_parts l (eval l) (drop (length done) (l.parts e)) place done s) (λ values t. perform l (eval l) place (l.act e values) t)
+      (all_walk l Begun Runs Outs walk (eval l) (eval l) reaches i (drop (length done) (l.parts e)) place done s s h)
+      (λ values t g. perform_walks l Begun Runs Outs walk (eval l) (eval l) reaches i place (l.act e values) t t g)
+
+  turned_reaches : (i : Begun) (at : Span) (left : List l.Point) (place : Loc) (made : List Value) (o : Option (List Value)) (s : Run) → Reaches i.first i.log s → Reaches i.first i.log (run_of (joined at made o (each l (eval l) at left place) s))
+  turned_reaches i at left place made o s h = joined_reaches i at made o (each l (eval l) at left place) s h (λ all. each_walks l Begun Runs Outs walk (eval l) (eval l) reaches i at left place all s s h)
+
+  -- from here on
+  pub resumed_later : (e : l.Point) (done : List Value) (place : Loc) (s : Run) → Later s.steps s (resumed l e done place s)
+  resumed_later e done place s = resumed_reaches (begun s.steps s) e done place s (from_here s s.steps (let e : s.steps ≤ s.steps = omega arith in e))
+
+  pub turned_later : (at : Span) (left : List l.Point) (place : Loc) (made : List Value) (o : Option (List Value)) (s : Run) → Later s.steps s (joined at made o (each l (eval l) at left place) s)
+  turned_later at left place made o s = turned_reaches (begun s.steps s) at left place made o s (from_here s s.steps (let e : s.steps ≤ s.steps = omega arith in e))
+
   continued_reaches : (i : Begun) (frame : Frame l.Point) (v : Value) (r : Run) → Reaches i.first i.log r → Reaches i.first i.log (run_of (continued l frame v r))
   continued_reaches i (Part e done place) v r h =
-      let s : Run = handed_by l (slice_get (l.parts e) (length done)) r in
-      then_reaches i (all_parts l (eval l) (drop (length (done ++ v ∷ [])) (l.parts e)) place (done ++ v ∷ []) s) (λ values t. perform l (eval l) place (l.act e values) t)
-      (all_walk l Begun Runs Outs walk (eval l) (eval l) reaches i (drop (length (done ++ v ∷ [])) (l.parts e)) place (done ++ v ∷ []) s s (handed_by_reaches i (slice_get (l.parts e) (length done)) r h))
-      (λ values t g. perform_walks l Begun Runs Outs walk (eval l) (eval l) reaches i place (l.act e values) t t g)
+      resumed_reaches i e (done ++ v ∷ []) place (handed_by l (slice_get (l.parts e) (length done)) r) (handed_by_reaches i (slice_get (l.parts e) (length done)) r h)
   continued_reaches i (Turn at body left place made) v r h =
-      let s : Run = handed (l.plain body) r in
-      let g = handed_reaches i (l.plain body) r h in
-      joined_reaches i at made (list_in v) (each l (eval l) at left place) s g (λ all. each_walks l Begun Runs Outs walk (eval l) (eval l) reaches i at left place all s s g)
+      turned_reaches i at left place made (list_in v) (handed (l.plain body) r) (handed_reaches i (l.plain body) r h)
   continued_reaches i (Back place) v r h = returned_reaches i place v r h
 
   wound_reaches : (i : Begun) (frames : List (Frame l.Point)) (out : Out Value) → Reaches i.first i.log (run_of out) → Reaches i.first i.log (run_of (wound l frames out))
