@@ -10,7 +10,7 @@ use Rattle.lk_code.specs.Law.{frame}
 use Rattle.lk_code.specs.Meaning.{frame_meant}
 use Rattle.lk_code.specs.Sound.{told_by}
 use Rattle.lk_code.specs.Tables.{first_frame, frame_info}
-use Rattle.lk_code.specs.TypedLaw.{AreHeld, AreHomes, ComeTo, IsWhole}
+use Rattle.lk_code.specs.TypedLaw.{AreHeld, ComeTo, IsWhole}
 use Rattle.lk_code.specs.Values.{IsFun}
 use Rattle.lk_code.specs.Waiting.{GoesOn}
 use Rattle.lk_code.specs.declared.infos.FrameInfo.{FrameInfo}
@@ -23,7 +23,7 @@ there [] n below = absurd (let e : ⊥ = omega arith in e)
 there (i ∷ is) zero below = (i, refl)
 there (i ∷ is) (suc n) below = there is n (let e : n < length is = omega arith in e)
 
-module _ (c : CodeTables) (whole : IsWhole c) (homes : AreHomes c) (place : Loc) where
+module _ (c : CodeTables) (whole : IsWhole c) (place : Loc) where
   -- a return hands on the result of its label
   returned : (f : Frame) (t : Ground) → AreChained c (f ∷ []) t → (u : Ground) × ComeTo c place (f ∷ []) t u
   returned f t chained =
@@ -33,9 +33,9 @@ module _ (c : CodeTables) (whole : IsWhole c) (homes : AreHomes c) (place : Loc)
 
   goes : (f : Frame) (i : FrameInfo) → frame_info c f.number ≡ Some i → first_frame c ≤ f.number → FitEach (IsFun c) f.env i.env → GoesOn (IsFun c) c.forms (told_by c) c.conts i.hole i.result (frame_meant c place f)
   goes f i is above fit =
-      let home = homes.each f.number i is above in
-      subst (λ n. GoesOn (IsFun c) c.forms (told_by c) c.conts i.hole i.result (frame_meant c place (frame n f.env))) (sym home.5)
-      (frame_goes c whole home.0 home.1 home.2 i home.3 home.4 (subst (λ n. frame_info c n ≡ Some i) home.5 is) f.env place fit)
+      let home = whole.sound.homes f.number i is above in
+      subst (λ n. GoesOn (IsFun c) c.forms (told_by c) c.conts i.hole i.result (frame_meant c place (frame n f.env))) (sym home.numbered)
+      (frame_goes c whole home.home home.form home.cont i home.there home.is (subst (λ n. frame_info c n ≡ Some i) home.numbered is) f.env place fit)
 
   pub chains_law : (frames : List Frame) (t : Ground) → AreChained c frames t → AreHeld c frames → (u : Ground) × ComeTo c place frames t u
   chains_law [] t chained held = absurd chained

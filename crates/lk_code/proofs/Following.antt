@@ -79,11 +79,11 @@ module _ (c : CodeTables) (place : Loc) (first : ℕ) (log : List Entry) where
   goes_on_reaches true frame v r reached = reached
   goes_on_reaches false frame v r reached = continues_reaches frame v r reached
 
-  then_reaches : (out : Out Value) (k : Value → Run → Out Value) → Gets out → ((v : Value) (r : Run) → Reaches first log r → Gets (k v r)) → Gets (and_then out k)
+  pub then_reaches : (out : Out Value) (k : Value → Run → Out Value) → Gets out → ((v : Value) (r : Run) → Reaches first log r → Gets (k v r)) → Gets (and_then out k)
   then_reaches (Goes v r) k reached next = next v r reached
   then_reaches (Stops stop r) k reached next = reached
 
-  rest_reaches : (fs : List Frame) (v : Value) (r : Run) → Reaches first log r → Gets (rest c fs place v r)
+  pub rest_reaches : (fs : List Frame) (v : Value) (r : Run) → Reaches first log r → Gets (rest c fs place v r)
   rest_reaches [] v r reached = reached
   rest_reaches (f ∷ fs) v r reached = then_reaches (goes_on c place f v r) (rest c fs place) (goes_on_reaches (nat_lt f.number (first_frame c)) (frame_meant c place f) v r reached) (rest_reaches fs)
 

@@ -1,4 +1,5 @@
 pub mod Acting
+pub mod Arguments
 pub mod Calling
 pub mod Casing
 pub mod Chaining
@@ -17,6 +18,7 @@ pub mod Resuming
 pub mod Samples
 pub mod Soundness
 pub mod Stacking
+pub mod Staying
 pub mod TypedUnder
 pub mod TypedUses
 pub mod Waiting

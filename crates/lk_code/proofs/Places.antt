@@ -97,3 +97,9 @@ module _ (f : Forms) (info : ℕ → Option Info) (c : Context) where
   types_long [] (t ∷ ts) have = elim have [ ]
   types_long (n ∷ ns) [] have = elim have [ ]
   types_long (n ∷ ns) (t ∷ ts) (typed.more one rest) = ap suc (types_long ns ts rest)
+
+  pub one_behind : (ns : List ℕ) (k : ℕ) (ts : List Ground) (t : Ground) → AreTyped f info c ns ts → IsTyped f info c k t → AreTyped f info c (ns ++ k ∷ []) (ts ++ t ∷ [])
+  one_behind [] k [] t typed.none last = typed.more last typed.none
+  one_behind [] k (u ∷ ts) t have last = elim have [ ]
+  one_behind (n ∷ ns) k [] t have last = elim have [ ]
+  one_behind (n ∷ ns) k (u ∷ ts) t (typed.more one rest) last = typed.more one (one_behind ns k ts t rest last)

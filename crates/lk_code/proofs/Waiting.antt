@@ -1,4 +1,4 @@
--- A frame with values of the types told of it goes on with what is of its result's type.
+-- A frame with values of the types told of it goes on with what is of its result's type, and at a position it is that of a typed node.
 use Rattle.std.proofs.Common.{◌≡◌, refl, sym, ap, subst, ◌∙◌, inl, inr, ◌⊎◌, ℕ, suc, ◌+◌, true, false, List, [], ◌∷◌, ◌++◌, Option, Some, None, drop, take, length, length-append, slice_get, arith}
 use Rattle.std.proofs.lemmas.Bool.Decides.{nat_tests}
 use Rattle.std.specs.Option.{option_and_then, option_map}
@@ -26,7 +26,7 @@ use Rattle.lk_types.specs.declared.ground.Ground.{Ground}
 use Rattle.lk_types.specs.declared.ground.Ground.TheVariants as known
 use Rattle.lk_code.proofs.Acting.{bodies_well, typed_acts}
 use Rattle.lk_code.proofs.KeptNames.{kept_names_fit}
-use Rattle.lk_code.proofs.Places.{AreSplit, AtPart, AtTurn, node_type_is, node_types_are, place as place_of, split, turned_is, types_long}
+use Rattle.lk_code.proofs.Places.{AreSplit, AtPart, AtTurn, node_type_is, node_types_are, one_behind, place as place_of, split, turned_is, types_long}
 use Rattle.lk_code.proofs.Points.{BehindFit, kept_within, left_over, points_typed}
 use Rattle.lk_code.proofs.Soundness.{functions}
 use Rattle.lk_code.proofs.TypedUses.{use_behind}
@@ -38,7 +38,7 @@ use Rattle.lk_code.specs.Parts.{AreTyped, Asked, Context, HaveTypes, Info, IsTyp
 use Rattle.lk_code.specs.Sound.{HasFrame, IsFrameOf, told_by}
 use Rattle.lk_code.specs.Tables.{cont_at, first_frame, frame_info, node_type, type_at}
 use Rattle.lk_code.specs.Told.{node_types}
-use Rattle.lk_code.specs.TypedLaw.{IsWhole}
+use Rattle.lk_code.specs.TypedLaw.{IsNodeAt, IsWhole}
 use Rattle.lk_code.specs.Values.{IsFun}
 use Rattle.lk_code.specs.Waiting.{GoesOn}
 use Rattle.lk_code.specs.declared.infos.FrameInfo.{FrameInfo}
@@ -64,6 +64,14 @@ there_in (y ∷ xs) ys zs x = there_in xs ys zs x
 first_behind : (xs ys : List ℕ) (x : ℕ) → slice_get (xs ++ x ∷ ys) (length xs) ≡ Some x
 first_behind [] ys x = refl
 first_behind (y ∷ xs) ys x = first_behind xs ys x
+
+up_to : (xs ys : List ℕ) (x : ℕ) → take (suc (length xs)) (xs ++ x ∷ ys) ≡ xs ++ x ∷ []
+up_to [] ys x = refl
+up_to (y ∷ xs) ys x = ap (λ zs. y ∷ zs) (up_to xs ys x)
+
+left_behind : (xs ys : List ℕ) (x : ℕ) → drop (suc (length xs)) (xs ++ x ∷ ys) ≡ ys
+left_behind [] ys x = refl
+left_behind (y ∷ xs) ys x = left_behind xs ys x
 
 module _ (IsFun : ℕ → Ground → List Ground → Type 0) where
   -- values of some types, and of others behind them
@@ -243,6 +251,31 @@ module _ (c : CodeTables) (whole : IsWhole c) (h : Home) (form : Form) (cont : C
           subst (λ b. Goes (if b then Some (part_meant c place h cont env) else turn_meant c place form form.kind form.tails cont env)) (sym before_last)
           (record { before = s.before; after = s.after; fit = parts.first; left = points named parts.long; acts = acts named })
 
+      -- the types of the earlier positions and of this one
+      types_here : node_types c.forms (take (suc h.position) form.parts) ≡ Some (s.before ++ i.hole ∷ [])
+      types_here =
+          ap (λ n. node_types c.forms (take (suc n) form.parts)) at.many
+          ∙ ap (λ ks. node_types c.forms (take (suc (length at.earlier)) ks)) at.is
+          ∙ ap (node_types c.forms) (up_to at.earlier at.later at.position)
+          ∙ node_types_are c.forms info context (at.earlier ++ at.position ∷ []) (s.before ++ s.here ∷ []) (one_behind c.forms info context at.earlier at.position s.before s.here s.first s.one)
+          ∙ ap (λ u. Some (s.before ++ u ∷ [])) hole
+
+      later_are : drop (suc h.position) form.parts ≡ at.later
+      later_are = ap (λ n. drop (suc n) form.parts) at.many ∙ ap (drop (suc (length at.earlier))) at.is ∙ left_behind at.earlier at.later at.position
+
+      pub part_node : IsTyped c.forms info context h.node t → FitEach (IsFun c) env i.env → IsNodeAt c h form cont i env
+      part_node typed fit =
+          let parts = cut fit in
+          record {
+            context = context;
+            typed = subst (IsTyped c.forms info context h.node) result typed;
+            names = subst (λ ks. BehindFit (IsFun c) c.forms info form ks context names) (sym later_are) (names_fit parts.rest);
+            held = s.before;
+            types = types_here;
+            fit = parts.first;
+            long = parts.long;
+          }
+
     -- ---- of the body of a `for`
 
     module _ (at : AtTurn c.forms form cont form.parts h.position) where
@@ -303,15 +336,27 @@ module _ (c : CodeTables) (whole : IsWhole c) (h : Home) (form : Form) (cont : C
           (subst (λ k. Goes (turn_meant c place form k form.tails cont env)) (sym of_for.1)
           (subst (λ ns. Goes (turn_meant c place form (kind.For x) ns cont env)) (sym of_for.2) (by_env env (env_lists fit))))
 
+  -- ---- of either
+
+  typed_so : (context : Context) × (t : Ground) × IsTyped c.forms info context h.node t
+  typed_so = whole.sound.forms.nodes h.node form there
+
+  node_so : IsNode c.forms info typed_so.0 form typed_so.1
+  node_so = inverted c.forms info typed_so.0 h.node form typed_so.1 there typed_so.2
+
+  place_so : AtPart c.forms form cont form.parts h.position ⊎ AtTurn c.forms form cont form.parts h.position
+  place_so = place_of c.forms form cont form.parts conts (whole.sound.named.each h.node form there) (whole.sound.named_as.each h.node form there) h.position is
+
   pub frame_goes : FitEach (IsFun c) env i.env → Goes (frame_meant c place (frame (first_frame c + cont.order) env))
-  frame_goes fit = subst Goes (sym meant) (by_place (place_of c.forms form cont form.parts conts (whole.sound.named.each h.node form there) (whole.sound.named_as.each h.node form there) h.position is))
+  frame_goes fit = subst Goes (sym meant) (by_place place_so)
     where
-      typed_so : (context : Context) × (t : Ground) × IsTyped c.forms info context h.node t
-      typed_so = whole.sound.forms.nodes h.node form there
-
-      node_so : IsNode c.forms info typed_so.0 form typed_so.1
-      node_so = inverted c.forms info typed_so.0 h.node form typed_so.1 there typed_so.2
-
       by_place : AtPart c.forms form cont form.parts h.position ⊎ AtTurn c.forms form cont form.parts h.position → Goes (at_home c place h form cont env)
       by_place (inl at) = part_goes typed_so.0 typed_so.1 node_so at fit
       by_place (inr at) = turn_goes typed_so.0 typed_so.1 node_so at fit
+
+  pub node_there : nat_lt h.position (length form.parts) ≡ true → FitEach (IsFun c) env i.env → IsNodeAt c h form cont i env
+  node_there before fit = by_place place_so
+    where
+      by_place : AtPart c.forms form cont form.parts h.position ⊎ AtTurn c.forms form cont form.parts h.position → IsNodeAt c h form cont i env
+      by_place (inl at) = part_node typed_so.0 typed_so.1 node_so at typed_so.2 fit
+      by_place (inr at) = let wrong : true ≡ false = sym before ∙ behind_last typed_so.0 typed_so.1 node_so at in cc

@@ -178,11 +178,17 @@ module _ (f : Forms) (info : ℕ → Option Info) where
   AreDistinct [] = Unit {0}
   AreDistinct (x ∷ xs) = (Among x xs → ⊥) × AreDistinct xs
 
-  -- Each body and each node is typed. No body binds a name twice; what is called without a value keeps nothing; and what reads or
-  -- changes tables has a label of its own.
+  -- A node stands in the function in which its positions and tails do, and the root of a body in what has the body's label.
+  pub record AreWithin : Type 0 where
+    pub children : (n : ℕ) (form : Form) (k : ℕ) (child : Form) → form_at f n ≡ Some form → Among k (form.parts ++ form.tails) → form_at f k ≡ Some child → child.within ≡ form.within
+    pub roots : (label : ℕ) (b : Body) (root : Form) → body_at f label ≡ Some b → form_at f b.root ≡ Some root → root.within ≡ label
+
+  -- Each body and each node is typed. No body binds a name twice; what is called without a value keeps nothing; what reads or changes
+  -- tables has a label of its own; and nodes stand in the functions in which their bodies do.
   pub record AreTypedForms : Type 0 where
     pub bodies : (label : ℕ) (b : Body) → body_at f label ≡ Some b → IsTypedBody label b
     pub nodes : (n : ℕ) (form : Form) → form_at f n ≡ Some form → (c : Context) × (t : Ground) × IsTyped c n t
     pub once : (label : ℕ) (b : Body) → body_at f label ≡ Some b → AreDistinct b.params × AreDistinct b.names
     pub tops : (label : ℕ) (l : LabelForm) (b : Body) → label_at f label ≡ Some l → l.node ≡ None → l.body ≡ Some b → b.names ≡ []
     pub blocks : (n : ℕ) (form : Form) (b : Block) (label : ℕ) (kept : List Kept) → form_at f n ≡ Some form → form.kind ≡ kind.Reach b label kept → (node_of f label ≡ Some n) × (body_at f label ≡ None)
+    pub within : AreWithin

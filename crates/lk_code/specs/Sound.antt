@@ -1,7 +1,7 @@
 -- Sound code: its bodies and nodes are typed by what is told of labels, its continuations keep just what is used, and each position
 -- that has one has a frame of its own, by the types of what it holds. So no step on values that fit lacks a rule where all is there
 -- that is needed.
-use Rattle.std.specs.Prelude.{◌≡◌, ◌⊎◌, ℕ, ◌+◌, true, false, List, [], ◌∷◌, ◌++◌, Option, Some, length, nat_lt, if◌then◌else◌, slice_get, take}
+use Rattle.std.specs.Prelude.{◌≡◌, ◌⊎◌, ◌≤◌, ℕ, ◌+◌, true, false, List, [], ◌∷◌, ◌++◌, Option, Some, length, nat_lt, if◌then◌else◌, slice_get, take}
 use Rattle.std.specs.Option.{option_and_then, option_map}
 use Rattle.lk_ast.specs.declared.place.Loc.TheVariants.{Client, Server}
 use Rattle.lk_ground_types.specs.Shapes.{has_function}
@@ -94,6 +94,15 @@ pub record HasFrame (c : CodeTables) (h : Home) (form : Form) (cont : Cont) : Ty
   pub place : info.place ≡ within.place
   pub types : IsFrameOf c.forms form h.position cont info
 
+-- the number is that of a continuation, by its place among all
+pub record IsNumbered (c : CodeTables) (number : ℕ) : Type 0 where
+  pub home : Home
+  pub form : Form
+  pub cont : Cont
+  pub there : form_at c.forms home.node ≡ Some form
+  pub is : cont_at c home ≡ Some cont
+  pub numbered : number ≡ first_frame c + cont.order
+
 -- ---- code
 
 pub record AreSound (c : CodeTables) : Type 0 where
@@ -113,6 +122,8 @@ pub record AreSound (c : CodeTables) : Type 0 where
   pub named_as : AreNamedAs c.forms c.conts
   pub returns : (label : ℕ) (i : FunInfo) → fun_info c label ≡ Some i → (r : FrameInfo) × (frame_info c label ≡ Some r) × IsReturnOf i r
   pub frames : (h : Home) (form : Form) (cont : Cont) → form_at c.forms h.node ≡ Some form → cont_at c h ≡ Some cont → HasFrame c h form cont
+  -- and each frame that is no return is that of a continuation, by its place among all
+  pub homes : (number : ℕ) (i : FrameInfo) → frame_info c number ≡ Some i → first_frame c ≤ number → IsNumbered c number
 
 -- A program with continuations that is typed by what it tells itself of its labels: what numbers are given to is then sound.
 pub record IsTypedProgram (p : CpsProgram) : Type 0 where

@@ -1,31 +1,35 @@
 -- The laws of typed nodes; their proofs stand in proofs/.
-use Rattle.std.specs.Prelude.{◌≡◌, ℕ, ◌+◌, ◌≤◌, true, List, [], ◌∷◌, ◌++◌, Some, length}
+use Rattle.std.specs.Prelude.{◌≡◌, ℕ, ◌+◌, true, List, [], ◌∷◌, ◌++◌, Some, drop, length, nat_lt, suc, take}
 use Rattle.lk_ast.specs.declared.place.Loc.{Loc}
 use Rattle.lk_ast.specs.declared.place.Loc.TheVariants.{Client, Server}
+use Rattle.lk_ast.specs.declared.place.Span.{Span}
 use Rattle.lk_ast.specs.declared.value.Value.{Value}
-use Rattle.lk_evaluation.specs.Evaluation.{Act, Primitive, Uses, eval}
+use Rattle.lk_evaluation.specs.Evaluation.{Act, Each, Primitive, Tail, Uses, eval}
 use Rattle.lk_evaluation.specs.Run.{Run}
 use Rattle.lk_fits.specs.Values.{FitEach}
 use Rattle.lk_ir.specs.Environments.{Env, bind_each, lookup_all, no_names}
 use Rattle.lk_ir.specs.LetNormal.{Point, act, under}
 use Rattle.lk_ir.specs.Tables.{body_at, form_at, names_of}
-use Rattle.lk_ir.specs.Uses.{Among, Needs}
+use Rattle.lk_ir.specs.Uses.{Among, Needs, UsedBehind}
 use Rattle.lk_ir.specs.declared.nodes.Block.{Block}
 use Rattle.lk_ir.specs.declared.nodes.Body.{Body}
 use Rattle.lk_ir.specs.declared.nodes.Cont.{Cont}
 use Rattle.lk_ir.specs.declared.nodes.Form.{Form}
+use Rattle.lk_ir.specs.declared.nodes.Forms.{Forms}
 use Rattle.lk_ir.specs.declared.nodes.Kept.{Kept}
+use Rattle.lk_ir.specs.declared.nodes.Kind.{Kind}
 use Rattle.lk_ir.specs.declared.nodes.Kind.TheVariants as kind
-use Rattle.lk_types.specs.Each.{Each}
+use Rattle.lk_types.specs.Each.{Each as EachOf}
 use Rattle.lk_types.specs.declared.ground.Ground.{Ground}
 use Rattle.lk_code.specs.Acting.{FitNames, TypedActs, TypedPoints}
 use Rattle.lk_code.specs.Chains.{AreChained}
 use Rattle.lk_code.specs.Law.{frame}
-use Rattle.lk_code.specs.Meaning.{does, frame_meant, language, primitive}
+use Rattle.lk_code.specs.Meaning.{does, frame_meant, kept_names, language, primitive}
 use Rattle.lk_code.specs.Parts.{Asked, Context, HasBody, IsTyped, Rule}
 use Rattle.lk_code.specs.Running.{RunsAt}
 use Rattle.lk_code.specs.Sound.{AreSound, held_types, told_by}
 use Rattle.lk_code.specs.Tables.{cont_at, first_frame, frame_info, fun_info, is_function}
+use Rattle.lk_code.specs.Told.{node_types}
 use Rattle.lk_code.specs.Values.{IsFun}
 use Rattle.lk_code.specs.Waiting.{GoesOn}
 use Rattle.lk_code.specs.declared.infos.FrameInfo.{FrameInfo}
@@ -88,14 +92,34 @@ HoldsLaw = (c : CodeTables) → IsWhole c → (h : Home) (form : Form) (cont : C
     → (done : List Value) (held : List Ground) → held_types c.forms form h.position ≡ Some held → FitEach (IsFun c) done held
     → (kept : List Value) × (lookup_all names (names_of cont.keeps) ≡ Some kept) × FitEach (IsFun c) (done ++ kept) i.env
 
--- each frame that is no return is that of a continuation, by its place among all
-pub record AreHomes (c : CodeTables) : Type 0 where
-  pub each : (number : ℕ) (i : FrameInfo) → frame_info c number ≡ Some i → first_frame c ≤ number
-      → (h : Home) × (form : Form) × (cont : Cont) × (form_at c.forms h.node ≡ Some form) × (cont_at c h ≡ Some cont) × (number ≡ first_frame c + cont.order)
+-- A node at a position whose frame waits: the node is typed at the frame's result, the names that are kept have what is used behind the
+-- position, and the first values are of the types of the earlier positions, behind which the type that is waited for comes.
+pub record IsNodeAt (c : CodeTables) (h : Home) (form : Form) (cont : Cont) (i : FrameInfo) (env : List Value) : Type 0 where
+  pub context : Context
+  pub typed : IsTyped c.forms (told_by c) context h.node i.result
+  pub names : FitNames (IsFun c) (UsedBehind c.forms form (drop (suc h.position) form.parts)) context (kept_names c cont (drop h.position env))
+  pub held : List Ground
+  pub types : node_types c.forms (take (suc h.position) form.parts) ≡ Some (held ++ i.hole ∷ [])
+  pub fit : FitEach (IsFun c) (take h.position env) held
+  pub long : length (take h.position env) ≡ h.position
+
+-- the frame of a position, with values of the types told of it, is of such a node
+abbrev pub NodesLaw : Type 0
+NodesLaw = (c : CodeTables) → IsWhole c → (h : Home) (form : Form) (cont : Cont) (i : FrameInfo) → form_at c.forms h.node ≡ Some form → cont_at c h ≡ Some cont → frame_info c (first_frame c + cont.order) ≡ Some i
+    → nat_lt h.position (length form.parts) ≡ true → (env : List Value) → FitEach (IsFun c) env i.env → IsNodeAt c h form cont i env
+
+-- where an act goes on with a node, or with several, they are among these
+abbrev pub StaysAt : List ℕ → Act Point → Type 0
+StaysAt tails (Tail p) = Among p.node tails
+StaysAt tails (Each at points) = EachOf (λ (p : Point). Among p.node tails) points
+StaysAt tails other = Unit {0}
+
+abbrev pub StaysLaw : Type 0
+StaysLaw = (f : Forms) (at : Span) (k : Kind) (tails : List ℕ) (names : Env) (values : List Value) → StaysAt tails (act f at k tails names values)
 
 -- the frames hold values of the types told of them
 abbrev pub AreHeld : CodeTables → List Frame → Type 0
-AreHeld c frames = Each (λ (f : Frame). (i : FrameInfo) → frame_info c f.number ≡ Some i → FitEach (IsFun c) f.env i.env) frames
+AreHeld c frames = EachOf (λ (f : Frame). (i : FrameInfo) → frame_info c f.number ≡ Some i → FitEach (IsFun c) f.env i.env) frames
 
 -- Waiting frames, the next one first: from a value of the one type each goes on with what is of the type that the one behind it waits
 -- for, up to the return of a label, whose result is of the other.
@@ -106,4 +130,4 @@ ComeTo c place (f ∷ g ∷ fs) t u = (s : Ground) × GoesOn (IsFun c) c.forms (
 
 -- Frames that wait for a value of a type come to one of the type of a label's result.
 abbrev pub TypedChainsLaw : Type 0
-TypedChainsLaw = (c : CodeTables) → IsWhole c → AreHomes c → (frames : List Frame) (t : Ground) → AreChained c frames t → AreHeld c frames → (place : Loc) → (u : Ground) × ComeTo c place frames t u
+TypedChainsLaw = (c : CodeTables) → IsWhole c → (frames : List Frame) (t : Ground) → AreChained c frames t → AreHeld c frames → (place : Loc) → (u : Ground) × ComeTo c place frames t u

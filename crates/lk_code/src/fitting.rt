@@ -7,7 +7,7 @@ ghost use Rattle.lk_code.specs.Values.{IsFun};
 ghost use Rattle.lk_fits.specs.Levels.{IsBase, IsMade, IsTag};
 ghost use Rattle.lk_fits.specs.Values.{AllFit, FieldsFit, FitEach, Fits};
 ghost use Rattle.lk_types.specs.declared.ground.Ground.{out-Ground};
-ghost use Rattle.std.specs.Prelude.{◌≡◌, ◌↔◌, IsTrue, true};
+ghost use Rattle.std.specs.Prelude.{◌≡◌, ◌↔◌, ◌++◌, IsTrue, true};
 
 use crate::code::{Code, fun_of};
 use crate::infos::{FunInfo, FunKind};
@@ -159,4 +159,15 @@ fn is_of_type(info: &FunInfo, t: &Ground) -> bool
         }
         _ => false,
     }
+}
+
+/// Whether these are values of what a label keeps and then of its parameters, as many as it has of both. Takes no memory.
+pub fn args_fit(c: &Code, info: &FunInfo, args: &[Value]) -> bool
+    ensures { IsTrue result ↔ FitEach (IsFun c.now.tables) args.now (info.now.env ++ info.now.params) }
+{
+    if args.len() < info.env.len() {
+        return false;
+    }
+    let (kept, passed) = args.split_at(info.env.len());
+    each_fits(c, kept, info.env.as_slice()) && each_fits(c, passed, info.params.as_slice())
 }

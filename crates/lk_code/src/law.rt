@@ -1,7 +1,7 @@
 //! The laws of what numbers stand for.
 
 ghost use Rattle.lk_code.specs.Law.{FramesLaw, LaterLaw, ResumesLaw, StacksLaw, TurnsLaw};
-ghost use Rattle.lk_code.specs.TypedLaw.{CallsLaw, HoldsLaw, ReachesLaw, TypedActsLaw, TypedChainsLaw, TypedFramesLaw, TypedPointsLaw, WholeLaw};
+ghost use Rattle.lk_code.specs.TypedLaw.{CallsLaw, HoldsLaw, NodesLaw, ReachesLaw, StaysLaw, TypedActsLaw, TypedChainsLaw, TypedFramesLaw, TypedPointsLaw, WholeLaw};
 
 /// The laws of what labels and frames stand for, as facts. A call does nothing.
 ///
@@ -42,6 +42,10 @@ pub fn meaning_laws()
 /// `holds`: a frame that is made at a typed node holds values of the types told of it.
 ///
 /// `chains`: frames that wait for a value of a type go on with one another up to a return, and come to the result of its label.
+///
+/// `nodes`: the frame of a position, with values of the types told of it, is of a typed node whose names have what is used behind it.
+///
+/// `stays`: where an act goes on with a node or with several, they are tails of its own.
 pub fn sound_laws()
     ensures whole { WholeLaw }
     ensures acts { TypedActsLaw }
@@ -51,4 +55,6 @@ pub fn sound_laws()
     ensures frames { TypedFramesLaw }
     ensures holds { HoldsLaw }
     ensures chains { TypedChainsLaw }
+    ensures nodes { NodesLaw }
+    ensures stays { StaysLaw }
 {}

@@ -10,13 +10,15 @@ mod code;
 mod fitting;
 mod infos;
 mod law;
+mod look;
 mod runs;
 mod tables;
 
 pub use chains::chain_fits;
 pub use code::{Code, frame_of, fun_of, program_of};
-pub use fitting::fits;
+pub use fitting::{args_fit, fits};
 pub use infos::{FrameInfo, FunInfo, FunKind};
 pub use law::{meaning_laws, sound_laws};
-pub use runs::runs_at;
+pub use look::{body_at, cont_at, form_at, home_of};
+pub use runs::{is_at, runs_at};
 pub use tables::{BlockCode, CodeTables, Contents, Frame, Home, Origin};

@@ -1,16 +1,15 @@
 //! What a place can run.
 
 ghost use Rattle.lk_code.specs.Running.{FramesRun, HasCode, HasHome, IsInBody, LabelsRun, RunsAt, is_at, is_code};
-ghost use Rattle.lk_code.specs.Tables.{block_at, cont_at, home_of};
-ghost use Rattle.lk_ir.specs.Tables.{body_at};
+ghost use Rattle.lk_code.specs.Tables.{block_at, cont_at};
 ghost use Rattle.std.specs.Option.{option_copied};
 ghost use Rattle.std.specs.Prelude.{◌≡◌, ◌↔◌, IsSome, IsTrue, true};
 
 use crate::code::Code;
 use crate::infos::{FunInfo, FunKind};
+use crate::look::{body_at, body_of, cont_at, form_at, home_in};
 use crate::tables::{BlockCode, Home};
 use lk_ast::Loc;
-use lk_ir::Body;
 
 /// Whether all is there that a place runs: the bodies of the functions of this place, and of those without one; at the server what reads
 /// and changes tables; and for each frame of these places that is no return a position in such a body. Takes no memory.
@@ -53,7 +52,7 @@ fn frames_run_at(c: &Code, place: Loc) -> bool
 }
 
 /// Whether what has this mark runs at the place.
-fn is_at(mark: Loc, place: Loc) -> bool
+pub fn is_at(mark: Loc, place: Loc) -> bool
     ensures { result ≡ is_at mark place }
 {
     match (mark, place) {
@@ -68,7 +67,7 @@ fn has_code(c: &Code, label: usize, kind: FunKind) -> bool
 {
     match kind {
         FunKind::Print => true,
-        FunKind::Top | FunKind::Lambda => body_at(c, label).is_some(),
+        FunKind::Top | FunKind::Lambda => body_of(c.tables().forms.get(), label).is_some(),
         FunKind::Query | FunKind::TableRead | FunKind::Insert | FunKind::Update | FunKind::Delete =>
             is_code(kind, block_at(c, label)),
     }
@@ -97,54 +96,30 @@ fn block_at(c: &Code, label: usize) -> Option<&BlockCode>
     }
 }
 
-/// The body of what has this label.
-fn body_at(c: &Code, label: usize) -> Option<&Body>
-    ensures { option_copied result ≡ body_at c.now.tables.forms label }
-{
-    match c.tables().forms.get().labels.get(label) {
-        Some(form) => form.body.as_ref(),
-        None => None,
-    }
-}
-
 /// Whether the frame is that of a position in a body that is there.
 fn has_home(c: &Code, number: usize) -> bool
     ensures { IsTrue result ↔ HasHome c.now number }
 {
-    match home_of(c, number) {
+    match home_in(c.tables(), number) {
         Some(home) => has_position(c, home) && is_in_body(c, home),
         None => false,
     }
 }
 
-/// The home of a frame, if it is no return.
-fn home_of(c: &Code, number: usize) -> Option<&Home>
-    ensures { option_copied result ≡ home_of c.now.tables number }
-{
-    let first = c.tables().funs.len();
-    if number < first {
-        None
-    } else {
-        c.tables().homes.get(number - first)
-    }
-}
-
 /// Whether the position has a continuation.
-fn has_position(c: &Code, home: &Home) -> bool
-    ensures { IsTrue result ↔ IsSome (cont_at c.now.tables home.now) }
+fn has_position(c: &Code, home: Home) -> bool
+    ensures { IsTrue result ↔ IsSome (cont_at c.now.tables home) }
 {
-    match c.tables().conts.get().get(home.node as usize) {
-        Some(conts) => matches!(conts.of.get(home.position as usize), Some(Some(_))),
-        None => false,
-    }
+    cont_at(c.tables(), home.node, home.position as usize).is_some()
 }
 
 /// Whether the node stands in a body that is there.
-fn is_in_body(c: &Code, home: &Home) -> bool
-    ensures { IsTrue result ↔ IsInBody c.now home.now.node }
+fn is_in_body(c: &Code, home: Home) -> bool
+    ensures { IsTrue result ↔ IsInBody c.now home.node }
 {
-    match c.tables().forms.get().nodes.get(home.node as usize) {
-        Some(form) => body_at(c, form.within as usize).is_some(),
+    let forms = c.tables().forms.get();
+    match form_at(forms, home.node) {
+        Some(form) => body_at(forms, form.within).is_some(),
         None => false,
     }
 }

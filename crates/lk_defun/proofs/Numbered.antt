@@ -1,6 +1,6 @@
 -- Numbering makes sound code.
-use Rattle.std.proofs.Common.{◌≡◌, refl, sym, ap, subst, ◌∙◌, ◌⊎◌, inl, inr, ℕ, ◌+◌, true, List, [], ◌∷◌, ◌++◌, Option, Some, None, length, map, slice_get, arith}
-use Rattle.std.specs.Option.{option_and_then, option_map}
+use Rattle.std.proofs.Common.{◌≡◌, refl, sym, ap, subst, ◌∙◌, ◌⊎◌, inl, inr, ℕ, ◌+◌, ◌≤◌, true, List, [], ◌∷◌, ◌++◌, Option, Some, None, length, map, slice_get, arith}
+use Rattle.std.specs.Option.{option_and_then, option_flatten, option_map}
 use Rattle.std.specs.Prelude.{if◌then◌else◌, ◌-◌}
 use Rattle.lk_ast.specs.declared.place.Loc.TheVariants.{Server}
 use Rattle.lk_ground_types.specs.Shapes.{has_function}
@@ -17,8 +17,8 @@ use Rattle.lk_ir.specs.declared.nodes.Kept.{Kept}
 use Rattle.lk_ir.specs.declared.nodes.Kind.TheVariants as kind
 use Rattle.lk_ir.specs.declared.nodes.LabelForm.{LabelForm}
 use Rattle.lk_code.specs.Parts.{AreTypedForms, Info}
-use Rattle.lk_code.specs.Sound.{AreSound, HasFrame, IsMain, IsPrinter, IsReturnOf, info_of, kind_of, told_by}
-use Rattle.lk_code.specs.Tables.{cont_at, frame_info, fun_info, is_block, is_function, type_at}
+use Rattle.lk_code.specs.Sound.{AreSound, HasFrame, IsMain, IsNumbered, IsPrinter, IsReturnOf, info_of, kind_of, told_by}
+use Rattle.lk_code.specs.Tables.{cont_at, first_frame, frame_info, fun_info, is_block, is_function, type_at}
 use Rattle.lk_code.specs.Told.{env_of, info_in, told}
 use Rattle.lk_code.specs.declared.infos.FrameInfo.{FrameInfo}
 use Rattle.lk_code.specs.declared.infos.FunInfo.{FunInfo}
@@ -26,10 +26,10 @@ use Rattle.lk_code.specs.declared.infos.FunKind.TheVariants as fun
 use Rattle.lk_code.specs.declared.tables.CodeTables.{CodeTables}
 use Rattle.lk_code.specs.declared.tables.Home.{Home}
 use Rattle.lk_defun.proofs.Framed.{frame_shown, return_shown, returns_at, returns_long}
-use Rattle.lk_defun.proofs.InOrder.{home_found}
+use Rattle.lk_defun.proofs.InOrder.{home_counted, home_found}
 use Rattle.lk_defun.proofs.Labels.{IsShown, at_server, form_keeps, funs_at, prints, shown}
 use Rattle.lk_defun.proofs.Lists.{flat, get_back, get_front, get_map, get_there, gone, not_before, nowhere, some_same}
-use Rattle.lk_defun.specs.Numbers.{AreTables, fun_at, frame_at, funs_from, homes_from, kind_by, kind_in, place_in, return_at, returns_from}
+use Rattle.lk_defun.specs.Numbers.{AreTables, cont_in, fun_at, frame_at, frame_in, funs_from, homes_from, kind_by, kind_in, place_in, return_at, returns_from}
 use Rattle.lk_defun.specs.Whole.{IsFirst, IsWhole}
 
 module _ (p : CpsProgram) (funs : List FunInfo) (frames : List FrameInfo) (homes : List Home) (whole : IsWhole p) (funs_are : map Some funs ≡ funs_from p 0 p.forms.labels) (homes_are : homes ≡ homes_from 0 p.conts)
@@ -205,6 +205,32 @@ module _ (p : CpsProgram) (funs : List FunInfo) (frames : List FrameInfo) (homes
         types = shows.types;
       }
 
+  -- a frame behind the returns is that of a home
+  homed : (number : ℕ) (i : FrameInfo) → frame_info c number ≡ Some i → first_frame c ≤ number → IsNumbered c number
+  homed number i at above =
+      let long = returns_long p.forms 0 funs in
+      let behind : number ≡ length (returns_from p.forms 0 funs) + (number - length funs) = omega (arith, long, above) in
+      let asked : slice_get (map (frame_at p funs) homes) (number - length funs) ≡ Some (Some i)
+      = sym (get_back (returns_from p.forms 0 funs) (map (frame_at p funs) homes) (number - length funs))
+      ∙ sym (ap (slice_get (returns_from p.forms 0 funs ++ map (frame_at p funs) homes)) behind)
+      ∙ sym (ap (λ os. slice_get os number) frames_are)
+      ∙ get_map Some frames number
+      ∙ ap (option_map Some) at in
+      by_home (slice_get homes (number - length funs)) refl (sym (get_map (frame_at p funs) homes (number - length funs)) ∙ asked)
+    where
+      by_form : (h : Home) → slice_get homes (number - length funs) ≡ Some h → (form : Option Form) → form_at p.forms h.node ≡ form
+          → option_and_then (λ form. option_and_then (frame_in p.forms funs form h.position) (cont_in p.conts h)) form ≡ Some i → IsNumbered c number
+      by_form h there None form_is is = absurd (nowhere is)
+      by_form h there (Some form) form_is is =
+          let one = home_counted p.conts whole.order (number - length funs) h (sym (ap (λ hs. slice_get hs (number - length funs)) homes_are) ∙ there) in
+          let order = one.2 in
+          let numbered : number ≡ length funs + one.0.order = omega (arith, order, above) in
+          record { home = h; form = form; cont = one.0; there = form_is; is = ap option_flatten one.1; numbered = numbered }
+
+      by_home : (h : Option Home) → slice_get homes (number - length funs) ≡ h → option_map (frame_at p funs) h ≡ Some (Some i) → IsNumbered c number
+      by_home None there is = absurd (nowhere is)
+      by_home (Some h) there is = by_form h there (form_at p.forms h.node) refl (some_same is)
+
   pub are_sound : AreSound c
   are_sound = record {
     printer = is_printer;
@@ -219,6 +245,7 @@ module _ (p : CpsProgram) (funs : List FunInfo) (frames : List FrameInfo) (homes
     named_as = whole.typed.named_as;
     returns = returns_are;
     frames = positions_are;
+    homes = homed;
   }
 
 -- tables of these functions, homes and frames

@@ -2,6 +2,7 @@ pub mod Acts
 pub mod Blocks
 pub mod Contexts
 pub mod Continued
+pub mod Enclosing
 pub mod Inverted
 pub mod LabelBodies
 pub mod Labelling

@@ -23,6 +23,7 @@ use Rattle.lk_lower.specs.Lowering as low
 use Rattle.lk_lower.specs.Lowering.{AreForms, IsBlockLabel, IsLowered, Pending, Shell}
 use Rattle.lk_lowered.proofs.Contexts.{same_numbers}
 use Rattle.lk_lowered.proofs.Continued.{envs_of}
+use Rattle.lk_lowered.proofs.Enclosing.{bodies_within, children_within}
 use Rattle.lk_lowered.proofs.OwnBodies.{IsOwnBody}
 use Rattle.lk_lowered.proofs.Telling.{covered, tells_in}
 use Rattle.lk_lowered.proofs.Turning.{IsWholeOf}
@@ -127,6 +128,10 @@ module _ (p : Program) (g : GroundProgram) (f : Forms) (source : IsTypedGround p
         once = λ label b is. ((own label b is).params, (own label b is).names);
         tops = λ label l b is no_node has. (own label b (ap body_of is ∙ has)).top l is no_node;
         blocks = λ n form b label kept is kind_is. at_block f g of (covered f g of n form is).lowered form b label kept is kind_is;
+        within = record {
+          children = λ n form k child is among child_is. children_within f (covered f g of n form is).lowered form is k among child child_is;
+          roots = λ label b root is root_is. bodies_within f of.funs label (from_one f g of label b is) (within f g of label b is) b is root root_is;
+        };
       }
 
 pub captured : CapturedLaw

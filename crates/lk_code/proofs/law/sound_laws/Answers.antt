@@ -1,9 +1,11 @@
+use Rattle.lk_ast.specs.declared.place.Loc.TheVariants.{Any}
 use Rattle.lk_code.proofs.Chaining.{chains_law}
 use Rattle.lk_code.proofs.Crossing.{calls_law}
 use Rattle.lk_code.proofs.Holding.{holds_law}
 use Rattle.lk_code.proofs.Reaching.{reaches_law}
 use Rattle.lk_code.proofs.Soundness.{acts_law, points_law}
-use Rattle.lk_code.proofs.Waiting.{frame_goes}
+use Rattle.lk_code.proofs.Staying.{stays_law}
+use Rattle.lk_code.proofs.Waiting.{frame_goes, node_there}
 use Rattle.lk_code.proofs.Whole.{whole_law}
 use Rattle.lk_code.proofs.law.sound_laws.Goals as goal
 
@@ -16,5 +18,7 @@ returns c = record {
   points = λ code whole. points_law code whole;
   frames = λ code whole h form cont i there is info_is env fit place. frame_goes code whole h form cont i there is info_is env place fit;
   holds = λ code whole h form cont i there is info_is context t has names fit done held held_are fits. holds_law code whole h form cont i there is info_is context t has names fit done held held_are fits;
-  chains = λ code whole homes frames t chained held place. chains_law code whole homes place frames t chained held;
+  chains = λ code whole frames t chained held place. chains_law code whole place frames t chained held;
+  nodes = λ code whole h form cont i there is info_is before env fit. node_there code whole h form cont i there is info_is env Any before fit;
+  stays = λ f at k tails names values. stays_law f at k tails names values;
 }
