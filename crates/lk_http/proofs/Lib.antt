@@ -1,0 +1,13 @@
+pub mod Bodies
+pub mod Digits
+pub mod FieldTexts
+pub mod Grammars
+pub mod Named
+pub mod One
+pub mod ReplySteps
+pub mod ReplyTexts
+pub mod RequestSteps
+pub mod RequestTexts
+pub mod Room
+pub mod Stays
+pub mod Texts
