@@ -11,6 +11,7 @@ pub struct Case<'a> {
     behind: Content,
     printed: String,
     asked: Vec<&'a str>,
+    has_crlf: bool,
 }
 
 impl Drop for Case<'_> {
@@ -21,6 +22,7 @@ impl Drop for Case<'_> {
             behind: _,
             printed: _,
             asked: _,
+            has_crlf: _,
         } = self;
     }
 }
@@ -34,6 +36,7 @@ impl<'a> Case<'a> {
             behind: Content::new(alloc),
             printed: String::new(alloc),
             asked: Vec::new(alloc),
+            has_crlf: false,
         }
     }
 
@@ -55,8 +58,23 @@ impl<'a> Case<'a> {
             "before" => self.before.take("<", rest),
             "behind" => self.behind.take("<", rest),
             ">" => self.take_printed(rest),
+            "crlf" => self.take_crlf(),
+            "<" => self.take_line(rest),
             _ => self.text.take(word, rest),
         }
+    }
+
+    fn take_crlf(&mut self) -> Result<bool, NoMemory> {
+        self.has_crlf = true;
+        Ok(true)
+    }
+
+    /// Begins a line of the text, behind CR LF where the case says so.
+    fn take_line(&mut self, line: &str) -> Result<bool, NoMemory> {
+        if self.has_crlf && self.text.has_begun() {
+            self.text.take("bytes", "0d")?;
+        }
+        self.text.take("<", line)
     }
 
     fn take_printed(&mut self, line: &str) -> Result<bool, NoMemory> {

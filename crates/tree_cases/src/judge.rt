@@ -6,11 +6,16 @@ use crate::answer::{
 use crate::case::Case;
 use crate::cuts::put_cuts;
 use crate::line::Line;
+use crate::message::{message_asked_by, put_message_answer};
+use crate::schedule::put_schedule;
 use case_files::{Judge, parted};
 use lk_ast::NoMemory;
 use std::alloc::Global;
 
-/// Judges cases of texts and their trees. The lines of a case are
+/// The most sessions of a run.
+const MOST_SESSIONS: u32 = 256;
+
+/// Judges cases of texts: of programs and their trees, of messages and of schedules. The lines of a case are
 /// - `<`, `+`, `repeat` and `bytes`: the text, as in all files of cases; in settings `before` and `behind`, a line each of what
 ///   stands round it,
 /// - `tree T`: the program of the text; `body T`: the body of its one function; `type T`: the type that is written down of its
@@ -20,7 +25,14 @@ use std::alloc::Global;
 /// - `tokens T`: the tokens of the text; `nesting light`: they don't nest too deep; `names bound`, or why they aren't,
 /// - `> LINE`: a line that is printed of the program; `length N`: how many bytes are printed; `again the same`: that what is
 ///   printed is the same program,
-/// - `cuts N`: the text can be cut behind so many of its tokens, and is refused at its end each time.
+/// - `cuts N`: the text can be cut behind so many of its tokens, and is refused at its end each time,
+/// - `crlf`: the lines `<` behind it begin behind CR LF,
+/// - `request VERDICT`, `reply VERDICT`: what a reader of requests or of replies answers to the text, in one piece, in two
+///   pieces cut anywhere (of a longer text at 512 places, of a long one at 8), and byte by byte (where it isn't long): `more`, `done BODY` or
+///   `done STATUS BODY`, `refused STATUS CODE` or `bad WHY`; `ended VERDICT`: the same of a reply behind which nothing comes,
+/// - `written_request the same`, `written_reply the same`: the text is what is written for the message that it is,
+/// - `schedule LINES`: what the text says as a schedule of 256 sessions, and `alone LINES` as one of one session; `bad N` instead:
+///   the number of its first bad line.
 pub struct Trees;
 
 impl Judge for Trees {
@@ -107,10 +119,22 @@ fn put_asked_answer(
         "nesting" => put_nesting_answer(alloc, answer, text),
         "names" => put_names_answer(alloc, answer, text),
         "cuts" => put_cuts_answer(alloc, answer, case),
-        _ => match asked_by(word) {
-            Some(asked) => put_answer(alloc, answer, asked, text),
-            None => return false,
-        },
+        "schedule" => put_schedule(alloc, answer, text, MOST_SESSIONS),
+        "alone" => put_schedule(alloc, answer, text, 1),
+        _ => return put_text_answer(alloc, answer, text, word),
+    }
+    true
+}
+
+/// Puts the answer to a line with this word that asks something of the text as a program or as a message.
+fn put_text_answer(alloc: Global, answer: &mut Line, text: &[u8], word: &str) -> bool {
+    if let Some(asked) = asked_by(word) {
+        put_answer(alloc, answer, asked, text);
+        return true;
+    }
+    match message_asked_by(word) {
+        Some(asked) => put_message_answer(alloc, answer, asked, text),
+        None => return false,
     }
     true
 }

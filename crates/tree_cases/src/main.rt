@@ -1,5 +1,5 @@
-//! Runs the cases of texts and their trees of the files that its words name. It prints how many there are in each file, and
-//! each answer that is another one than the case says.
+//! Runs the cases of texts, their trees, messages and schedules of the files that its words name. It prints how many there are in each file,
+//! and each answer that is another one than the case says.
 #![tactic(auto)]
 
 mod answer;
@@ -9,8 +9,10 @@ mod expression;
 mod judge;
 mod label;
 mod line;
+mod message;
 mod program;
 mod refusal;
+mod schedule;
 mod signature;
 mod token;
 

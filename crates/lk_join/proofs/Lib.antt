@@ -1,0 +1,4 @@
+pub mod LineSamples
+pub mod Lines
+pub mod Numbers
+pub mod Samples
