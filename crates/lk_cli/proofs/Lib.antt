@@ -1,9 +1,10 @@
-pub mod Grounds
+pub mod NotAccepted
 pub mod Limits
 pub mod Lines
 pub mod LoadedTables
 pub mod Putting
 pub mod ScannedTables
+pub mod Shown
 pub mod TablesApart
 pub mod Found
 pub mod Stages

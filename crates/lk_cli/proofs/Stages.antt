@@ -14,12 +14,12 @@ use Rattle.lk_cli.specs.Loading.{AreLeft, AreLoaded}
 use Rattle.lk_cli.specs.Seen.{CameBack, FilesSeen, StoreSeen, StoresSeen, picked_seen, store_seen, stores_seen}
 use Rattle.lk_words.specs.Words.{store_of}
 use Rattle.lk_cli.specs.declared.answer.Answer.{Answer}
-use Rattle.lk_cli.specs.declared.answer.Answer.TheVariants.{Schemes, Queries, Run}
+use Rattle.lk_cli.specs.declared.answer.Answer.TheVariants.{Schemes, Queries, Labelled, Run}
 use Rattle.lk_cli.specs.declared.answer.Done.{Done}
 use Rattle.lk_cli.specs.declared.answer.Refusal.{Refusal}
 use Rattle.lk_cli.specs.declared.answer.Refusal.TheVariants as refused
 use Rattle.lk_words.specs.declared.command.Command.{Command}
-use Rattle.lk_words.specs.declared.command.Command.TheVariants.{Check, Source, Sql}
+use Rattle.lk_words.specs.declared.command.Command.TheVariants.{Check, Labels, Source, Sql}
 use Rattle.lk_words.specs.declared.command.SourceCommand.{SourceCommand}
 
 -- ---- errors
@@ -134,6 +134,7 @@ module _ (contents : Option Contents) (failed : List â„•) (before middle after :
   answer_earlier stores command program (Ok (Run done)) accepted (loaded, are, back) = (program, accepted, (loaded, loaded_earlier command.tables (table_defs program) loaded are, back))
   answer_earlier stores command program (Ok (Schemes checked)) accepted is = absurd is
   answer_earlier stores command program (Ok (Queries checked)) accepted is = absurd is
+  answer_earlier stores command program (Ok (Labelled code)) accepted is = absurd is
   answer_earlier stores command program (Err why) accepted (inl none) = inr (inr (program, accepted, inl none))
   answer_earlier stores command program (Err why) accepted (inr (inl rows)) = inr (inr (program, accepted, inr (inl (rows_earlier command.tables (table_defs program) why rows.0, rows.1))))
   answer_earlier stores command program (Err why) accepted (inr (inr broken)) = inr (inr (program, accepted, inr (inr (broken_earlier stores command program why broken))))
@@ -164,6 +165,7 @@ pub unread : (files : FilesSeen) (stores : StoresSeen) (form : Option Command) â
 unread files stores None back same = (back, tt)
 unread files stores (Some (Check command)) back same = (back, inl tt)
 unread files stores (Some (Sql command)) back same = (back, inl tt)
+unread files stores (Some (Labels command)) back same = (back, inl tt)
 unread files stores (Some (Source command)) back same = inl (refl, back, same)
 
 -- an answer to a command is one to the words that have its form

@@ -7,18 +7,18 @@ use Rattle.lk_ast.specs.declared.place.Span.{Span}
 use Rattle.lk_ast.specs.declared.declaration.Program.{Program}
 use Rattle.lk_ast.specs.declared.table.TableDef.{TableDef}
 use Rattle.lk_ast.specs.declared.table.TableRows.{TableRows}
-use Rattle.lk_infer.specs.Inferred.{HasTypes}
-use Rattle.lk_infer.specs.LacksInOrder.{IsSchemeInOrder}
 use Rattle.lk_infer.specs.Programs.{EndsIllTyped, EndsTooLarge}
 use Rattle.lk_infer.specs.declared.error.InferError.{InferError}
 use Rattle.lk_infer.specs.declared.error.InferError.TheVariants as types
 use Rattle.lk_infer.specs.declared.typed.Typed.{Typed}
 use Rattle.lk_ground.specs.declared.program.GroundProgram.{GroundProgram}
-use Rattle.lk_mono.specs.Grounded.{IsGrounded}
-use Rattle.lk_mono.specs.Instanced.{HasInstances}
+use Rattle.lk_compile.specs.Accepted.{IsAccepted, IsGround, IsTyped}
+use Rattle.lk_compile.specs.Compiled.{IsCodeOf}
+use Rattle.lk_compile.specs.declared.error.CompileError.{CompileError}
+use Rattle.lk_compile.specs.declared.error.CompileError.TheVariants as compile
+use Rattle.lk_report.specs.Lines.{line}
+use Rattle.lk_listing.specs.Listing.{label_lines}
 use Rattle.lk_mono.specs.Instances.{AreTooMany, IsTooLarge}
-use Rattle.lk_mono.specs.Keeps.{Keeps}
-use Rattle.lk_mono.specs.Plain.{ShowsPlain}
 use Rattle.lk_mono.specs.Refused.{HasFault}
 use Rattle.lk_mono.specs.declared.error.MonoError.{MonoError}
 use Rattle.lk_mono.specs.declared.error.MonoError.TheVariants as mono
@@ -37,24 +37,22 @@ use Rattle.lk_parse.specs.declared.error.ParseError.TheVariants as parse
 use Rattle.lk_sem.specs.Histories.{HasAnswer}
 use Rattle.lk_sem.specs.SourceRuns.{IsRun, IsPlainRun, commits_after}
 use Rattle.lk_tables.specs.Reading.{refusal}
+use Rattle.lk_report.specs.Lines.{line}
 use Rattle.lk_tables.specs.declared.error.TablesError.{TablesError}
 use Rattle.lk_tables.specs.declared.error.TablesError.TheVariants as error
-use Rattle.lk_translate.specs.Law.{IsGoodCode, IsMeant}
-use Rattle.lk_translate.specs.Translation.{AreTranslated, IsFirstFault}
+use Rattle.lk_translate.specs.Translation.{IsFirstFault}
 use Rattle.lk_translate.specs.declared.error.Size.{Size}
 use Rattle.lk_translate.specs.declared.error.Size.TheVariants as size
-use Rattle.lk_translate.specs.declared.error.TranslateError.{TranslateError}
-use Rattle.lk_translate.specs.declared.error.TranslateError.TheVariants as translate
 use Rattle.lk_translate.specs.declared.translated.Translated.{Translated}
 use Rattle.lk_types.specs.Each.{Each}
-use Rattle.lk_typing.specs.Programs.{ArePrincipal, IsWellTyped}
+use Rattle.lk_typing.specs.Programs.{IsWellTyped}
 use Rattle.lk_cli.specs.Ended.{run_of}
 use Rattle.lk_cli.specs.Loading.{AreLeft, AreLoaded, HasToldSession, IsOfTable}
-use Rattle.lk_cli.specs.Report.{IsReport, line, lines_of, query_lines}
+use Rattle.lk_cli.specs.Report.{IsReport, lines_of, query_lines}
 use Rattle.lk_cli.specs.Seen.{CameBack, FilesSeen, HasText, StoresSeen}
 use Rattle.lk_parse.specs.Tokens.{text_limit}
 use Rattle.lk_cli.specs.declared.answer.Answer.{Answer}
-use Rattle.lk_cli.specs.declared.answer.Answer.TheVariants.{Schemes, Queries, Run}
+use Rattle.lk_cli.specs.declared.answer.Answer.TheVariants.{Schemes, Queries, Labelled, Run}
 use Rattle.lk_cli.specs.declared.answer.Done.{Done}
 use Rattle.lk_cli.specs.declared.answer.Refusal.{Refusal}
 use Rattle.lk_cli.specs.declared.answer.Refusal.TheVariants.{Words, ReadFault, TextTooLong, NotUtf8, BadToken, TooNested, Unexpected, Unbound, Twice, NoMain, TypeTooLarge, IllTyped, Shape, TooManyInstances, QueryTooLarge, NoStore, Tables as BadTables, StoreFault, NoMemory}
@@ -64,35 +62,12 @@ use Rattle.lk_cli.specs.declared.ended.End.{End}
 use Rattle.lk_cli.specs.declared.ended.End.TheVariants as end
 use Rattle.lk_cli.specs.declared.refused.Refused.{Refused}
 use Rattle.lk_words.specs.declared.command.Command.{Command}
-use Rattle.lk_words.specs.declared.command.Command.TheVariants.{Check, Source, Sql}
+use Rattle.lk_words.specs.declared.command.Command.TheVariants.{Check, Labels, Source, Sql}
 use Rattle.lk_words.specs.declared.command.SourceCommand.{SourceCommand}
 
 -- the program that the text of that file is
 abbrev pub IsProgram : FilesSeen → List ℕ → Program → Type 0
 IsProgram files name program = (text : List ℕ) × HasText files name text × IsProgramText text program
-
--- the program's names are bound, its functions have these principal schemes in text order, written in order, and its nodes
--- have these principal types
-abbrev pub IsTyped : Program → Typed → Type 0
-IsTyped program typed = names.IsBound program × ArePrincipal program typed.schemes × HasTypes program typed.schemes typed.types × Each IsSchemeInOrder typed.schemes
-
--- The ground program of a program with these schemes and types: its functions at the types at which sessions use them, in
--- shapes that can be shown, compared and run by a database. Its sessions end as those of the program, with the same fuel, steps
--- and events, and no function stands in what these show.
-abbrev pub IsGround : Program → Typed → GroundProgram → Type 0
-IsGround program typed ground_program =
-    IsGrounded program typed.schemes typed.types ground_program × Keeps program ground_program × ShowsPlain program × HasInstances program ground_program
-
--- It has one, whose queries, readings of tables, updates and deletions are these as SQL, by their labels. What a database may answer
--- them with is what the readings may be answered with, they change rows as the text says, and they are well formed.
-abbrev pub IsTranslated : Program → Typed → List Translated → Type 0
-IsTranslated program typed queries =
-    (ground_program : GroundProgram) × IsGround program typed ground_program × AreTranslated program ground_program queries
-    × Each (IsMeant program ground_program) queries × Each (λ (query : Translated). IsGoodCode query.code) queries
-
--- nothing refuses the program: it is typed so, and its ground program has this SQL
-abbrev pub IsAccepted : Program → Typed → List Translated → Type 0
-IsAccepted program typed queries = IsTyped program typed × IsTranslated program typed queries
 
 -- the program of the file of that name, which nothing refuses
 abbrev pub IsAcceptedOf : FilesSeen → List ℕ → Program → Type 0
@@ -116,10 +91,11 @@ IsSession files stores command program done =
     × CameBack stores (λ before after. (after.faults ≡ before.faults) × IsSessionOver program command loaded done before.tables after.tables before.commits after.commits)
 
 -- What a command comes to where nothing refuses it. `check` and `sql`: the program of the file, accepted with its schemes and
--- types and its SQL; no store comes back. `source`: a session of that program.
+-- types and its SQL; `labels`: the code of that program; no store comes back. `source`: a session of that program.
 abbrev pub Gives : FilesSeen → StoresSeen → Option Command → Answer → Type 0
 Gives files stores (Some (Check command)) (Schemes checked) = IsProgram files command.program checked.program × IsAccepted checked.program checked.typed checked.queries × (stores.back ≡ None)
 Gives files stores (Some (Sql command)) (Queries checked) = IsProgram files command.program checked.program × IsAccepted checked.program checked.typed checked.queries × (stores.back ≡ None)
+Gives files stores (Some (Labels command)) (Labelled code) = (program : Program) × IsProgram files command.program program × IsCodeOf program code × (stores.back ≡ None)
 Gives files stores (Some (Source command)) (Run done) = (program : Program) × IsAcceptedOf files command.program program × IsSession files stores command program done
 Gives files stores command answer = ⊥
 
@@ -181,10 +157,14 @@ refusal_of_ground mono.TooManyInstances = TooManyInstances
 refusal_of_ground (mono.Shape kind at) = Shape kind at
 refusal_of_ground mono.NoMemory = NoMemory
 
--- a reason why queries have no SQL as a refusal
-abbrev pub refusal_of_queries : TranslateError → Refusal
-refusal_of_queries (translate.TooLarge kind at) = QueryTooLarge kind at
-refusal_of_queries translate.NoMemory = NoMemory
+-- a reason why there is no code as a refusal
+abbrev pub refusal_of_compile : CompileError → Refusal
+refusal_of_compile (compile.Parse why) = refusal_of why
+refusal_of_compile (compile.Names why) = refusal_of_names why
+refusal_of_compile (compile.Infer why) = refusal_of_types why
+refusal_of_compile (compile.Ground why) = refusal_of_ground why
+refusal_of_compile (compile.Query kind at) = QueryTooLarge kind at
+refusal_of_compile compile.NoMemory = NoMemory
 
 -- a reason why a text isn't a tables file as a refusal
 abbrev pub refusal_of_tables : TablesError → Refusal
@@ -236,6 +216,7 @@ abbrev pub IsShown : Result Answer Refusal → Type 0
 IsShown (Ok (Run done)) = IsPlainRun (run_of done.run)
 IsShown (Ok (Schemes checked)) = Unit {0}
 IsShown (Ok (Queries checked)) = Unit {0}
+IsShown (Ok (Labelled code)) = Unit {0}
 IsShown (Err refusal) = Unit {0}
 
 -- why a program isn't accepted: it isn't typed; or it is, and has no ground program, or one with a query that is too large
@@ -293,6 +274,7 @@ abbrev pub AnswersSession : FilesSeen → StoresSeen → SourceCommand → Progr
 AnswersSession files stores command program (Ok (Run done)) = IsSession files stores command program done
 AnswersSession files stores command program (Ok (Schemes checked)) = ⊥
 AnswersSession files stores command program (Ok (Queries checked)) = ⊥
+AnswersSession files stores command program (Ok (Labelled code)) = ⊥
 AnswersSession files stores command program (Err refusal) = IsUnanswered files stores command program refusal
 
 -- why there is no command: no form has the words
@@ -315,6 +297,7 @@ abbrev pub RefusedBy : FilesSeen → StoresSeen → Option Command → Refusal �
 RefusedBy files stores None refusal = (stores.back ≡ None) × HasNoForm refusal
 RefusedBy files stores (Some (Check command)) refusal = (stores.back ≡ None) × HasNoAccepted files command.program refusal
 RefusedBy files stores (Some (Sql command)) refusal = (stores.back ≡ None) × HasNoAccepted files command.program refusal
+RefusedBy files stores (Some (Labels command)) refusal = (stores.back ≡ None) × HasNoAccepted files command.program refusal
 RefusedBy files stores (Some (Source command)) refusal =
     AreUnread files stores refusal
     ⊎ ((IsHandedBack stores × HasNoAccepted files command.program refusal)
@@ -379,11 +362,13 @@ refusal_text (BadTables why) = line (codes "tables" ∷ tables_word why ∷ [])
 refusal_text StoreFault = line (codes "store" ∷ codes "fault" ∷ [])
 refusal_text NoMemory = []
 
--- what is printed for an answer: a line for each function in text order, a line for each query in the order of labels, the report
+-- what is printed for an answer: a line for each function in text order, a line for each query in the order of labels, one for each
+-- label and each frame, the report
 -- of a session, or the line of a refusal
 abbrev pub IsPrintedFor : Result Answer Refusal → List ℕ → Type 0
 IsPrintedFor (Ok (Schemes checked)) text = text ≡ lines_of (functions_of checked.program) checked.typed.schemes
 IsPrintedFor (Ok (Queries checked)) text = text ≡ query_lines checked.queries
+IsPrintedFor (Ok (Labelled code)) text = text ≡ label_lines code.tables
 IsPrintedFor (Ok (Run done)) text = IsReport done text
 IsPrintedFor (Err refusal) text = text ≡ refusal_text refusal
 
@@ -396,6 +381,7 @@ end_status (end.TableFull size) = 8
 abbrev pub status_of : Result Answer Refusal → ℕ
 status_of (Ok (Schemes checked)) = 0
 status_of (Ok (Queries checked)) = 0
+status_of (Ok (Labelled code)) = 0
 status_of (Ok (Run done)) = end_status done.run.end
 status_of (Err (NotUtf8 at)) = 1
 status_of (Err (BadToken at)) = 1

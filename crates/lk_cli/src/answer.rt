@@ -1,20 +1,23 @@
 //! Answers to a command line, their texts and their statuses.
 
 ghost use Rattle.std.specs.Prelude.{◌≡◌, [], ◌∷◌, IfOk};
-ghost use Rattle.lk_cli.specs.Report.{line};
 ghost use Rattle.lk_cli.specs.Answers.{IsPrintedFor, IsShown, end_status, refusal_text, refused_at, refused_shape, refused_size, shape_name, size_name, status_of, tables_word};
+ghost use Rattle.lk_report.specs.Lines.{line};
 
 use crate::ended::{End, Ended};
 use crate::queries::print_queries;
 use crate::report::report;
 use crate::schemes::print_schemes;
 use lk_ast::{List, NoMemory as OutOfMemory, Span, TableRows, Text};
-use lk_infer::{InferError, Typed};
+use lk_code::Code;
+use lk_compile::{Accepted, CompileError};
+use lk_infer::InferError;
+use lk_listing::print_labels;
 use lk_mono::{MonoError, ShapeKind};
-use lk_names::{NameError, Scoped};
+use lk_names::NameError;
 use lk_parse::ParseError;
 use lk_tables::TablesError;
-use lk_translate::{Size, TranslateError, Translated};
+use lk_translate::Size;
 use std::alloc::Global;
 use thiserror::Error;
 
@@ -22,19 +25,13 @@ use thiserror::Error;
 #[derive(Drop)]
 pub enum Answer {
     /// Of `check`: the schemes of a program.
-    Schemes(Checked),
+    Schemes(Accepted),
     /// Of `sql`: the queries of a program.
-    Queries(Checked),
+    Queries(Accepted),
+    /// Of `labels`: the code of a program.
+    Labelled(Code),
     /// Of `source`: a session.
     Run(Done),
-}
-
-/// A program whose names are bound, what is inferred of it, and what its queries, updates and deletions are as SQL.
-#[derive(Drop)]
-pub struct Checked {
-    pub program: Scoped,
-    pub typed: Typed,
-    pub queries: List<Translated>,
 }
 
 /// A session that has come to its end.
@@ -170,15 +167,19 @@ impl From<MonoError> for Refusal {
     }
 }
 
-impl From<TranslateError> for Refusal {
-    ghost use Rattle.lk_cli.specs.Answers.{refusal_of_queries};
+impl From<CompileError> for Refusal {
+    ghost use Rattle.lk_cli.specs.Answers.{refusal_of_compile};
 
-    ghost from_gives = { λ error refusal. refusal ≡ refusal_of_queries error };
+    ghost from_gives = { λ error refusal. refusal ≡ refusal_of_compile error };
 
-    fn from(error: TranslateError) -> Self {
+    fn from(error: CompileError) -> Self {
         match error {
-            TranslateError::TooLarge(size, at) => Refusal::QueryTooLarge(size, at),
-            TranslateError::NoMemory => Refusal::NoMemory,
+            CompileError::Parse(why) => Refusal::from(why),
+            CompileError::Names(why) => Refusal::from(why),
+            CompileError::Infer(why) => Refusal::from(why),
+            CompileError::Ground(why) => Refusal::from(why),
+            CompileError::Query(size, at) => Refusal::QueryTooLarge(size, at),
+            CompileError::NoMemory => Refusal::NoMemory,
         }
     }
 }
@@ -275,6 +276,7 @@ pub fn print_answer(alloc: Global, answer: &Result<Answer, Refusal>) -> Result<T
             checked.typed.schemes.as_slice(),
         ),
         Ok(Answer::Queries(checked)) => print_queries(alloc, checked.queries.as_slice()),
+        Ok(Answer::Labelled(code)) => print_labels(alloc, code.tables()),
         Ok(Answer::Run(done)) => report(alloc, done),
         Err(refusal) => print_refusal(alloc, refusal),
     }
@@ -323,7 +325,7 @@ pub fn answer_status(answer: &Result<Answer, Refusal>) -> u8
     ensures { result ≡ status_of answer.now }
 {
     match answer {
-        Ok(Answer::Schemes(_)) | Ok(Answer::Queries(_)) => 0,
+        Ok(Answer::Schemes(_)) | Ok(Answer::Queries(_)) | Ok(Answer::Labelled(_)) => 0,
         Ok(Answer::Run(done)) => status_of_end(&done.run.end),
         Err(Refusal::TextTooLong)
         | Err(Refusal::NotUtf8(_))

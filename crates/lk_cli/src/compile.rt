@@ -1,24 +1,24 @@
-//! The program of a command: read, with its names bound, typed, with a ground program, and with its queries as SQL.
+//! The program of a command: read, and accepted or compiled.
 
-ghost use Rattle.std.specs.Prelude.{◌≡◌, ◌≤◌, ◌⊎◌, IfErr, IfOk};
+ghost use Rattle.std.specs.Prelude.{◌≡◌, ◌≤◌, IfErr, IfOk};
 ghost use Rattle.lk_ast.specs.Tables.{HaveColumns};
 ghost use Rattle.lk_bag.specs.Blocks.{AreBlocksApart};
-ghost use Rattle.lk_cli.specs.Answers.{HasNoProgram, IsAccepted, IsNotAccepted, IsNotGround, IsNotTranslated, IsNotTyped, IsProgram, IsTranslated, IsTyped, TellsReads};
+ghost use Rattle.lk_cli.specs.Answers.{HasNoProgram, IsNotAccepted, IsProgram, TellsReads};
 ghost use Rattle.lk_cli.specs.Seen.{seen};
+ghost use Rattle.lk_compile.specs.Accepted.{IsAccepted};
+ghost use Rattle.lk_compile.specs.Compiled.{IsCodeOf};
 ghost use Rattle.lk_ground.specs.UsesApart.{AreUsesApart};
 ghost use Rattle.lk_index.specs.Places.{ArePlaced};
 
 use crate::READ_MAX;
-use crate::answer::{Checked, Refusal};
+use crate::answer::Refusal;
 use crate::refused::Sources;
-use lk_ast::{List, Program, Text};
-use lk_infer::{Typed, infer};
-use lk_mono::ground;
-use lk_names::{Scoped, resolve};
+use lk_ast::{Program, Text};
+use lk_code::Code;
+use lk_compile::{Accepted, accept, compile_program};
 use lk_outside::{Files, OutFault};
 use lk_parse::parse;
 use lk_places::places_law;
-use lk_translate::{Translated, translate, translate_laws};
 use std::alloc::Global;
 
 /// The program of the file of that name. Its functions and lambdas begin at places of their own, and so do the uses of
@@ -52,35 +52,23 @@ pub fn read_program<F: Files>(
     Ok(parsed?)
 }
 
-/// The program with its names bound, its schemes and its types, and its queries, updates and deletions as SQL.
-pub fn check_program(alloc: Global, program: Program) -> Result<Checked, Refusal>
+/// The program, accepted with its schemes, its types, and its queries, updates and deletions as SQL.
+#[tactic(auto, using(crate::proofs::NotAccepted::not_accepted))]
+pub fn check_program(alloc: Global, program: Program) -> Result<Accepted, Refusal>
     requires columns { HaveColumns program }
-    ensures same { IfOk result (λ checked. checked.program ≡ program) }
-    ensures accepted { IfOk result (λ checked. IsAccepted checked.program checked.typed checked.queries) }
+    ensures same { IfOk result (λ accepted. accepted.program ≡ program) }
+    ensures accepted { IfOk result (λ accepted. IsAccepted accepted.program accepted.typed accepted.queries) }
     ensures refused { IfErr result (IsNotAccepted program) }
 {
-    let scoped = resolve(alloc, program)?;
-    let typed = infer(alloc, &scoped)?;
-    let queries = translate_program(alloc, &scoped, &typed)?;
-    Ok(Checked {
-        program: scoped,
-        typed,
-        queries,
-    })
+    Ok(accept(alloc, program)?)
 }
 
-/// The queries, updates and deletions of a typed program as SQL, those of its ground program.
-fn translate_program(
-    alloc: Global,
-    program: &Scoped,
-    typed: &Typed,
-) -> Result<List<Translated>, Refusal>
-    requires typed { IsTyped program.now typed.now }
-    requires columns { HaveColumns program.now }
-    ensures made { IfOk result (IsTranslated program.now typed.now) }
-    ensures refused { IfErr result (λ refusal. IsNotGround program.now typed.now refusal ⊎ IsNotTranslated program.now typed.now refusal) }
+/// The code of the program.
+#[tactic(auto, using(crate::proofs::NotAccepted::not_accepted))]
+pub fn program_code(alloc: Global, program: Program) -> Result<Code, Refusal>
+    requires columns { HaveColumns program }
+    ensures code { IfOk result (IsCodeOf program) }
+    ensures refused { IfErr result (IsNotAccepted program) }
 {
-    translate_laws();
-    let ground = ground(alloc, program, typed)?;
-    Ok(translate(alloc, &ground)?)
+    Ok(compile_program(alloc, program)?)
 }

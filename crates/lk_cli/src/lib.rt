@@ -15,7 +15,7 @@ mod top;
 
 // No public call takes an answer or gives one: they are public for the clauses of the top call. A refusal is handed back for
 // its message.
-pub use answer::{Answer, Checked, Done, Refusal, TablesFault};
+pub use answer::{Answer, Done, Refusal, TablesFault};
 pub use ended::{End, Ended};
 pub use lk_mono::ShapeKind;
 pub use lk_translate::Size;

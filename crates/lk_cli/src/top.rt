@@ -3,28 +3,35 @@
 ghost use Rattle.std.specs.List.{AllZip};
 ghost use Rattle.std.specs.Prelude.{◌≡◌, ◌≤◌, ◌⊎◌, false, All, IfErr, IfOk, IfSome, IsSome, None, Result, Some, bytes_eq, find, map, string_bytes};
 ghost use Rattle.lk_ast.specs.Tables.{table_defs as declared_tables};
+ghost use Rattle.lk_ast.specs.declared.declaration.Program.{Program as TheProgram};
 ghost use Rattle.lk_bag.specs.Blocks.{AreBlocksApart};
-ghost use Rattle.lk_cli.specs.Answers.{Answers, AnswersSession, Ends, HasNoAccepted, HasNoRows, HasNoStore, IsAccepted, IsProgram, IsShown, IsTold, TellsReads, answer_of};
+ghost use Rattle.lk_cli.specs.Answers.{Answers, AnswersSession, Ends, HasNoAccepted, HasNoRows, HasNoStore, IsProgram, IsShown, IsTold, TellsReads, answer_of};
 ghost use Rattle.lk_cli.specs.Loading.{AreLoaded, IsOfTable};
+ghost use Rattle.lk_compile.specs.Accepted.{IsAccepted};
+ghost use Rattle.lk_compile.specs.Compiled.{IsCodeOf};
 ghost use Rattle.lk_cli.specs.Seen.{StoresSeen, picked_seen, seen, stores_seen};
 ghost use Rattle.lk_words.specs.Words.{form_of, store_of};
 ghost use Rattle.lk_cli.specs.declared.answer.Answer.{Answer as TheAnswer};
 ghost use Rattle.lk_cli.specs.declared.answer.Refusal.{Refusal as TheRefusal};
-ghost use Rattle.lk_words.specs.declared.command.Command.TheVariants.{Check, Source, Sql};
+ghost use Rattle.lk_words.specs.declared.command.Command.TheVariants.{Check, Labels, Source, Sql};
 ghost use Rattle.lk_index.specs.Places.{ArePlaced};
 ghost use Rattle.lk_sound.specs.Instances.{IsShaped};
 ghost use Rattle.lk_sound.specs.Law.{AreBoundAndApart};
 
-use crate::answer::{Answer, Checked, Refusal, answer_status, print_answer};
-use crate::compile::{check_program, read_program};
+use crate::answer::{Answer, Refusal, answer_status, print_answer};
+use crate::compile::{check_program, program_code, read_program};
 use crate::load::rows_to_load;
 use crate::refused::{Refused, Sources, for_message};
 use crate::session::{Rows, Tried, run_in_box};
 use lk_ast::{Program, Text};
 use lk_bag::table_defs;
+use lk_code::Code;
+use lk_compile::Accepted;
 use lk_outside::{Files, OutFault, Sink, Store};
 use lk_store::pick;
-use lk_words::{CheckCommand, Command, SourceCommand, SqlCommand, WordsError, read_words};
+use lk_words::{
+    CheckCommand, Command, LabelsCommand, SourceCommand, SqlCommand, WordsError, read_words,
+};
 use std::alloc::Global;
 
 /// The status of a run, the store that was picked for it, and why it was refused, if it was.
@@ -130,6 +137,10 @@ fn answer_words<F: Files>(
             answer: answer_sql(alloc, &command, files, sources),
             store: None,
         },
+        Ok(Command::Labels(command)) => Answered {
+            answer: answer_labels(alloc, &command, files, sources),
+            store: None,
+        },
         Ok(Command::Source(command)) => answer_source(alloc, &command, files, stores, sources),
     }
 }
@@ -164,6 +175,22 @@ fn answer_sql<F: Files>(
     ensures answers { (stores : StoresSeen) → stores.back ≡ None → Answers (seen F.contents F.failed F.faults files.old files.new) stores (Some (Sql command.now)) result }
 {
     Ok(Answer::Queries(accepted_program(alloc, command.program.as_str(), files, sources)?))
+}
+
+/// The answer to `labels`, which asks for no store.
+fn answer_labels<F: Files>(
+    alloc: Global,
+    command: &LabelsCommand,
+    files: &mut F,
+    sources: &mut Sources,
+) -> Result<Answer, Refusal>
+    ensures contents { F.contents files.new ≡ F.contents files.old }
+    ensures later { F.faults files.old ≤ F.faults files.new }
+    ensures reads { TellsReads (F.faults files.old) (F.faults files.new) result }
+    ensures shown { IsShown result }
+    ensures answers { (stores : StoresSeen) → stores.back ≡ None → Answers (seen F.contents F.failed F.faults files.old files.new) stores (Some (Labels command.now)) result }
+{
+    Ok(Answer::Labelled(compiled_program(alloc, command.program.as_str(), files, sources)?))
 }
 
 /// The answer to `source`. The store is picked first and comes back with any answer. That there is none is told once the
@@ -278,7 +305,7 @@ fn accepted_program<F: Files>(
     file: &str,
     files: &mut F,
     sources: &mut Sources,
-) -> Result<Checked, Refusal>
+) -> Result<Accepted, Refusal>
     ensures contents { F.contents files.new ≡ F.contents files.old }
     ensures later { F.faults files.old ≤ F.faults files.new }
     ensures reads { TellsReads (F.faults files.old) (F.faults files.new) result }
@@ -290,6 +317,23 @@ fn accepted_program<F: Files>(
 {
     let program = read_program(alloc, file, files, sources)?;
     check_program(alloc, program)
+}
+
+/// The code of the program of the file of that name.
+fn compiled_program<F: Files>(
+    alloc: Global,
+    file: &str,
+    files: &mut F,
+    sources: &mut Sources,
+) -> Result<Code, Refusal>
+    ensures contents { F.contents files.new ≡ F.contents files.old }
+    ensures later { F.faults files.old ≤ F.faults files.new }
+    ensures reads { TellsReads (F.faults files.old) (F.faults files.new) result }
+    ensures code { IfOk result (λ code. (program : TheProgram) × IsProgram (seen F.contents F.failed F.faults files.old files.new) file.now program × IsCodeOf program code) }
+    ensures refused { IfErr result (HasNoAccepted (seen F.contents F.failed F.faults files.old files.new) file.now) }
+{
+    let program = read_program(alloc, file, files, sources)?;
+    program_code(alloc, program)
 }
 
 /// The store of that name, which has no transaction under way.

@@ -13,13 +13,14 @@ use Rattle.lk_cli.specs.declared.refused.Refused.{Refused}
 use Rattle.lk_process.specs.Statuses.{EndsFor, memory_for}
 use Rattle.lk_words.specs.Words.{form_of, store_of}
 use Rattle.lk_words.specs.declared.command.Command.{Command}
-use Rattle.lk_words.specs.declared.command.Command.TheVariants.{Check, Source, Sql}
+use Rattle.lk_words.specs.declared.command.Command.TheVariants.{Check, Labels, Source, Sql}
 
 -- want of memory is an answer to any words, where no file was read
 pub no_memory : (files : FilesSeen) (given : Option StoreSeen) (form : Option Command) → files.after ≡ files.before → RefusedBy files (record { given = given; back = None }) form NoMemory
 no_memory files given None same = (refl, tt)
 no_memory files given (Some (Check command)) same = (refl, inl tt)
 no_memory files given (Some (Sql command)) same = (refl, inl tt)
+no_memory files given (Some (Labels command)) same = (refl, inl tt)
 no_memory files given (Some (Source command)) same = inl (refl, refl, same)
 
 module _ {S : Type 0} (name : S → List ℕ) (tables : S → Option Tables) (commits faults : S → ℕ) (wanted : List ℕ) where

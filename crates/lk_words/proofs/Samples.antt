@@ -2,9 +2,9 @@
 use Rattle.std.proofs.Common.{◌≡◌, ℕ, List, [], ◌∷◌, codes, refl, Option, Some, None}
 use Rattle.std.specs.Fmt.{digits}
 use Rattle.clap.proofs.OnLiterals.{clap_on_literals}
-use Rattle.lk_words.specs.Words.{check_of, form_of, source_of}
+use Rattle.lk_words.specs.Words.{check_of, form_of, labels_of, source_of}
 use Rattle.lk_words.specs.declared.command.Command.{Command}
-use Rattle.lk_words.specs.declared.command.Command.TheVariants.{Check, Source}
+use Rattle.lk_words.specs.declared.command.Command.TheVariants.{Check, Labels, Source}
 
 -- `source p` with this argument and fuel, and no other option
 abbrev source : List ℕ → ℕ → Option Command
@@ -38,6 +38,10 @@ checked : (form_of (codes "check" ∷ codes "p" ∷ []) ≡ check (codes "p")) �
 unfolding clap_on_literals form_of check_of
 checked = (refl, refl, refl)
 
+listed : form_of (codes "labels" ∷ codes "p" ∷ []) ≡ Some (Labels (record { program = codes "p" }))
+unfolding clap_on_literals form_of labels_of
+listed = refl
+
 -- what begins with a `-` is an argument behind `--`, and `-` alone is one anywhere
 hyphens : (form_of (codes "source" ∷ codes "p" ∷ codes "--" ∷ codes "-1" ∷ []) ≡ source (codes "-1") 1_000_000)
     × (form_of (codes "source" ∷ codes "p" ∷ codes "-" ∷ []) ≡ source (codes "-") 1_000_000)
@@ -58,6 +62,10 @@ checked_otherwise : (form_of (codes "check" ∷ []) ≡ None) × (form_of (codes
     × (form_of (codes "check" ∷ codes "p" ∷ codes "--fuel" ∷ codes "5" ∷ []) ≡ None) × (form_of (codes "Check" ∷ codes "p" ∷ []) ≡ None)
 unfolding clap_on_literals form_of
 checked_otherwise = (refl, refl, refl, refl)
+
+listed_otherwise : (form_of (codes "labels" ∷ []) ≡ None) × (form_of (codes "labels" ∷ codes "p" ∷ codes "a" ∷ []) ≡ None)
+unfolding clap_on_literals form_of
+listed_otherwise = (refl, refl)
 
 unknown_option : form_of (codes "source" ∷ codes "p" ∷ codes "-1" ∷ []) ≡ None
 unfolding clap_on_literals form_of

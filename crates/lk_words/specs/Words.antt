@@ -14,7 +14,7 @@ use Rattle.clap.specs.Simple.{App, new_app, new_rule, with_rule, with_subcommand
 use Rattle.clap.specs.Walk.{Row, Rule, first_of}
 use Rattle.clap.specs.declared.builder.action.ArgAction.TheVariants.{Set}
 use Rattle.lk_words.specs.declared.command.Command.{Command}
-use Rattle.lk_words.specs.declared.command.Command.TheVariants.{Check, Source, Sql}
+use Rattle.lk_words.specs.declared.command.Command.TheVariants.{Check, Labels, Source, Sql}
 
 -- ---- the command line as data
 
@@ -34,6 +34,10 @@ check_app = with_rule (new_app (codes "check")) (needed (codes "program"))
 abbrev pub sql_app : App
 sql_app = with_rule (new_app (codes "sql")) (needed (codes "program"))
 
+-- `labels PROGRAM`
+abbrev pub labels_app : App
+labels_app = with_rule (new_app (codes "labels")) (needed (codes "program"))
+
 -- `source PROGRAM ARG`
 abbrev pub bare_source_app : App
 bare_source_app = with_rule (with_rule (new_app (codes "source")) (needed (codes "program"))) (needed (codes "arg"))
@@ -48,9 +52,13 @@ bare_app = on_top
     (λ top. record top { no_binary_name = true; disable_help_flag = true; disable_version_flag = true; disable_help_subcommand = true; subcommand_required = true })
     (new_app (codes "links"))
 
+-- the same with the subcommands that take a program alone
+abbrev pub programs_app : App
+programs_app = with_subcommand (with_subcommand (with_subcommand bare_app check_app.top) sql_app.top) labels_app.top
+
 -- the command line
 abbrev pub links_app : App
-links_app = with_subcommand (with_subcommand (with_subcommand bare_app check_app.top) sql_app.top) source_app.top
+links_app = with_subcommand programs_app source_app.top
 
 -- ---- what the values mean
 
@@ -95,6 +103,12 @@ sql_of rows = do
   program ← first_of (codes "program") rows
   Some (Sql (record { program = program }))
 
+-- `labels`, by the value of its argument: the program is any text
+unfoldable pub labels_of : List Row → Option Command
+labels_of rows = do
+  program ← first_of (codes "program") rows
+  Some (Labels (record { program = program }))
+
 -- `source`, by the values of its arguments: the fuel is a number, and all others are any texts
 unfoldable pub source_of : List Row → Option Command
 source_of rows = do
@@ -114,7 +128,7 @@ source_of rows = do
 -- the subcommand that was met, by its name and the values of its arguments
 abbrev pub command_of : List ℕ × List Row → Option Command
 command_of (name, rows) =
-    if bytes_eq name (codes "check") then check_of rows else (if bytes_eq name (codes "sql") then sql_of rows else (if bytes_eq name (codes "source") then source_of rows else None))
+    if bytes_eq name (codes "check") then check_of rows else (if bytes_eq name (codes "sql") then sql_of rows else (if bytes_eq name (codes "labels") then labels_of rows else (if bytes_eq name (codes "source") then source_of rows else None)))
 
 -- a command, where there is no kind of error
 abbrev pub unless : Kinds → Option Command → Option Command

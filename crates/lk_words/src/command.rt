@@ -2,11 +2,12 @@
 
 use lk_ast::Text;
 
-/// What words ask for, in one of the three forms.
+/// What words ask for, in one of the four forms.
 #[derive(Drop)]
 pub enum Command {
     Check(CheckCommand),
     Sql(SqlCommand),
+    Labels(LabelsCommand),
     Source(SourceCommand),
 }
 
@@ -20,6 +21,13 @@ pub struct CheckCommand {
 /// `sql PROGRAM`.
 #[derive(Drop)]
 pub struct SqlCommand {
+    /// The file of the program.
+    pub program: Text,
+}
+
+/// `labels PROGRAM`.
+#[derive(Drop)]
+pub struct LabelsCommand {
     /// The file of the program.
     pub program: Text,
 }

@@ -9,6 +9,6 @@ mod error;
 mod line;
 mod read;
 
-pub use command::{CheckCommand, Command, SourceCommand, SqlCommand};
+pub use command::{CheckCommand, Command, LabelsCommand, SourceCommand, SqlCommand};
 pub use error::WordsError;
 pub use read::read_words;

@@ -4,7 +4,7 @@ ghost use Rattle.std.specs.Prelude.{◌≡◌, false, IfOk};
 ghost use Rattle.clap.specs.Walk.{rule_of};
 ghost use Rattle.clap.specs.Words.{app_of};
 ghost use Rattle.clap.specs.declared.builder.command.Command.TheViews.{out-Command as fields_of};
-ghost use Rattle.lk_words.specs.Words.{bare_app, bare_source_app, check_app, links_app, needed, optional, source_app, sql_app};
+ghost use Rattle.lk_words.specs.Words.{bare_app, bare_source_app, check_app, labels_app, links_app, needed, optional, programs_app, source_app, sql_app};
 
 use clap::{Arg, ArgAction};
 use std::alloc::{AllocError, Global};
@@ -13,10 +13,17 @@ use std::alloc::{AllocError, Global};
 pub fn links_command<'a>(alloc: Global) -> Result<clap::Command<'a>, AllocError>
     ensures { IfOk result (λ command. app_of command ≡ links_app) }
 {
+    programs_command(alloc)?.subcommand(source_command(alloc)?)
+}
+
+/// The command line without `source`: its subcommands take a program alone.
+fn programs_command<'a>(alloc: Global) -> Result<clap::Command<'a>, AllocError>
+    ensures { IfOk result (λ command. app_of command ≡ programs_app) }
+{
     bare_command(alloc)
         .subcommand(check_command(alloc)?)?
         .subcommand(sql_command(alloc)?)?
-        .subcommand(source_command(alloc)?)
+        .subcommand(labels_command(alloc)?)
 }
 
 /// A command line without its subcommands, one of which has to be there.
@@ -43,6 +50,13 @@ fn sql_command<'a>(alloc: Global) -> Result<clap::Command<'a>, AllocError>
     ensures { IfOk result (λ command. (app_of command ≡ sql_app) × ((fields_of command).has_globals ≡ false)) }
 {
     clap::Command::new(alloc, "sql").arg(needed(alloc, "program"))
+}
+
+/// `labels PROGRAM`.
+fn labels_command<'a>(alloc: Global) -> Result<clap::Command<'a>, AllocError>
+    ensures { IfOk result (λ command. (app_of command ≡ labels_app) × ((fields_of command).has_globals ≡ false)) }
+{
+    clap::Command::new(alloc, "labels").arg(needed(alloc, "program"))
 }
 
 /// `source PROGRAM ARG`, with `--tables FILE`, `--store NAME` and `--fuel N`.

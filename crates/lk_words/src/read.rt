@@ -4,9 +4,9 @@ ghost use Rattle.std.specs.Prelude.{◌≡◌, Some, IfErr, IfOk, map, option_an
 ghost use Rattle.clap.specs.Walk.{first_of, rows_of};
 ghost use Rattle.clap.specs.Words.{found_of, subcommand_rows_of};
 ghost use Rattle.lk_words.specs.Refused.{IsRefused};
-ghost use Rattle.lk_words.specs.Words.{check_of, command_of, form_of, number_of, number_or, source_of, sql_of};
+ghost use Rattle.lk_words.specs.Words.{check_of, command_of, form_of, labels_of, number_of, number_or, source_of, sql_of};
 
-use crate::command::{CheckCommand, Command, SourceCommand, SqlCommand};
+use crate::command::{CheckCommand, Command, LabelsCommand, SourceCommand, SqlCommand};
 use crate::error::WordsError;
 use crate::line::links_command;
 use clap::ArgMatches;
@@ -55,6 +55,7 @@ fn command_of(alloc: Global, matches: &ArgMatches<'_>) -> Result<Option<Command>
     match matches.subcommand() {
         Some(("check", matches)) => check_of(alloc, matches),
         Some(("sql", matches)) => sql_of(alloc, matches),
+        Some(("labels", matches)) => labels_of(alloc, matches),
         Some(("source", matches)) => source_of(alloc, matches),
         _ => Ok(None),
     }
@@ -82,6 +83,18 @@ fn sql_of(alloc: Global, matches: &ArgMatches<'_>) -> Result<Option<Command>, No
     };
     let program = Text::from_str(alloc, program)?;
     Ok(Some(Command::Sql(SqlCommand { program })))
+}
+
+/// `labels`, from the value of its argument.
+#[tactic(auto, unfolding(crate::specs::Words::labels_of))]
+fn labels_of(alloc: Global, matches: &ArgMatches<'_>) -> Result<Option<Command>, NoMemory>
+    ensures { IfOk result (λ command. command ≡ labels_of (rows_of (found_of matches.now))) }
+{
+    let Some(program) = value_of(matches, "program") else {
+        return Ok(None);
+    };
+    let program = Text::from_str(alloc, program)?;
+    Ok(Some(Command::Labels(LabelsCommand { program })))
 }
 
 /// `source`, from the values of its arguments.

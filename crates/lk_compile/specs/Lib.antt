@@ -1,0 +1,5 @@
+pub mod Accepted
+pub mod Blocks
+pub mod Compiled
+pub mod Errors
+pub mod Sessions
