@@ -9,6 +9,7 @@ use crate::forms::forms_lines;
 use crate::instances::{calls_lines, counts_line, types_lines};
 use crate::reader::read_case;
 use crate::run::Run;
+use crate::steps::steps_lines;
 use lk_ast::{Bytes, NoMemory, Span};
 use lk_ground::GroundProgram;
 use lk_infer::{InferError, Typed, infer};
@@ -30,6 +31,8 @@ enum View {
     Changes,
     /// The table of nodes that it becomes.
     Forms,
+    /// The steps of a machine that runs its code, which begins as the other words say.
+    Steps,
     /// Nothing, since there is no view of that name.
     Unknown,
 }
@@ -51,7 +54,10 @@ pub fn differences(alloc: Global, settings: &str, lines: &str) -> Result<Vec<Str
 
 /// Tells what is shown of this text where that isn't what the run says.
 fn compare(alloc: Global, run: &Run, text: &[u8], told: &mut Vec<String>) -> Result<(), NoMemory> {
-    let shown = shown(alloc, view_of(run), text)?;
+    let shown = match view_of(run) {
+        View::Steps => steps_lines(alloc, run.words.get(1..).unwrap_or(&[]), text)?,
+        view => shown(alloc, view, text)?,
+    };
     compare_printed(alloc, run, shown.as_bytes(), told)
 }
 
@@ -77,6 +83,7 @@ fn view_of(run: &Run) -> View {
         b"counts" => View::Counts,
         b"changes" => View::Changes,
         b"forms" => View::Forms,
+        b"steps" => View::Steps,
         _ => View::Unknown,
     }
 }
@@ -128,7 +135,7 @@ fn lines_of(alloc: Global, view: View, program: &GroundProgram) -> Result<String
         View::Counts => counts_line(alloc, program),
         View::Changes => changes_lines(alloc, program),
         View::Forms => forms_lines(alloc, program),
-        View::Unknown => line(alloc, "no such view"),
+        View::Steps | View::Unknown => line(alloc, "no such view"),
     }
 }
 

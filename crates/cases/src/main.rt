@@ -11,6 +11,7 @@ mod instances;
 mod reader;
 mod run;
 mod runner;
+mod steps;
 
 use case_files::{Judge, judge_files};
 use lk_ast::NoMemory;
