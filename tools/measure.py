@@ -1,8 +1,8 @@
 #!/usr/bin/env python3
-"""Measures the built program: processor time and peak memory of `check`, `sql` and `source`, as lines of a Markdown table.
+"""Measures the built program: processor time and peak memory of `check`, `sql`, `labels` and `source`, as lines of a Markdown table.
 
-    tools/measure.py LINKS growth     three shapes of programs at 1, 4 and 16 times a size, with the growth
-    tools/measure.py LINKS hard       texts of nearly a mebibyte of each degenerate kind, and tables files of nearly 16 MiB
+    tools/measure.py LINKS growth [COMMAND ..]     three shapes of programs at 1, 4 and 16 times a size, with the growth
+    tools/measure.py LINKS hard [COMMAND ..]       texts of nearly a mebibyte of each degenerate kind, and tables files of nearly 16 MiB
 
 Each is run three times, and the least time and the most memory count. No gate runs this.
 """
@@ -63,11 +63,14 @@ def queries(n):
 SHAPES = (("functions", functions, 500), ("statements", statements, 1000), ("queries", queries, 100))
 
 
-def growth(links, folder):
+COMMANDS = ("check", "sql", "labels", "source")
+
+
+def growth(links, folder, asked_for):
     print("| shape | command | 1x | 4x | 16x | growth of time |")
     print("|---|---|---|---|---|---|")
     for name, shape, size in SHAPES:
-        for command in ("check", "sql", "source"):
+        for command in asked_for:
             cells = []
             for times in (1, 4, 16):
                 apart(lambda made: written(folder, *made), shape(size * times))
@@ -178,11 +181,11 @@ def put(path, make):
         file.write(make())
 
 
-def hard(links, folder):
-    print("| input | bytes | check | sql | source | memory | status | first line of `check`, else of `source` |")
-    print("|---|---|---|---|---|---|---|---|")
+def hard(links, folder, asked_for):
+    print(f"| input | bytes | {' | '.join(asked_for)} | memory | status | first line of `{asked_for[0]}`, else of `source` |")
+    print("|---|---|" + "---|" * (len(asked_for) + 3))
     program, rows = f"{folder}/p.links", f"{folder}/t.json"
-    cases = [(name, program, make, ("check", "sql", "source")) for name, make in TEXTS] + [(name, rows, make, ("source",)) for name, make in TABLES]
+    cases = [(name, program, make, asked_for) for name, make in TEXTS] + [(name, rows, make, ("source",)) for name, make in TABLES if "source" in asked_for]
     for name, path, make, commands in cases:
         apart(put, path, make)
         if path == rows:
@@ -191,7 +194,7 @@ def hard(links, folder):
         for command in commands:
             words = [links, command, program] + (["ann"] if command == "source" else []) + (["--tables", rows] if path == rows else [])
             runs[command] = measured(words, 1)
-        times = " | ".join(f"{runs[command][0]:.2f} s" if command in runs else "" for command in ("check", "sql", "source"))
+        times = " | ".join(f"{runs[command][0]:.2f} s" if command in runs else "" for command in asked_for)
         memory = max(run[1] for run in runs.values())
         statuses = ", ".join(str(status) for status in sorted({run[2] for run in runs.values()}))
         line = runs[commands[0]][3].replace("|", "&#124;")
@@ -199,10 +202,11 @@ def hard(links, folder):
 
 
 def main():
-    if len(sys.argv) != 3 or sys.argv[2] not in ("growth", "hard"):
+    asked_for = tuple(sys.argv[3:]) or COMMANDS
+    if len(sys.argv) < 3 or sys.argv[2] not in ("growth", "hard") or not set(asked_for) <= set(COMMANDS):
         sys.exit(__doc__)
     with tempfile.TemporaryDirectory() as folder:
-        {"growth": growth, "hard": hard}[sys.argv[2]](os.path.abspath(sys.argv[1]), folder)
+        {"growth": growth, "hard": hard}[sys.argv[2]](os.path.abspath(sys.argv[1]), folder, asked_for)
 
 
 if __name__ == "__main__":
