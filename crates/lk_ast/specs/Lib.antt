@@ -4,6 +4,7 @@ pub mod Children
 pub mod Functions
 pub mod JsonText
 pub mod Layers
+pub mod Limits
 pub mod Plain
 pub mod Rows
 pub mod Tables

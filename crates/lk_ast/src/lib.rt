@@ -6,12 +6,14 @@
 
 mod boxed;
 mod bytes;
+mod client_end;
 mod copies;
 mod declaration;
 mod event;
 mod expression;
 mod functions;
 mod json;
+mod limits;
 mod list;
 mod memory;
 mod operators;
@@ -32,12 +34,14 @@ mod words;
 
 pub use boxed::Boxed;
 pub use bytes::Bytes;
+pub use client_end::ClientEnd;
 pub use copies::{copy_base, copy_row, copy_rows, copy_value, copy_values};
 pub use declaration::{ColumnDecl, Decl, FunDef, Program, TableDecl};
 pub use event::{Event, ReadEvent, Trap, WriteEvent};
 pub use expression::{Case, ChangeExpr, Expr, LambdaExpr, LastCase, Node, PartExpr, SortKey};
 pub use functions::{find_function, functions_in, functions_of, is_main, main_of};
 pub use json::{holds_function, value_text};
+pub use limits::{MESSAGE_DEPTH, MESSAGE_LIMIT};
 pub use list::List;
 pub use memory::NoMemory;
 pub use operators::{with_operand, with_operands};

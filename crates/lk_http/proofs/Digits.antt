@@ -13,7 +13,7 @@ use Rattle.std.proofs.lemmas.Str.Parse.{IsDigitsTest, IsNumeralModel, digit_from
 use Rattle.httparse.specs.Grammar.{AllPass, is_ows, is_value_byte, skip_ows, trim_ows}
 use Rattle.httparse.proofs.TrimLemmas.{AllPass-reverse, trim_ows_space}
 use Rattle.lk_http.specs.Fields.{is_digits, length_in}
-use Rattle.lk_http.specs.Limits.{message_limit}
+use Rattle.lk_ast.specs.Limits.{message_limit}
 use Rattle.lk_http.specs.declared.fault.LengthFault.TheVariants.{Large, Malformed}
 
 tells : IsDigitsTest (λ ds. list_all is_ascii_digit ds ≡ true)

@@ -14,7 +14,8 @@ use Rattle.lk_http.proofs.Digits.{length_digits, trimmed_digits, value_digits}
 use Rattle.lk_http.proofs.FieldTexts.{are_last_fields, field, known, last_fields, seam}
 use Rattle.lk_http.proofs.Texts.{IsHeadText}
 use Rattle.lk_http.specs.Fields.{length_in}
-use Rattle.lk_http.specs.Limits.{head_limit, message_limit}
+use Rattle.lk_ast.specs.Limits.{message_limit}
+use Rattle.lk_http.specs.Limits.{head_limit}
 use Rattle.lk_http.specs.Replies.{length_or_kind, replies}
 use Rattle.lk_http.specs.Written.{allow_line, is_status, reply_head, status_text, statuses}
 

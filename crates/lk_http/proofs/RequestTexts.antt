@@ -8,7 +8,7 @@ use Rattle.lk_http.proofs.Digits.{length_digits, trimmed_digits, value_digits}
 use Rattle.lk_http.proofs.FieldTexts.{are_last_fields, field, is_token, known, last_fields, seam}
 use Rattle.lk_http.proofs.Texts.{IsHeadText}
 use Rattle.lk_http.specs.Fields.{length_in}
-use Rattle.lk_http.specs.Limits.{message_limit}
+use Rattle.lk_ast.specs.Limits.{message_limit}
 use Rattle.lk_http.specs.Requests.{judged, length_or_refusal, requests}
 use Rattle.lk_http.specs.Written.{request_head}
 

@@ -6,7 +6,7 @@ use Rattle.std.specs.Str.{str_eq_ignore_ascii_case}
 use Rattle.std.specs.Str.Parse.{digits_value}
 use Rattle.httparse.specs.Grammar.{Field}
 use Rattle.httparse.specs.Spans.{name_and_value}
-use Rattle.lk_http.specs.Limits.{message_limit}
+use Rattle.lk_ast.specs.Limits.{message_limit}
 use Rattle.lk_http.specs.declared.fault.LengthFault.{LengthFault}
 use Rattle.lk_http.specs.declared.fault.LengthFault.TheVariants.{Missing, Malformed, Large}
 

@@ -1,7 +1,7 @@
 -- Laws of verdicts and of written messages.
 use Rattle.std.specs.Prelude.{◌≡◌, ◌≢◌, ◌⊎◌, ℕ, ◌<◌, ◌≤◌, true, List, length, take}
 use Rattle.httparse.specs.Grammar.{EndsInTarget, NeverHasRequest}
-use Rattle.lk_http.specs.Limits.{message_limit}
+use Rattle.lk_ast.specs.Limits.{message_limit}
 use Rattle.lk_http.specs.Replies.{replies}
 use Rattle.lk_http.specs.Requests.{requests}
 use Rattle.lk_http.specs.Verdicts.{IsVerdict, Kind, Stays, front}

@@ -1,4 +1,4 @@
--- How large messages may be.
+-- How large heads may be.
 use Rattle.std.specs.Prelude.{ℕ}
 
 -- the most bytes of a head
@@ -8,7 +8,3 @@ head_limit = 8_192
 -- the most fields of a head
 abbrev pub field_limit : ℕ
 field_limit = 32
-
--- the most bytes of a body
-abbrev pub message_limit : ℕ
-message_limit = 1_048_576

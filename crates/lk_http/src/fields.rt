@@ -8,8 +8,8 @@ ghost use Rattle.lk_http.specs.Fields.{has_some, is_digits, length_by, length_in
 ghost use Rattle.lk_http.specs.Requests.{are_hosts};
 
 use crate::fault::LengthFault;
-use crate::limits::MESSAGE_LIMIT;
 use httparse::spans::HeaderSpan;
+use lk_ast::MESSAGE_LIMIT;
 use std::str;
 
 /// The value of the first field of this name, and the fields behind it.

@@ -19,7 +19,7 @@ mod verdict;
 mod write;
 
 pub use laws::{message_laws, verdict_laws};
-pub use limits::{FIELD_LIMIT, HEAD_LIMIT, MESSAGE_LIMIT};
+pub use limits::{FIELD_LIMIT, HEAD_LIMIT};
 pub use progress::{ReplyProgress, RequestProgress};
 pub use refusal::HttpRefusal;
 pub use reply::ReplyReader;

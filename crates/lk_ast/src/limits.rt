@@ -1,0 +1,7 @@
+//! How large messages between client and server may be.
+
+/// The most bytes of a message's body.
+pub const MESSAGE_LIMIT: u64 = 1_048_576;
+
+/// The most arrays and objects of a message's body that stand in one another.
+pub const MESSAGE_DEPTH: u64 = 100;
