@@ -10,9 +10,9 @@ use Rattle.lk_ast.specs.declared.table.TableRows.{TableRows}
 use Rattle.lk_outside.specs.Causes.{next_count}
 use Rattle.lk_outside.specs.declared.fault.OutFault.{OutFault}
 use Rattle.lk_outside.specs.declared.fault.OutFault.TheVariants.{Failed, NoMemory}
-use Rattle.lk_sem.specs.Histories.{HasAnswer, KeepsOthers}
-use Rattle.lk_sem.specs.SourceRuns.{HasBegunSession, HasHistory, IsRun, commits_after}
+use Rattle.lk_sem.specs.SourceRuns.{HasBegunSession, IsRun, commits_after}
 use Rattle.lk_sem.specs.declared.run.SourceRun.{SourceRun}
+use Rattle.lk_sound.specs.Histories.{HasAnswer, HasHistory, KeepsOthers}
 use Rattle.lk_sound.specs.Tables.{table_at}
 use Rattle.lk_types.specs.Each.{Each}
 use Rattle.lk_cli.specs.Answers.{IsSessionOver}

@@ -5,7 +5,7 @@ use Rattle.lk_ast.specs.Plain.{holds_function}
 use Rattle.lk_ast.specs.declared.event.Event.{Event}
 use Rattle.lk_ast.specs.declared.event.Event.TheVariants.{Print, Enter, Leave, Read, Write}
 use Rattle.lk_report.specs.Lines.{args_of}
-use Rattle.lk_sem.specs.SourceRuns.{IsPlainEvent}
+use Rattle.lk_sound.specs.Histories.{IsPlainEvent}
 
 pub shown_plain : (event : Event) → IsPlainEvent event → list_any holds_function (args_of event) ≡ false
 shown_plain (Print bytes) plain = refl

@@ -34,7 +34,7 @@ use Rattle.lk_outside.specs.declared.fault.OutFault.TheVariants as outside
 use Rattle.lk_parse.specs.Refusals.{IsProgramText, IsRefused}
 use Rattle.lk_parse.specs.declared.error.ParseError.{ParseError}
 use Rattle.lk_parse.specs.declared.error.ParseError.TheVariants as parse
-use Rattle.lk_sem.specs.Histories.{HasAnswer}
+use Rattle.lk_sound.specs.Histories.{HasAnswer}
 use Rattle.lk_sem.specs.SourceRuns.{IsRun, IsPlainRun, commits_after}
 use Rattle.lk_tables.specs.Reading.{refusal}
 use Rattle.lk_report.specs.Lines.{line}

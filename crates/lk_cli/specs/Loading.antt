@@ -12,9 +12,9 @@ use Rattle.lk_bag.specs.Legal.{IsLegal}
 use Rattle.lk_outside.specs.Causes.{next_count}
 use Rattle.lk_outside.specs.declared.fault.OutFault.{OutFault}
 use Rattle.lk_outside.specs.declared.fault.OutFault.TheVariants.{Failed, NoMemory}
-use Rattle.lk_sem.specs.Histories.{HasAnswer, KeepsOthers}
-use Rattle.lk_sem.specs.SourceRuns.{HasHistory, HasSomeHistory, IsRun, commits_after}
+use Rattle.lk_sem.specs.SourceRuns.{HasSomeHistory, IsRun, commits_after}
 use Rattle.lk_sem.specs.declared.run.SourceRun.{SourceRun}
+use Rattle.lk_sound.specs.Histories.{HasAnswer, HasHistory, KeepsOthers}
 use Rattle.lk_sound.specs.Tables.{table_at}
 use Rattle.lk_tables.specs.Reading.{refusal, tables_in}
 use Rattle.lk_types.specs.Each.{Each}

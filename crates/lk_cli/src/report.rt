@@ -5,8 +5,9 @@ ghost use Rattle.std.specs.Prelude.{◌≡◌, ◌++◌, IfOk};
 ghost use Rattle.lk_cli.specs.Ended.{run_of, source_end};
 ghost use Rattle.lk_cli.specs.Report.{IsReport, end_line};
 ghost use Rattle.lk_report.specs.Lines.{event_line};
+ghost use Rattle.lk_sound.specs.Histories.{IsPlainEvent};
 ghost use Rattle.lk_types.specs.Each.{Each};
-ghost use Rattle.lk_sem.specs.SourceRuns.{IsPlainEnd, IsPlainEvent, IsPlainRun};
+ghost use Rattle.lk_sem.specs.SourceRuns.{IsPlainEnd, IsPlainRun};
 
 use crate::answer::Done;
 use crate::ended::End;

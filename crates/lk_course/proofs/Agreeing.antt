@@ -37,15 +37,16 @@ comes_over : (session next : Evaluation) (c : Course) (events : List Event) → 
 comes_over session next c events has takes = ap (λ answers. session (start c.fuel answers)) (sym has.read) ∙ comes session next c takes
 
 come : (session next : Evaluation) (c : Course) (events : List Event) → HasEvents c events → TakesWhole session c next → ((r : Run) → Extends r.log (run_of (next r)).log) → HasCome session events
-come session next c events has takes adds = record {
-  fuel = c.fuel;
-  more = events_of (adds (at_end c)).0;
-  log =
-      ap (λ out. events_of (run_of out).log) (comes_over session next c events has takes)
-      ∙ ap events_of (adds (at_end c)).1
-      ∙ events_both c.log (adds (at_end c)).0
-      ∙ ap (λ first. first ++ events_of (adds (at_end c)).0) has.logged;
-}
+come session next c events has takes adds = (
+  c.fuel,
+  (
+    events_of (adds (at_end c)).0,
+    ap (λ out. events_of (run_of out).log) (comes_over session next c events has takes)
+        ∙ ap events_of (adds (at_end c)).1
+        ∙ events_both c.log (adds (at_end c)).0
+        ∙ ap (λ first. first ++ events_of (adds (at_end c)).0) has.logged,
+  ),
+)
 
 pub agreement_law : AgreementLaw
 agreement_law = record {

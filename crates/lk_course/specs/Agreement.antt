@@ -1,9 +1,9 @@
 -- The agreement of events with an evaluation.
-use Rattle.std.specs.Prelude.{◌≡◌, ℕ, List, [], ◌++◌}
+use Rattle.std.specs.Prelude.{◌≡◌, ℕ, List, []}
 use Rattle.lk_ast.specs.declared.event.Event.{Event}
 use Rattle.lk_ast.specs.declared.event.Trap.{Trap}
 use Rattle.lk_ast.specs.declared.value.Value.{Value}
-use Rattle.lk_evaluation.specs.Laws.{run_of}
+use Rattle.lk_evaluation.specs.Laws.{HasBegun}
 use Rattle.lk_evaluation.specs.Run.{Goes, Run, Stops, Trapped, answers_in, events_of, start}
 use Rattle.lk_moves.specs.Courses.{Evaluation}
 
@@ -22,11 +22,9 @@ pub record HasEnded (evaluation : Evaluation) (events : List Event) (outcome : E
   pub answers : last.answers ≡ []
   pub log : events_of last.log ≡ events
 
--- the evaluation over these answers has, with some fuel, these events first
-pub record HasCome (evaluation : Evaluation) (events : List Event) : Type 0 where
-  pub fuel : ℕ
-  pub more : List Event
-  pub log : events_of (run_of (evaluation (start fuel (answers_in events)))).log ≡ events ++ more
+-- with some fuel, the evaluation has these events first
+abbrev pub HasCome : Evaluation → List Event → Type 0
+HasCome evaluation events = (fuel : ℕ) × HasBegun evaluation fuel events
 
 -- The events of a session agree with its evaluation: they are all of its events where it is said to have ended, and end as is said; else
 -- they are its first ones.

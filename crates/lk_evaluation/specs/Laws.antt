@@ -9,7 +9,7 @@ use Rattle.lk_ast.specs.declared.table.Row.{Row}
 use Rattle.lk_ast.specs.declared.value.Value.{Value}
 use Rattle.lk_ast.specs.declared.value.Value.TheVariants as value
 use Rattle.lk_evaluation.specs.Evaluation.{Act, Give, Tail, Goto, Uses, Each, Fails, Lacks, Language, Primitive, Printing, Reading, Writing, node, eval}
-use Rattle.lk_evaluation.specs.Run.{Run, Entry, enter, Out, Goes, Stops, Stop, Trapped, Spent, Waiting, Stuck, Asked, Callee, Function, Printer, Site, Crossing, Within, Called, Returned}
+use Rattle.lk_evaluation.specs.Run.{Run, Entry, enter, start, Out, Goes, Stops, Stop, Trapped, Spent, Waiting, Stuck, Asked, Callee, Function, Printer, Site, Crossing, Within, Called, Returned, events_of, answers_in}
 use Rattle.lk_evaluation.specs.Source.{source}
 use Rattle.lk_operators.specs.Values.{unit, list_in, text}
 
@@ -24,6 +24,10 @@ run_of (Stops stop r) = r
 -- a log begins with another
 abbrev pub Extends : List Entry → List Entry → Type 0
 Extends log longer = (more : List Entry) × (longer ≡ log ++ more)
+
+-- these events come first in the evaluation over the answers of the readings among them
+abbrev pub HasBegun : (Run → Out Value) → ℕ → List Event → Type 0
+HasBegun evaluation fuel events = (more : List Event) × (events_of (run_of (evaluation (start fuel (answers_in events)))).log ≡ events ++ more)
 
 -- ---- more fuel, more answers, more returns
 

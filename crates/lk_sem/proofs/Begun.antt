@@ -10,12 +10,11 @@ use Rattle.lk_ast.specs.declared.event.Event.{Event}
 use Rattle.lk_ast.specs.declared.place.Loc.{Loc}
 use Rattle.lk_ast.specs.declared.table.Row.{Row}
 use Rattle.lk_ast.specs.declared.value.Value.{Value}
-use Rattle.lk_evaluation.specs.Laws.{run_of}
+use Rattle.lk_evaluation.specs.Laws.{HasBegun, run_of}
 use Rattle.lk_evaluation.specs.Run.{Run, Entry, Out, Within, answers_in, events_of, start}
 use Rattle.lk_evaluation.specs.Source.{session}
 use Rattle.lk_outside.specs.Causes.{next_count}
-use Rattle.lk_sem.specs.Histories.{HasAnswer, HasFollowed, read_event, write_event}
-use Rattle.lk_sem.specs.SourceRuns.{HasBegun, HasFirstHistory, HasHistory, HasSomeHistory, commits_after}
+use Rattle.lk_sem.specs.SourceRuns.{HasFirstHistory, HasSomeHistory, commits_after}
 use Rattle.lk_sem.specs.Standing.{IsSound, Stands}
 use Rattle.lk_sem.specs.Writings.{HasChanged}
 use Rattle.lk_sem.specs.declared.machine.Machine.{Machine}
@@ -23,7 +22,8 @@ use Rattle.lk_sem.specs.declared.machine.Next.{Next}
 use Rattle.lk_sem.specs.declared.machine.Next.TheVariants as now
 use Rattle.lk_sem.proofs.Commits.{commits_read, commits_write}
 use Rattle.lk_sem.proofs.Standing.{past_written}
-use Rattle.lk_sem.proofs.Legality.{no_past, past_followed, past_history}
+use Rattle.lk_sound.proofs.Legality.{no_past, past_followed, past_history}
+use Rattle.lk_sound.specs.Histories.{HasAnswer, HasFollowed, HasHistory, read_event, write_event}
 use Rattle.lk_sem.proofs.Sound as sound
 use Rattle.lk_sem.proofs.Unread.{Kept}
 use Rattle.lk_sem.proofs.Whole.{answers_both}

@@ -23,21 +23,21 @@ use Rattle.lk_bag.specs.Legal.{AreAllCaptured, AreSame, IsLegal, insert, update,
 use Rattle.lk_names.specs.Programs.{IsBound}
 use Rattle.lk_outside.specs.Store.{Changes, Puts}
 use Rattle.lk_types.proofs.Members.{each_in, each_of_in, found_in}
+use Rattle.lk_sound.specs.Histories.{AreFit, Follows, write_event}
 use Rattle.lk_sound.specs.Tables.{AreTables, IsWriting, table_at}
 use Rattle.lk_sound.specs.Tables as sound
 use Rattle.lk_types.proofs.Parts.{same_some}
 use Rattle.lk_types.specs.Each.{Each, OneOf}
-use Rattle.lk_sem.specs.Histories.{AreFit, Follows, write_event}
 use Rattle.lk_sem.specs.Scans.{FitsDef, IsScanned}
 use Rattle.lk_sem.specs.SourceRuns.{IsOverfull}
 use Rattle.lk_sem.specs.Writings.{HasAdded, HasChanged, HasRoom, HasSize, HasWritten, IsChanged, IsDeletion, IsInsertion, IsUpdate}
 use Rattle.lk_sem.specs.declared.writes.Written.{Written}
 use Rattle.lk_sem.specs.declared.writes.Written.TheVariants as written
-use Rattle.lk_sem.proofs.Legality.{legal_same, same_itself}
+use Rattle.lk_sound.proofs.Legality.{legal_same, same_itself}
 use Rattle.lk_sem.specs.RowValues.{rows_in}
 use Rattle.lk_sem.proofs.RowsBack.{rows_back}
-use Rattle.lk_sem.proofs.Shuffles.{IsPermutation-filter}
-use Rattle.lk_sem.proofs.TableNames.{only_one, tables_apart}
+use Rattle.lk_sound.proofs.Shuffles.{IsPermutation-filter}
+use Rattle.lk_sound.proofs.TableNames.{only_one, tables_apart}
 
 -- ---- rows that fit
 

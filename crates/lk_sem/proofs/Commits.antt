@@ -5,8 +5,7 @@ use Rattle.lk_ast.specs.declared.event.Event.TheVariants as event
 use Rattle.lk_ast.specs.declared.table.Row.{Row}
 use Rattle.lk_ast.specs.declared.value.Value.{Value}
 use Rattle.lk_outside.specs.Causes.{next_count}
-use Rattle.lk_sem.specs.Histories.{read_event, write_event}
-use Rattle.lk_sem.specs.Machine.{GoesQuietly, IsQuiet}
+use Rattle.lk_sound.specs.Histories.{GoesQuietly, IsQuiet, read_event, write_event}
 use Rattle.lk_sem.specs.SourceRuns.{commits_after}
 use Rattle.lk_types.specs.Each.{Each}
 

@@ -9,15 +9,14 @@ use Rattle.lk_ast.specs.declared.place.Loc.{Loc}
 use Rattle.lk_ast.specs.declared.place.Word.{Word}
 use Rattle.lk_ast.specs.declared.value.Value.{Value}
 use Rattle.lk_evaluation.specs.Evaluation.{Reading, Writing, reading}
-use Rattle.lk_evaluation.specs.Laws.{run_of}
+use Rattle.lk_evaluation.specs.Laws.{HasBegun, run_of}
 use Rattle.lk_evaluation.specs.Run.{Run, Out, Goes, Stops, Trapped, Spent, Waiting, and_then, answers_in, events_of, start}
 use Rattle.lk_evaluation.specs.Source.{source}
 use Rattle.lk_locals.specs.Names.{Names, bind_all, bind_each}
 use Rattle.lk_sem.specs.Ends.{end_of, stop_of}
 use Rattle.lk_sem.specs.Frames.{returned}
-use Rattle.lk_sem.specs.Histories.{write_event}
 use Rattle.lk_sem.specs.Machine.{EndsEarly, Shows, frame_of, outcome, wound}
-use Rattle.lk_sem.specs.SourceRuns.{HasBegun, IsLeastFuel, IsOverfull, IsPlainEnd, IsRefusedAt, IsRunBy, IsRunOf}
+use Rattle.lk_sem.specs.SourceRuns.{IsLeastFuel, IsOverfull, IsPlainEnd, IsRefusedAt, IsRunBy, IsRunOf}
 use Rattle.lk_sem.specs.Standing.{Ends, IsSound, Stands, run_to}
 use Rattle.lk_sem.specs.declared.machine.Frame.{Frame as MachineFrame}
 use Rattle.lk_sem.specs.declared.machine.Machine.{Machine}
@@ -28,7 +27,8 @@ use Rattle.lk_sem.specs.declared.run.Halt.TheVariants as halt
 use Rattle.lk_sem.specs.declared.run.SourceEnd.{SourceEnd}
 use Rattle.lk_sem.specs.declared.run.SourceEnd.TheVariants as end
 use Rattle.lk_sem.proofs.Begun.{answers_written, begun_at_last, begun_here}
-use Rattle.lk_sem.proofs.Legality.{past_history}
+use Rattle.lk_sound.proofs.Legality.{past_history}
+use Rattle.lk_sound.specs.Histories.{write_event}
 use Rattle.lk_sem.proofs.Sound as sound
 use Rattle.lk_sem.proofs.Whole.{either}
 use Rattle.lk_sem.proofs.Winding as winding

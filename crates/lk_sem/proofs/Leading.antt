@@ -17,9 +17,10 @@ use Rattle.lk_ast.specs.declared.value.Value.{Value}
 use Rattle.lk_locals.specs.Names.{Names, bind}
 use Rattle.lk_evaluation.specs.Evaluation as spec
 use Rattle.lk_evaluation.specs.Evaluation.{eval, handed, perform, joined, each, client_call, used}
+use Rattle.lk_sound.specs.Histories.{GoesQuietly, IsQuiet}
 use Rattle.lk_sem.specs.Frames as frames
 use Rattle.lk_sem.specs.Frames.{resumed, returned, handed_by}
-use Rattle.lk_sem.specs.Machine.{bodies, frame_of, frame_rest, wound, outcome, IsQuiet, GoesQuietly, Shows, EndsEarly, Leads}
+use Rattle.lk_sem.specs.Machine.{bodies, frame_of, frame_rest, wound, outcome, Shows, EndsEarly, Leads}
 use Rattle.lk_evaluation.specs.Run.{Run, Out, Goes, Stops, Spent, Crossing, Within, Called, Returned, Function, Printer, Site, step, logs, and_then}
 use Rattle.lk_evaluation.specs.Source.{Point, under, source, act}
 use Rattle.lk_evaluation.specs.Syntax.{parts_of, is_plain}

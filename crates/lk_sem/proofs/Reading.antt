@@ -17,14 +17,14 @@ use Rattle.lk_bag.specs.Blocks.{block_at}
 use Rattle.lk_bag.specs.Legal.{AreAllCaptured, AreSame, AreSorted, bag, keys_at, read, reads_tables}
 use Rattle.lk_names.specs.Programs.{IsBound}
 use Rattle.lk_sound.proofs.Names.{AreDistinct, IsAmong}
+use Rattle.lk_sound.specs.Histories.{HasAnswer, HasFollowed, read_event}
 use Rattle.lk_sound.specs.Tables.{AreTables, IsReading}
 use Rattle.lk_types.proofs.Parts.{same_some}
 use Rattle.lk_types.specs.Each.{Each}
 use Rattle.lk_types.specs.Rows.{Label}
-use Rattle.lk_sem.specs.Histories.{HasAnswer, HasFollowed, read_event}
 use Rattle.lk_sem.specs.Scans.{AreScanned}
-use Rattle.lk_sem.proofs.SameBag.{same_bag}
-use Rattle.lk_sem.proofs.TableNames.{def_name, tables_apart}
+use Rattle.lk_sound.proofs.SameBag.{same_bag}
+use Rattle.lk_sound.proofs.TableNames.{def_name, tables_apart}
 
 -- ---- the rows of the tables that were scanned
 

@@ -14,11 +14,11 @@ use Rattle.lk_ast.specs.declared.table.BaseKind.TheVariants as kind
 use Rattle.lk_ast.specs.declared.value.Value.{Value}
 use Rattle.lk_ast.specs.declared.value.Value.TheVariants as value
 use Rattle.lk_evaluation.specs.Evaluation.{eval_to}
-use Rattle.lk_evaluation.specs.Laws.{run_of}
+use Rattle.lk_evaluation.specs.Laws.{HasBegun, run_of}
 use Rattle.lk_evaluation.specs.Run.{Run, Out, events_of, start}
 use Rattle.lk_evaluation.specs.Source.{session}
-use Rattle.lk_sem.specs.Histories.{write_event}
-use Rattle.lk_sem.specs.SourceRuns.{HasBegun, IsLeastFuel}
+use Rattle.lk_sound.specs.Histories.{write_event}
+use Rattle.lk_sem.specs.SourceRuns.{IsLeastFuel}
 
 abbrev placed : ℕ → Node → Expr
 placed start n = record { span = record { start = start; end = 0 }; node = n }

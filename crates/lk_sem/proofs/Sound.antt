@@ -17,6 +17,7 @@ use Rattle.lk_evaluation.specs.Laws.{run_of}
 use Rattle.lk_evaluation.specs.Run.{Run, Entry, Out, Goes, Stops, Waiting, Stuck, Within, and_then, answers_in, events_of, logs, start}
 use Rattle.lk_evaluation.specs.Source.{session, source}
 use Rattle.lk_operators.specs.Values.{unit}
+use Rattle.lk_sound.specs.Histories.{HasAnswer, IsPlainEvent, read_event, write_event}
 use Rattle.lk_sound.specs.Instances.{Instances, IsShaped}
 use Rattle.lk_sound.specs.Law.{AreAnswered, AreBoundAndApart, PlainLaw, SessionLaw}
 use Rattle.lk_sound.specs.Values.{Fits}
@@ -29,9 +30,7 @@ use Rattle.lk_types.specs.Each.{Each}
 use Rattle.lk_types.specs.Rows.{EffectSet}
 use Rattle.lk_types.specs.declared.ground.Ground.{Ground}
 use Rattle.lk_sem.specs.Frames.{returned}
-use Rattle.lk_sem.specs.Histories.{HasAnswer, read_event, write_event}
 use Rattle.lk_sem.specs.Machine.{LeadsWhole, Shows, frame_of, outcome, wound}
-use Rattle.lk_sem.specs.SourceRuns.{IsPlainEvent}
 use Rattle.lk_sem.specs.Standing.{IsSound}
 use Rattle.lk_sem.specs.declared.machine.Machine.{Machine}
 use Rattle.lk_sem.specs.declared.machine.Next.{Next}

@@ -19,15 +19,15 @@ use Rattle.lk_ast.specs.Rows.{rows_value}
 use Rattle.lk_types.proofs.Members.{each_both}
 use Rattle.lk_types.specs.Each.{Each}
 use Rattle.lk_sem.specs.Frames.{returned}
-use Rattle.lk_sem.specs.Histories.{AreFit, HasAnswer, HasFollowed, HasPast, KeepsOthers, read_event, write_event}
-use Rattle.lk_sem.specs.Machine.{GoesQuietly, IsQuiet, Leads, LeadsWhole, after_read, after_write, frame_rest, outcome}
+use Rattle.lk_sem.specs.Machine.{Leads, LeadsWhole, after_read, after_write, frame_rest, outcome}
 use Rattle.lk_sem.specs.Standing.{Stands}
 use Rattle.lk_sem.specs.Writings.{HasChanged}
 use Rattle.lk_sem.specs.declared.machine.Frame.{Frame as MachineFrame}
 use Rattle.lk_sem.specs.declared.machine.Machine.{Machine}
 use Rattle.lk_sem.specs.declared.machine.Next.{Next}
 use Rattle.lk_sem.specs.declared.machine.Next.TheVariants as now
-use Rattle.lk_sem.proofs.Legality.{no_past, past_quietly, past_followed}
+use Rattle.lk_sound.proofs.Legality.{no_past, past_quietly, past_followed}
+use Rattle.lk_sound.specs.Histories.{AreFit, GoesQuietly, HasAnswer, HasFollowed, HasPast, IsQuiet, KeepsOthers, read_event, write_event}
 use Rattle.lk_sem.proofs.Whole as whole
 
 quiet_answered : (p : Program) (more : List Event) → Each IsQuiet more → Each (HasAnswer p) more

@@ -15,10 +15,10 @@ use Rattle.lk_evaluation.specs.Evaluation.{eval, reading}
 use Rattle.lk_evaluation.specs.Run.{Run, Out, Goes, Within, and_then, answers_in, events_of, logs}
 use Rattle.lk_evaluation.specs.Source.{source, under}
 use Rattle.lk_operators.specs.Values.{unit}
+use Rattle.lk_sound.specs.Histories.{GoesQuietly, IsQuiet, read_event, write_event}
 use Rattle.lk_types.specs.Each.{Each}
 use Rattle.lk_sem.specs.Frames.{returned}
-use Rattle.lk_sem.specs.Histories.{read_event, write_event}
-use Rattle.lk_sem.specs.Machine.{EndsEarly, Falls, GoesQuietly, IsQuiet, Leads, LeadsWhole, Shows, after_read, after_write, frame_rest, outcome, weight, wound}
+use Rattle.lk_sem.specs.Machine.{EndsEarly, Falls, Leads, LeadsWhole, Shows, after_read, after_write, frame_rest, outcome, weight, wound}
 use Rattle.lk_sem.specs.declared.machine.Frame.{Frame}
 use Rattle.lk_sem.specs.declared.machine.Machine.{Machine}
 use Rattle.lk_sem.specs.declared.machine.Next.{Next}

@@ -1,7 +1,6 @@
 pub mod Acts
 pub mod Ends
 pub mod Frames
-pub mod Histories
 pub mod Machine
 pub mod RowValues
 pub mod Scans

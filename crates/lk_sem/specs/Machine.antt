@@ -9,7 +9,7 @@ use Rattle.lk_locals.specs.Names.{bind}
 use Rattle.lk_evaluation.specs.Evaluation.{Reading, Writing, eval, used}
 use Rattle.lk_evaluation.specs.Run.{Run, Out, Goes, Stops, Spent, and_then, answers_in, events_of}
 use Rattle.lk_evaluation.specs.Source.{Point, under, source}
-use Rattle.lk_types.specs.Each.{Each}
+use Rattle.lk_sound.specs.Histories.{GoesQuietly}
 use Rattle.lk_sem.specs.Ends.{stop_of}
 use Rattle.lk_sem.specs.Frames as spec
 use Rattle.lk_sem.specs.declared.machine.Frame.{Frame}
@@ -45,20 +45,6 @@ outcome p (Write back site args) r = and_then (used (Writing site args) r) (spec
 outcome p (Stop halt) r = Stops (stop_of halt) r
 
 -- ---- logs
-
--- an event that isn't of tables
-abbrev pub IsQuiet : Event → Type 0
-IsQuiet (event.Print bytes) = Unit {0}
-IsQuiet event.Enter = Unit {0}
-IsQuiet event.Leave = Unit {0}
-IsQuiet (event.Read e) = ⊥
-IsQuiet (event.Write e) = ⊥
-
--- behind the first log are only such events
-pub record GoesQuietly (before after : List Event) : Type 0 where
-  pub more : List Event
-  pub log : after ≡ before ++ more
-  pub quiet : Each IsQuiet more
 
 -- one more event, the answer of a reading
 abbrev pub after_read : ℕ → List Value → List Row → Machine → Machine

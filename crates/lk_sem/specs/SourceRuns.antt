@@ -1,6 +1,5 @@
 -- The runs of programs over tables.
-use Rattle.std.specs.Prelude.{◌≡◌, ℕ, ◌+◌, ◌<◌, ◌≤◌, false, List, [], ◌∷◌, ◌++◌, Option, Some, length, IfSome, IsSomeAnd}
-use Rattle.std.specs.List.{list_any}
+use Rattle.std.specs.Prelude.{◌≡◌, ℕ, ◌+◌, ◌<◌, ◌≤◌, false, List, [], ◌∷◌, ◌++◌, Option, Some, length, IfSome}
 use Rattle.lk_ast.specs.Functions.{main_of}
 use Rattle.lk_ast.specs.Layers.{layer}
 use Rattle.lk_ast.specs.Plain.{holds_function}
@@ -16,13 +15,13 @@ use Rattle.lk_ast.specs.declared.table.Row.{Row}
 use Rattle.lk_ast.specs.declared.value.Value.{Value}
 use Rattle.lk_bag.specs.Blocks.{block_at}
 use Rattle.lk_bag.specs.Change.{after_insert}
-use Rattle.lk_bag.specs.Legal.{IsLegal, most_rows}
+use Rattle.lk_bag.specs.Legal.{most_rows}
 use Rattle.lk_evaluation.specs.Evaluation.{Primitive, Printing, Reading, Writing}
-use Rattle.lk_evaluation.specs.Laws.{run_of}
+use Rattle.lk_evaluation.specs.Laws.{HasBegun}
 use Rattle.lk_evaluation.specs.Run.{Run, Out, Goes, Stops, Trapped, Spent, Waiting, events_of, answers_in, start}
 use Rattle.lk_evaluation.specs.Source.{session}
 use Rattle.lk_outside.specs.Causes.{next_count}
-use Rattle.lk_sem.specs.Histories.{HasAnswer, write_event}
+use Rattle.lk_sound.specs.Histories.{HasAnswer, HasHistory, IsPlainEvent, write_event}
 use Rattle.lk_sem.specs.declared.run.SourceEnd.{SourceEnd}
 use Rattle.lk_sem.specs.declared.run.SourceEnd.TheVariants as end
 use Rattle.lk_sem.specs.declared.run.SourceRun.{SourceRun}
@@ -38,10 +37,6 @@ pub record IsRunOf (evaluation : Run → Out Value) (fuel : ℕ) (run : SourceRu
   pub log : run.log ≡ events_of last.log
   pub used : run.used + last.fuel ≡ fuel
   pub answers : last.answers ≡ []
-
--- these events come first in the evaluation over the answers of the readings among them
-abbrev pub HasBegun : (Run → Out Value) → ℕ → List Event → Type 0
-HasBegun evaluation fuel events = (more : List Event) × (events_of (run_of (evaluation (start fuel (answers_in events)))).log ≡ events ++ more)
 
 -- so many units of fuel are the least with which these events come first in the evaluation
 pub record IsLeastFuel (evaluation : Run → Out Value) (events : List Event) (fuel : ℕ) : Type 0 where
@@ -81,10 +76,6 @@ IsRun p arg fuel told run = IfSome (main_of p) (λ main. IsRunBy p (session p ma
 
 -- ---- tables
 
--- where the tables were told they still are, and these events lead from those to these
-abbrev pub HasHistory : Program → Option Tables → Option Tables → List Event → Type 0
-HasHistory p old new events = IfSome old (λ before. IsSomeAnd new (λ after. IsLegal p before events after))
-
 -- the count of committed transactions after these events, of which each reading and each writing is one
 abbrev pub commits_after : List Event → ℕ → ℕ
 commits_after [] count = count
@@ -108,13 +99,6 @@ abbrev pub HasSomeHistory : Program → List ℕ → ℕ → Option Tables → O
 HasSomeHistory p arg fuel old new before after = (events : List Event) × HasBegunSession p arg fuel events × Each (HasAnswer p) events × HasHistory p old new events × (after ≡ commits_after events before)
 
 -- ---- what is shown
-
-abbrev pub IsPlainEvent : Event → Type 0
-IsPlainEvent (Print bytes) = Unit {0}
-IsPlainEvent Enter = Unit {0}
-IsPlainEvent Leave = Unit {0}
-IsPlainEvent (Read e) = list_any holds_function e.args ≡ false
-IsPlainEvent (Write e) = list_any holds_function e.args ≡ false
 
 abbrev pub IsPlainEnd : SourceEnd → Type 0
 IsPlainEnd (end.Value v) = holds_function v ≡ false

@@ -5,14 +5,15 @@ use Rattle.lk_ast.specs.Tables.{Tables}
 use Rattle.lk_ast.specs.declared.declaration.Program.{Program}
 use Rattle.lk_ast.specs.declared.table.Row.{Row}
 use Rattle.lk_ast.specs.declared.value.Value.{Value}
+use Rattle.lk_evaluation.specs.Laws.{HasBegun}
 use Rattle.lk_evaluation.specs.Run.{Run, Out, start}
-use Rattle.lk_sem.specs.Histories.{AreFit, HasAnswer, HasPast, KeepsOthers}
 use Rattle.lk_sem.specs.Machine.{LeadsWhole}
-use Rattle.lk_sem.specs.SourceRuns.{HasBegun, HasHistory, IsPlainRun, IsRunBy}
+use Rattle.lk_sem.specs.SourceRuns.{IsPlainRun, IsRunBy}
 use Rattle.lk_sem.specs.declared.machine.Machine.{Machine}
 use Rattle.lk_sem.specs.declared.machine.Next.{Next}
 use Rattle.lk_sem.specs.declared.run.SourceEnd.{SourceEnd}
 use Rattle.lk_sem.specs.declared.run.SourceRun.{SourceRun}
+use Rattle.lk_sound.specs.Histories.{AreFit, HasAnswer, HasHistory, HasPast, KeepsOthers}
 use Rattle.lk_sound.specs.Instances.{Instances}
 use Rattle.lk_sound.specs.Law.{AreAnswered}
 use Rattle.lk_sound.specs.Outcomes.{IsOutcome}

@@ -16,8 +16,8 @@ use Rattle.lk_bag.specs.Change.{updated}
 use Rattle.lk_bag.specs.Legal.{AreAllCaptured, most_rows, names_in}
 use Rattle.lk_outside.specs.Causes.{next_count}
 use Rattle.lk_outside.specs.Store.{Changes}
+use Rattle.lk_sound.specs.Histories.{Follows, write_event}
 use Rattle.lk_sound.specs.Tables.{AreTables, table_at}
-use Rattle.lk_sem.specs.Histories.{Follows, write_event}
 use Rattle.lk_sem.specs.SourceRuns.{IsOverfull}
 use Rattle.lk_sem.specs.declared.writes.Written.{Written}
 use Rattle.lk_sem.specs.declared.writes.Written.TheVariants.{Done, Full}

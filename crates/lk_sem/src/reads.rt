@@ -3,8 +3,8 @@
 ghost use Rattle.std.specs.Prelude.{◌≡◌, true, false, IfOk, IfSome, OnErr, OnOk};
 ghost use Rattle.lk_ast.specs.Tables.{all_fit, rows_of};
 ghost use Rattle.lk_outside.specs.Causes.{HasCause, next_count};
-ghost use Rattle.lk_sem.specs.Histories.{AreFit, HasAnswer, HasFollowed, read_event};
 ghost use Rattle.lk_sem.specs.Scans.{AreScanned, FitDefs, FitsDef, IsScanned};
+ghost use Rattle.lk_sound.specs.Histories.{AreFit, HasAnswer, HasFollowed, read_event};
 ghost use Rattle.lk_sound.specs.Law.{AreBoundAndApart};
 ghost use Rattle.lk_sound.specs.Tables.{IsReading};
 

@@ -2,14 +2,15 @@
 
 ghost use Rattle.std.specs.Prelude.{◌≡◌, ◌≢◌, ◌≤◌, [], false, length, IfErr, IfOk, IfSome};
 ghost use Rattle.lk_ast.specs.Functions.{main_of as main_in};
+ghost use Rattle.lk_evaluation.specs.Laws.{HasBegun};
 ghost use Rattle.lk_evaluation.specs.Source.{session};
 ghost use Rattle.lk_outside.specs.Causes.{Rose};
 ghost use Rattle.lk_outside.specs.declared.fault.OutFault.TheVariants.{Failed};
-ghost use Rattle.lk_sem.specs.Histories.{AreFit, HasAnswer, KeepsOthers};
 ghost use Rattle.lk_sem.specs.Machine.{outcome};
-ghost use Rattle.lk_sem.specs.SourceRuns.{HasBegun, HasBegunSession, HasFirstHistory, HasHistory, HasSomeHistory, IsPlainRun, IsRun, IsRunBy, commits_after};
+ghost use Rattle.lk_sem.specs.SourceRuns.{HasBegunSession, HasFirstHistory, HasSomeHistory, IsPlainRun, IsRun, IsRunBy, commits_after};
 ghost use Rattle.lk_sem.specs.Standing.{Ends, IsSound};
 ghost use Rattle.lk_sem.specs.declared.run.SourceEnd.TheVariants.{StoreFault};
+ghost use Rattle.lk_sound.specs.Histories.{AreFit, HasAnswer, HasHistory, KeepsOthers};
 ghost use Rattle.lk_sound.specs.Instances.{IsShaped};
 ghost use Rattle.lk_sound.specs.Law.{AreBoundAndApart};
 ghost use Rattle.lk_sound.specs.Tables.{AreTables};

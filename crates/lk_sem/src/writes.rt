@@ -3,10 +3,10 @@
 ghost use Rattle.std.specs.Prelude.{◌≡◌, ◌++◌, true, false, IfOk, IfErr, OnErr, OnOk};
 ghost use Rattle.lk_ast.specs.Tables.{all_fit};
 ghost use Rattle.lk_outside.specs.Causes.{HasCause};
-ghost use Rattle.lk_sem.specs.Histories.{AreFit};
 ghost use Rattle.lk_outside.specs.Store.{Changes};
 ghost use Rattle.lk_sem.specs.Scans.{FitsDef};
 ghost use Rattle.lk_sem.specs.Writings.{HasAdded, HasChanged, HasWritten, IsDeletion, IsInsertion, IsUpdate, commits_written};
+ghost use Rattle.lk_sound.specs.Histories.{AreFit};
 ghost use Rattle.lk_sound.specs.Law.{AreBoundAndApart};
 ghost use Rattle.lk_sound.specs.Tables.{IsWriting};
 

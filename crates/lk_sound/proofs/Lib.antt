@@ -23,6 +23,7 @@ pub mod Gathered
 pub mod Happening
 pub mod Inside
 pub mod InsideNodes
+pub mod Legality
 pub mod Names
 pub mod Naming
 pub mod NewNames
@@ -39,12 +40,16 @@ pub mod QueryValues
 pub mod Records
 pub mod Results
 pub mod Retyped
+pub mod SameBag
 pub mod Shapes
+pub mod Shuffles
 pub mod Standing
 pub mod Stands
 pub mod Switches
+pub mod TableNames
 pub mod TableNodes
 pub mod TableRows
+pub mod TablesSeen
 pub mod TextBlocks
 pub mod UpdatedRows
 pub mod Within

@@ -1,6 +1,7 @@
 pub mod Acts
 pub mod Captures
 pub mod Functions
+pub mod Histories
 pub mod Instances
 pub mod Law
 pub mod Nodes

@@ -33,7 +33,7 @@ use Rattle.lk_sound.proofs.Names.{IsAmong}
 use Rattle.lk_types.proofs.Members.{each_both}
 use Rattle.lk_types.specs.Each.{Each}
 use Rattle.lk_types.specs.Rows.{Label}
-use Rattle.lk_sem.proofs.TableNames.{def_name}
+use Rattle.lk_sound.proofs.TableNames.{def_name}
 
 -- a table that the program declares
 abbrev pub IsDeclared : Program → Label → Type 0

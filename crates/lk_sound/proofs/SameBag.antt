@@ -27,7 +27,7 @@ use Rattle.lk_sound.proofs.Inside.{insides, by_insides}
 use Rattle.lk_types.proofs.Members.{each_in, found_in}
 use Rattle.lk_types.specs.Each.{Each}
 use Rattle.lk_types.specs.Rows.{Label}
-use Rattle.lk_sem.proofs.TablesSeen.{IsDeclared, SeesTables, blocks_see, functions_see, insides_see, table_seen}
+use Rattle.lk_sound.proofs.TablesSeen.{IsDeclared, SeesTables, blocks_see, functions_see, insides_see, table_seen}
 
 -- a switch gives the unit value whatever is in it
 no_rule : (tables : Tables) (calls : List ℕ → List Value → Value) (e d : Expr) (cases : List Case) (last : Option LastCase) (names : Names) → layer e ≡ Node-F.Switch d cases last → given tables calls e names ≡ unit

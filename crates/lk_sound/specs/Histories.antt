@@ -1,6 +1,8 @@
 -- What an event, and the events so far, make of tables.
-use Rattle.std.specs.Prelude.{◌≡◌, ℕ, true, List, ◌∷◌, ◌++◌, Option, Some, None, IfSome, IsSomeAnd}
+use Rattle.std.specs.List.{list_any}
+use Rattle.std.specs.Prelude.{◌≡◌, ℕ, true, false, List, ◌∷◌, ◌++◌, Option, Some, None, IfSome, IsSomeAnd}
 use Rattle.lk_ast.specs.Layers.{layer}
+use Rattle.lk_ast.specs.Plain.{holds_function}
 use Rattle.lk_ast.specs.Tables.{Tables}
 use Rattle.lk_ast.specs.declared.declaration.Program.{Program}
 use Rattle.lk_ast.specs.declared.event.Event.{Event}
@@ -10,6 +12,7 @@ use Rattle.lk_ast.specs.declared.table.Row.{Row}
 use Rattle.lk_ast.specs.declared.value.Value.{Value}
 use Rattle.lk_bag.specs.Blocks.{block_at}
 use Rattle.lk_bag.specs.Legal.{AreAllCaptured, IsAnsweredOver, IsLegal, reads_tables}
+use Rattle.lk_types.specs.Each.{Each}
 use Rattle.lk_sound.specs.Tables.{AreTables, table_at}
 
 -- the answer of a reading
@@ -54,3 +57,29 @@ KeepsOthers p old new = (x : List ℕ) → table_at p x ≡ None → IfSome old 
 -- the tables fit, where they are told
 abbrev pub AreFit : Program → Option Tables → Type 0
 AreFit p told = IfSome told (AreTables p)
+
+-- where the tables were told they still are, and these events lead from those to these
+abbrev pub HasHistory : Program → Option Tables → Option Tables → List Event → Type 0
+HasHistory p old new events = IfSome old (λ before. IsSomeAnd new (λ after. IsLegal p before events after))
+
+-- an event that isn't of tables
+abbrev pub IsQuiet : Event → Type 0
+IsQuiet (Print bytes) = Unit {0}
+IsQuiet Enter = Unit {0}
+IsQuiet Leave = Unit {0}
+IsQuiet (Read e) = ⊥
+IsQuiet (Write e) = ⊥
+
+-- behind the first log are only such events
+pub record GoesQuietly (before after : List Event) : Type 0 where
+  pub more : List Event
+  pub log : after ≡ before ++ more
+  pub quiet : Each IsQuiet more
+
+-- no function stands in what is shown of it
+abbrev pub IsPlainEvent : Event → Type 0
+IsPlainEvent (Print bytes) = Unit {0}
+IsPlainEvent Enter = Unit {0}
+IsPlainEvent Leave = Unit {0}
+IsPlainEvent (Read e) = list_any holds_function e.args ≡ false
+IsPlainEvent (Write e) = list_any holds_function e.args ≡ false

@@ -11,11 +11,9 @@ use Rattle.lk_ast.specs.declared.expression.ChangeExpr.{ChangeExpr, out-ChangeEx
 use Rattle.lk_ast.specs.declared.table.Row.{Row}
 use Rattle.lk_bag.specs.Change.{with_rows, updated, is_met, after_insert, after_update, after_delete}
 use Rattle.lk_bag.specs.Legal.{AreSame, IsAnswer, IsLegal, done, print, enter, leave, read, insert, update, delete, most_rows, names_in}
-use Rattle.lk_sem.specs.Histories.{Precedes, Follows, HasPast, HasFollowed}
-use Rattle.lk_sem.specs.Machine.{IsQuiet, GoesQuietly}
-use Rattle.lk_sem.specs.SourceRuns.{HasHistory}
 use Rattle.lk_types.specs.Each.{Each}
-use Rattle.lk_sem.proofs.Shuffles.{IsPermutation-filter}
+use Rattle.lk_sound.proofs.Shuffles.{IsPermutation-filter}
+use Rattle.lk_sound.specs.Histories.{Follows, GoesQuietly, HasFollowed, HasHistory, HasPast, IsQuiet, Precedes}
 
 -- ---- the same bags
 
@@ -72,7 +70,8 @@ module _ (p : Program) where
   precedes_both : (x y z : Tables) (front back : List Event) → Precedes p x front y → Precedes p y back z → Precedes p x (front ++ back) z
   precedes_both x y z front back a b = record { on = λ more last legal. subst (λ es. IsLegal p x es last) (sym (append_assoc front back more)) (a.on (back ++ more) last (b.on more last legal)) }
 
-  past_both : (old mid new : Option Tables) (front back : List Event) → HasPast p old mid front → HasPast p mid new back → HasPast p old new (front ++ back)
+  -- one behind the other
+  pub past_both : (old mid new : Option Tables) (front back : List Event) → HasPast p old mid front → HasPast p mid new back → HasPast p old new (front ++ back)
   past_both None mid new front back a b = tt
   past_both (Some x) None new front back a b = absurd a
   past_both (Some x) (Some y) None front back a b = absurd b
