@@ -1,7 +1,9 @@
 pub mod Alone
 pub mod Grounds
 pub mod Making
+pub mod OfSites
 pub mod Refusing
+pub mod Running
 pub mod SameSessions
 pub mod Taking
 pub mod Whole

@@ -2,22 +2,28 @@
 use Rattle.std.proofs.Common.{◌≡◌, sym, ap, subst, ◌∙◌, Some}
 use Rattle.lk_ast.specs.Tables.{table_defs}
 use Rattle.lk_ast.specs.declared.declaration.Program.{Program}
+use Rattle.lk_ast.specs.declared.place.Loc.{Loc}
 use Rattle.lk_ast.specs.declared.place.Loc.TheVariants.{Client, Server}
 use Rattle.lk_code.specs.Running.{RunsAt}
+use Rattle.lk_code.specs.Sound.{AreSound}
 use Rattle.lk_code.specs.declared.tables.Contents.{Contents}
+use Rattle.lk_compile.proofs.OfSites.{of_sites}
+use Rattle.lk_compile.proofs.Running.{runs_at}
 use Rattle.lk_compile.specs.Accepted.{IsTyped}
 use Rattle.lk_compile.specs.Compiled.{AreParts, IsCodeOf}
 use Rattle.lk_compile.specs.Sessions.{HasSessions}
 use Rattle.lk_compile.specs.declared.compiling.Parts.{Parts}
 use Rattle.lk_infer.specs.declared.typed.Typed.{Typed}
+use Rattle.lk_lowered.specs.Law.{StandsLaw}
 
 -- what is made of a ground program, as the code of this program
 abbrev pub whole_of : Parts → Program → Contents
 whole_of parts program = record { tables = parts.code.tables; blocks = parts.blocks; defs = parts.defs; origin = Some (record { program = program }) }
 
-pub is_code : (p : Program) (typed : Typed) (parts : Parts) (program : Program) (whole c : Contents) → IsTyped p typed → (of : AreParts p typed parts) → HasSessions p of.ground parts.code.tables → program ≡ p → whole ≡ whole_of parts program → c ≡ whole → RunsAt whole Client → RunsAt whole Server → IsCodeOf p c
-is_code p typed parts program whole c is_typed of sessions same made is client server =
-    subst (IsCodeOf p) (sym (is ∙ made)) (record {
+pub is_code : StandsLaw → (p : Program) (typed : Typed) (parts : Parts) (program : Program) (c : Contents) → IsTyped p typed → (of : AreParts p typed parts) → HasSessions p of.ground parts.code.tables → AreSound parts.code.tables → program ≡ p → c ≡ whole_of parts program → IsCodeOf p c
+is_code stands p typed parts program c is_typed of sessions sound same made =
+    let runs : (place : Loc) → RunsAt (whole_of parts program) place = runs_at (whole_of parts program) of.queries stands of.ground sound of.are.tables of.are.blocks in
+    subst (IsCodeOf p) (sym made) (record {
       typed = typed;
       is_typed = is_typed;
       ground = of.ground;
@@ -27,6 +33,7 @@ is_code p typed parts program whole c is_typed of sessions same made is client s
       tables = of.are.tables;
       sessions = sessions;
       filled = record { defs = of.are.defs ∙ ap table_defs of.is_ground.0.program; blocks = of.are.blocks; program = ap (λ (q : Program). Some q) same };
-      client = subst (λ (d : Contents). RunsAt d Client) made client;
-      server = subst (λ (d : Contents). RunsAt d Server) made server;
+      sites = of_sites p typed of.ground of.is_ground of.queries of.are_queries.1 (whole_of parts program) of.are.tables of.are.blocks;
+      client = runs Client;
+      server = runs Server;
     })

@@ -1,12 +1,14 @@
--- Sessions of code are those of its ground program.
-use Rattle.std.proofs.Common.{◌≡◌, refl, sym, ap, subst, ◌∙◌, ℕ, true, List, [], ◌∷◌, length, Some, slice_get}
+-- Sessions of code are those of its ground program, and so are calls.
+use Rattle.std.proofs.Common.{◌≡◌, refl, sym, ap, subst, ◌∙◌, ℕ, true, List, [], ◌∷◌, length, Option, Some, None, slice_get}
+use Rattle.std.specs.Option.{option_map}
 use Rattle.std.proofs.lemmas.Option.{none-some}
 use Rattle.lk_ast.specs.declared.declaration.Program.{Program}
 use Rattle.lk_ast.specs.declared.place.Loc.TheVariants.{Client}
 use Rattle.lk_ast.specs.declared.table.Row.{Row}
 use Rattle.lk_ast.specs.declared.value.Value.{Value}
 use Rattle.lk_code.specs.Meaning.{does, language}
-use Rattle.lk_code.specs.Sound.{AreSound}
+use Rattle.lk_code.specs.Parts.{Info}
+use Rattle.lk_code.specs.Sound.{AreSound, info_of}
 use Rattle.lk_code.specs.Tables.{is_function}
 use Rattle.lk_code.specs.TypedLaw.{CallsLaw}
 use Rattle.lk_code.specs.declared.infos.FunInfo.{FunInfo}
@@ -22,23 +24,24 @@ use Rattle.lk_ground.specs.Law.{AreInstances}
 use Rattle.lk_ground.specs.declared.program.GroundFun.{GroundFun}
 use Rattle.lk_ground.specs.declared.program.GroundProgram.{GroundProgram}
 use Rattle.lk_infer.specs.declared.typed.Typed.{Typed}
-use Rattle.lk_ir.specs.Environments.{bind_each, no_names}
+use Rattle.lk_ir.specs.Environments.{Env, bind_each, no_names}
 use Rattle.lk_ir.specs.Law.{ContinuesLaw}
-use Rattle.lk_ir.specs.LetNormal.{let_normal, main_point, under}
+use Rattle.lk_ir.specs.LetNormal.{kept_by, let_normal, main_point, under}
 use Rattle.lk_ir.specs.Tables.{body_at, body_of}
 use Rattle.lk_ir.specs.declared.nodes.Body.{Body}
 use Rattle.lk_ir.specs.declared.nodes.Forms.{Forms}
 use Rattle.lk_lower.specs.Lowering as low
 use Rattle.lk_lower.specs.Lowering.{AreForms, AreFuns, AreLocals}
-use Rattle.lk_lowered.specs.Law.{IsTableOf, SessionsLaw}
+use Rattle.lk_lowered.specs.Law.{EntersLaw, IsTableOf, SessionsLaw}
 use Rattle.lk_mono.proofs.Keeping.{instances_lemma}
 use Rattle.lk_operators.specs.Values.{text}
 use Rattle.lk_places.specs.Law.{AreMarksApart}
+use Rattle.lk_types.proofs.Parts.{same_some}
 use Rattle.lk_ground.specs.UsesApart.{AreUsesApart}
 use Rattle.lk_index.specs.Places.{ArePlaced}
 use Rattle.lk_compile.specs.Accepted.{IsGround}
 use Rattle.lk_compile.specs.Compiled.{AreTablesOf}
-use Rattle.lk_compile.specs.Sessions.{ArePlacesApart, HasSessions, code_session}
+use Rattle.lk_compile.specs.Sessions.{ArePlacesApart, DoesAsCalled, HasSessions, code_session}
 
 -- ---- the body of label 1
 
@@ -71,6 +74,32 @@ module _ (calls : CallsLaw) (continues : ContinuesLaw) (sessions : SessionsLaw) 
       let goes_on = continues c.forms c.conts sound.named b.root (bind_each no_names b.params (text arg ∷ [])) Client (start fuel answers) in
       sym called ∙ bound ∙ goes_on ∙ sym (sessions g c.forms table main at b own.is arg fuel answers)
 
+-- ---- calls
+
+-- an instance has no names for what is kept, so whatever a function value keeps is bound to the same
+kept_same : (node : Option ℕ) (names : List ℕ) (env : List Value) → (node ≡ None → names ≡ []) → bind_each no_names names (kept_by node env) ≡ bind_each no_names names env
+kept_same (Some n) names env none = refl
+kept_same None names env none = ap (λ xs. bind_each no_names xs []) (none refl) ∙ sym (ap (λ xs. bind_each no_names xs env) (none refl))
+
+module _ (calls : CallsLaw) (continues : ContinuesLaw) (enters : EntersLaw) (g : GroundProgram) (c : CodeTables) (sound : AreSound c) (table : IsTableOf g c.forms) where
+  does_as_called : DoesAsCalled g c
+  does_as_called i callee is args mark point to =
+      let entered = enters g c.forms table to.at callee args mark to.called to.passed point to.goes in
+      let b = entered.body in
+      let there : body_at c.forms callee.site ≡ Some b = ap body_of entered.label_is ∙ entered.body_is in
+      let typed = sound.forms.bodies callee.site b there in
+      let told = sound.bodies callee.site b there in
+      let long : length b.names ≡ length callee.env = typed.names_long ∙ ap (λ (j : Info). length j.env) (same_some (sym typed.is ∙ ap (option_map info_of) is.told)) ∙ sym is.keeps in
+      let kept = kept_same entered.label.node b.names callee.env (λ none. sound.forms.tops callee.site entered.label b entered.label_is none entered.body_is) in
+      let bound : Env = bind_each (bind_each no_names b.names callee.env) b.params args in
+      record {
+        mark_is = ap (λ (j : FunInfo). j.place) (same_some (sym is.told ∙ told.1)) ∙ sym told.3 ∙ entered.place;
+        same = λ place r.
+            sym (calls c callee.site i b is.told is.function there callee.env args long place r)
+            ∙ continues c.forms c.conts sound.named b.root bound place r
+            ∙ sym (entered.same place r ∙ ap (λ names. eval (let_normal c.forms) (under (bind_each names b.params args) b.root) place r) kept);
+      }
+
 -- ---- programs
 
 module _ (p : Program) (typed : Typed) (g : GroundProgram) (is : IsGround p typed g) where
@@ -86,8 +115,8 @@ module _ (p : Program) (typed : Typed) (g : GroundProgram) (is : IsGround p type
     marks = subst AreMarksApart (sym is.0.program) apart.marks;
   }
 
-  pub has_sessions : CallsLaw → ContinuesLaw → SessionsLaw → (c : CodeTables) → AreSound c → AreTablesOf g c → HasSessions p g c
-  has_sessions calls continues sessions c sound of =
+  pub has_sessions : CallsLaw → ContinuesLaw → SessionsLaw → EntersLaw → (c : CodeTables) → AreSound c → AreTablesOf g c → HasSessions p g c
+  has_sessions calls continues sessions enters c sound of =
       let forms : AreForms g c.forms = subst (AreForms g) (sym of.numbers.forms) of.forms in
       let main = is.1.0 in
       let same : ArePlacesApart p → (arg : List ℕ) (fuel : ℕ) (answers : List (List Row)) → code_session c arg fuel answers ≡ ground.session g (function_of main) arg (start fuel answers)
@@ -97,4 +126,5 @@ module _ (p : Program) (typed : Typed) (g : GroundProgram) (is : IsGround p type
         is_main = is.1.1;
         same = same;
         keeps = λ apart arg fuel answers. subst (λ (out : Out Value). MatchingOuts (Alike g) Value Value (Alike g) out (source.session p (function_of main) arg (start fuel answers))) (sym (same apart arg fuel answers)) (is.1.2 apart.placed apart.uses arg fuel answers);
+        calls = λ apart. does_as_called calls continues enters g c sound (is_table c.forms forms apart);
       }

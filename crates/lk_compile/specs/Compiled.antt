@@ -18,6 +18,7 @@ use Rattle.lk_translate.specs.declared.translated.Translated.{Translated}
 use Rattle.lk_compile.specs.Accepted.{AreQueries, IsGround, IsTyped}
 use Rattle.lk_compile.specs.Blocks.{AreRun}
 use Rattle.lk_compile.specs.Sessions.{HasSessions}
+use Rattle.lk_compile.specs.Sites.{AreOfSites}
 use Rattle.lk_compile.specs.declared.compiling.Parts.{Parts}
 
 -- The tables that numbers give to the table of a ground program, whose continuations keep just what is used behind them and are counted
@@ -36,7 +37,7 @@ pub record IsFilled (p : Program) (queries : List Translated) (c : Contents) : T
   pub program : program_in c ≡ Some p
 
 -- The code of an accepted program: the tables of its ground program, whose sessions do what the program's do, and what its labels run at
--- the server. All is there that either place runs.
+-- the server, each that of its own site. All is there that either place runs.
 pub record IsCodeOf (p : Program) (c : Contents) : Type 0 where
   pub typed : Typed
   pub is_typed : IsTyped p typed
@@ -47,6 +48,7 @@ pub record IsCodeOf (p : Program) (c : Contents) : Type 0 where
   pub tables : AreTablesOf ground c.tables
   pub sessions : HasSessions p ground c.tables
   pub filled : IsFilled p queries c
+  pub sites : AreOfSites p ground c
   pub client : RunsAt c Client
   pub server : RunsAt c Server
 

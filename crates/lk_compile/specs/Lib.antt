@@ -3,3 +3,4 @@ pub mod Blocks
 pub mod Compiled
 pub mod Errors
 pub mod Sessions
+pub mod Sites

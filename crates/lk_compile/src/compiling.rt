@@ -2,23 +2,21 @@
 
 ghost use Rattle.lk_ast.specs.Tables.{HaveColumns};
 ghost use Rattle.lk_ast.specs.declared.declaration.Program.{Program as TheProgram};
-ghost use Rattle.lk_ast.specs.declared.place.Loc.TheVariants.{Client, Server};
-ghost use Rattle.lk_code.specs.Running.{RunsAt};
 ghost use Rattle.lk_code.specs.Sound.{AreSound};
 ghost use Rattle.lk_code.specs.TypedLaw.{CallsLaw};
 ghost use Rattle.lk_compile.specs.Accepted.{IsRefusedProgram, IsRefusedText, IsRefusedTyped, IsTyped};
 ghost use Rattle.lk_compile.specs.Compiled.{AreGroundParts, AreParts, IsCodeOf, IsSource};
 ghost use Rattle.lk_ir.specs.Law.{ContinuesLaw};
-ghost use Rattle.lk_lowered.specs.Law.{SessionsLaw};
+ghost use Rattle.lk_lowered.specs.Law.{EntersLaw, SessionsLaw, StandsLaw};
 ghost use Rattle.lk_parse.specs.Refusals.{IsProgramText};
 ghost use Rattle.std.specs.Prelude.{◌≡◌, IfErr, IfOk, Some};
 
 use crate::blocks::all_blocks;
 use crate::error::CompileError;
 use crate::tables::code_tables;
-use lk_ast::{List, Loc, NoMemory, Program, TableDef};
+use lk_ast::{List, NoMemory, Program, TableDef};
 use lk_bag::table_defs;
-use lk_code::{BlockCode, Code, Origin, runs_at, sound_laws};
+use lk_code::{BlockCode, Code, Origin, sound_laws};
 use lk_ground::GroundProgram;
 use lk_infer::{Typed, infer};
 use lk_ir::ir_laws;
@@ -79,29 +77,21 @@ pub fn compile_program(alloc: Global, program: Program) -> Result<Code, CompileE
     let scoped = resolve(alloc, program)?;
     let typed = infer(alloc, &scoped)?;
     let parts = typed_parts(alloc, &scoped, &typed)?;
-    Ok(running(parts.whole(scoped.into_program()))?)
+    Ok(parts.whole(scoped.into_program()))
 }
 
-/// Why sessions of code do what those of the ground program do: calls, what continuations keep, and lowering.
+/// Why nodes of code stand in bodies, and why its sessions and calls do what those of the ground program do: labels, what continuations
+/// keep, and lowering.
 fn session_laws()
+    ensures stands { StandsLaw }
     ensures calls { CallsLaw }
     ensures continues { ContinuesLaw }
     ensures same { SessionsLaw }
+    ensures enters { EntersLaw }
 {
     sound_laws();
     ir_laws();
     lowered_laws();
-}
-
-/// The code, if all is there that either place runs. It is in the code of a program.
-fn running(code: Code) -> Result<Code, NoMemory>
-    ensures { IfOk result (λ same. (same ≡ code) × RunsAt code Client × RunsAt code Server) }
-{
-    if runs_at(&code, Loc::Client) && runs_at(&code, Loc::Server) {
-        Ok(code)
-    } else {
-        Err(NoMemory)
-    }
 }
 
 /// What of the code is made of the ground program of a typed program.

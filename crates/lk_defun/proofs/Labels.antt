@@ -1,8 +1,9 @@
 -- What is told of labels, by their numbers.
-use Rattle.std.proofs.Common.{◌≡◌, refl, sym, ap, subst, ◌∙◌, ℕ, zero, suc, ◌+◌, true, false, List, [], ◌∷◌, Option, Some, None, slice_get, arith}
+use Rattle.std.proofs.Common.{◌≡◌, refl, sym, ap, subst, ◌∙◌, ℕ, zero, suc, ◌+◌, true, false, List, [], ◌∷◌, Option, Some, None, map, slice_get, arith}
 use Rattle.std.specs.Option.{option_and_then, option_map}
+use Rattle.std.specs.Prelude.{IsSome}
 use Rattle.lk_ast.specs.declared.place.Loc.TheVariants.{Server}
-use Rattle.lk_ir.specs.Tables.{form_at}
+use Rattle.lk_ir.specs.Tables.{body_at, body_of, form_at, label_at}
 use Rattle.lk_ir.specs.declared.ir.CpsProgram.{CpsProgram}
 use Rattle.lk_ir.specs.declared.nodes.Block.{Block}
 use Rattle.lk_ir.specs.declared.nodes.Block.TheVariants as block
@@ -15,12 +16,12 @@ use Rattle.lk_ir.specs.declared.nodes.LabelForm.{LabelForm}
 use Rattle.lk_types.specs.declared.ground.Ground.{Ground}
 use Rattle.lk_code.specs.Parts.{Info}
 use Rattle.lk_code.specs.Sound.{info_of, kind_of}
-use Rattle.lk_code.specs.Tables.{is_block}
+use Rattle.lk_code.specs.Tables.{is_block, is_function}
 use Rattle.lk_code.specs.Told.{env_of, of_block, of_node, taken, told}
 use Rattle.lk_code.specs.declared.infos.FunInfo.{FunInfo}
 use Rattle.lk_code.specs.declared.infos.FunKind.{FunKind}
 use Rattle.lk_code.specs.declared.infos.FunKind.TheVariants as fun
-use Rattle.lk_defun.proofs.Lists.{nowhere, some_same}
+use Rattle.lk_defun.proofs.Lists.{get_map, nowhere, some_same}
 use Rattle.lk_defun.specs.Numbers.{fun_at, fun_by, funs_from, kind_by, kind_in, name_in, place_in}
 use Rattle.lk_defun.specs.Words.{Word}
 
@@ -113,6 +114,13 @@ other_kind is = cc
 no_lambda : fun.Lambda ≡ fun.Print → ⊥
 no_lambda is = cc
 
+no_function : (b : Block) → is_function (kind_of b) ≡ true → ⊥
+no_function block.Query is = no_block is
+no_function block.TableRead is = no_block is
+no_function block.Insert is = no_block is
+no_function block.Update is = no_block is
+no_function block.Delete is = no_block is
+
 module _ (f : Forms) (found : FunKind) where
   -- only what has neither is `print`
   pub prints : (node : Option ℕ) (body : Option Body) → kind_in f node body ≡ Some found → found ≡ fun.Print → (node ≡ None) × (body ≡ None)
@@ -127,3 +135,42 @@ module _ (f : Forms) (found : FunKind) where
   at_server None (Some b) is reaches = absurd (no_block (ap is_block (some_same is) ∙ reaches))
   at_server (Some n) (Some b) is reaches = absurd (no_block (ap is_block (some_same is) ∙ reaches))
   at_server (Some n) None is reaches = let one = node_block (form_at f n) found is in subst (λ k. place_in k None ≡ Server) one.1 (serves one.0)
+
+  -- an instance or a lambda has a body
+  pub has_body : (node : Option ℕ) (body : Option Body) → kind_in f node body ≡ Some found → is_function found ≡ true → IsSome body
+  has_body None None is function = absurd (no_block (ap is_function (some_same is) ∙ function))
+  has_body None (Some b) is function = refl
+  has_body (Some n) (Some b) is function = refl
+  has_body (Some n) None is function = let one = node_block (form_at f n) found is in absurd (no_function one.0 (ap is_function one.1 ∙ function))
+
+-- ---- labels and what is told of them
+
+module _ (p : CpsProgram) (funs : List FunInfo) (funs_are : map Some funs ≡ funs_from p 0 p.forms.labels) where
+  pub both : (label : ℕ) → option_map Some (slice_get funs label) ≡ option_map (fun_at p label) (label_at p.forms label)
+  both label =
+      let none : 0 + label ≡ label = omega arith in
+      sym (get_map Some funs label) ∙ ap (λ os. slice_get os label) funs_are ∙ funs_at p 0 p.forms.labels label ∙ ap (λ m. option_map (fun_at p m) (label_at p.forms label)) none
+
+  pub record HasLabel (label : ℕ) (i : FunInfo) : Type 0 where
+    pub l : LabelForm
+    pub there : label_at p.forms label ≡ Some l
+    pub shows : IsShown p label l i
+
+  -- what has information has a label
+  pub labelled : (label : ℕ) (i : FunInfo) → slice_get funs label ≡ Some i → HasLabel label i
+  labelled label i at = by_form (label_at p.forms label) refl (sym (ap (option_map Some) at) ∙ both label)
+    where
+      by_form : (l : Option LabelForm) → label_at p.forms label ≡ l → Some (Some i) ≡ option_map (fun_at p label) l → HasLabel label i
+      by_form None there is = absurd (nowhere (sym is))
+      by_form (Some l) there is = record { l = l; there = there; shows = shown p label l i (sym (some_same is)) }
+
+  -- and the other way round
+  pub informed : (label : ℕ) (l : LabelForm) → label_at p.forms label ≡ Some l → (i : FunInfo) × (slice_get funs label ≡ Some i) × IsShown p label l i
+  informed label l there = by_info (slice_get funs label) refl (both label ∙ ap (option_map (fun_at p label)) there)
+    where
+      by_info : (i : Option FunInfo) → slice_get funs label ≡ i → option_map Some i ≡ Some (fun_at p label l) → (i : FunInfo) × (slice_get funs label ≡ Some i) × IsShown p label l i
+      by_info None at is = absurd (nowhere is)
+      by_info (Some i) at is = (i, at, shown p label l i (sym (some_same is)))
+
+  pub with_body : (label : ℕ) (i : FunInfo) → slice_get funs label ≡ Some i → is_function i.kind ≡ true → IsSome (body_at p.forms label)
+  with_body label i at function = let has = labelled label i at in subst IsSome (sym (ap body_of has.there)) (has_body p.forms i.kind has.l.node has.l.body has.shows.kind function)

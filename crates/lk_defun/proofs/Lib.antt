@@ -1,8 +1,8 @@
 mod Added
 mod Framed
 mod InOrder
-mod Labels
-mod Lists
+pub mod Labels
+pub mod Lists
 pub mod Numbered
 mod Samples
 mod Units

@@ -1,7 +1,7 @@
 -- Numbering makes sound code.
 use Rattle.std.proofs.Common.{◌≡◌, refl, sym, ap, subst, ◌∙◌, ◌⊎◌, inl, inr, ℕ, ◌+◌, ◌≤◌, true, List, [], ◌∷◌, ◌++◌, Option, Some, None, length, map, slice_get, arith}
 use Rattle.std.specs.Option.{option_and_then, option_flatten, option_map}
-use Rattle.std.specs.Prelude.{if◌then◌else◌, ◌-◌}
+use Rattle.std.specs.Prelude.{IsSome, if◌then◌else◌, ◌-◌}
 use Rattle.lk_ast.specs.declared.place.Loc.TheVariants.{Server}
 use Rattle.lk_ground_types.specs.Shapes.{has_function}
 use Rattle.lk_ir.specs.Continuing.{conts_at}
@@ -27,7 +27,7 @@ use Rattle.lk_code.specs.declared.tables.CodeTables.{CodeTables}
 use Rattle.lk_code.specs.declared.tables.Home.{Home}
 use Rattle.lk_defun.proofs.Framed.{frame_shown, return_shown, returns_at, returns_long}
 use Rattle.lk_defun.proofs.InOrder.{home_counted, home_found}
-use Rattle.lk_defun.proofs.Labels.{IsShown, at_server, form_keeps, funs_at, prints, shown}
+use Rattle.lk_defun.proofs.Labels.{IsShown, at_server, both, form_keeps, informed, labelled, prints, with_body}
 use Rattle.lk_defun.proofs.Lists.{flat, get_back, get_front, get_map, get_there, gone, not_before, nowhere, some_same}
 use Rattle.lk_defun.specs.Numbers.{AreTables, cont_in, fun_at, frame_at, frame_in, funs_from, homes_from, kind_by, kind_in, place_in, return_at, returns_from}
 use Rattle.lk_defun.specs.Whole.{IsFirst, IsWhole}
@@ -38,32 +38,6 @@ module _ (p : CpsProgram) (funs : List FunInfo) (frames : List FrameInfo) (homes
   c = record { forms = p.forms; conts = p.conts; funs = funs; frames = frames; homes = homes }
 
   -- ---- labels
-
-  both : (label : ℕ) → option_map Some (slice_get funs label) ≡ option_map (fun_at p label) (label_at p.forms label)
-  both label =
-      let none : 0 + label ≡ label = omega arith in
-      sym (get_map Some funs label) ∙ ap (λ os. slice_get os label) funs_are ∙ funs_at p 0 p.forms.labels label ∙ ap (λ m. option_map (fun_at p m) (label_at p.forms label)) none
-
-  record HasLabel (label : ℕ) (i : FunInfo) : Type 0 where
-    l : LabelForm
-    there : label_at p.forms label ≡ Some l
-    shows : IsShown p label l i
-
-  -- what has information has a label
-  labelled : (label : ℕ) (i : FunInfo) → slice_get funs label ≡ Some i → HasLabel label i
-  labelled label i at = by_form (label_at p.forms label) refl (sym (ap (option_map Some) at) ∙ both label)
-    where
-      by_form : (l : Option LabelForm) → label_at p.forms label ≡ l → Some (Some i) ≡ option_map (fun_at p label) l → HasLabel label i
-      by_form None there is = absurd (nowhere (sym is))
-      by_form (Some l) there is = record { l = l; there = there; shows = shown p label l i (sym (some_same is)) }
-
-  -- and the other way round
-  informed : (label : ℕ) (l : LabelForm) → label_at p.forms label ≡ Some l → (i : FunInfo) × (slice_get funs label ≡ Some i) × IsShown p label l i
-  informed label l there = by_info (slice_get funs label) refl (both label ∙ ap (option_map (fun_at p label)) there)
-    where
-      by_info : (i : Option FunInfo) → slice_get funs label ≡ i → option_map Some i ≡ Some (fun_at p label l) → (i : FunInfo) × (slice_get funs label ≡ Some i) × IsShown p label l i
-      by_info None at is = absurd (nowhere is)
-      by_info (Some i) at is = (i, at, shown p label l i (sym (some_same is)))
 
   told_at : (label : ℕ) (l : LabelForm) → label_at p.forms label ≡ Some l → info_in p label ≡ told p.forms (env_of p label) l.ty l.node l.body
   told_at label l there = ap (option_and_then (λ (l : LabelForm). told p.forms (env_of p label) l.ty l.node l.body)) there
@@ -76,8 +50,8 @@ module _ (p : CpsProgram) (funs : List FunInfo) (frames : List FrameInfo) (homes
       absent (Some l) is at = absurd (nowhere (sym (ap (option_map Some) at) ∙ is))
 
       by_info : (i : Option FunInfo) → slice_get funs label ≡ i → option_map info_of (slice_get funs label) ≡ info_in p label
-      by_info None at = ap (option_map info_of) at ∙ sym (ap (option_and_then (λ (l : LabelForm). told p.forms (env_of p label) l.ty l.node l.body)) (absent (label_at p.forms label) (both label) at))
-      by_info (Some i) at = let has = labelled label i at in ap (option_map info_of) at ∙ sym (told_at label has.l has.there ∙ has.shows.types)
+      by_info None at = ap (option_map info_of) at ∙ sym (ap (option_and_then (λ (l : LabelForm). told p.forms (env_of p label) l.ty l.node l.body)) (absent (label_at p.forms label) (both p funs funs_are label) at))
+      by_info (Some i) at = let has = labelled p funs funs_are label i at in ap (option_map info_of) at ∙ sym (told_at label has.l has.there ∙ has.shows.types)
 
   forms_are : AreTypedForms p.forms (told_by c)
   forms_are = subst (AreTypedForms p.forms) (sym (λ j label. told_same label j)) whole.typed.forms
@@ -94,12 +68,12 @@ module _ (p : CpsProgram) (funs : List FunInfo) (frames : List FrameInfo) (homes
 
   is_printer : (i : FunInfo) × (fun_info c 0 ≡ Some i) × IsPrinter i
   is_printer =
-      let found = informed 0 whole.printer whole.printer_is in
+      let found = informed p funs funs_are 0 whole.printer whole.printer_is in
       (found.0, found.1, printer_case found.0 whole.printer.node whole.printer.body (env_of p 0) whole.printer.ty whole.prints.node whole.prints.body found.2.kind found.2.place found.2.types)
 
   is_alone : (label : ℕ) (i : FunInfo) → slice_get funs label ≡ Some i → i.kind ≡ fun.Print → label ≡ 0
   is_alone label i at print =
-      let has = labelled label i at in
+      let has = labelled p funs funs_are label i at in
       let neither = prints p.forms i.kind has.l.node has.l.body has.shows.kind print in
       whole.alone label has.l has.there (record { node = neither.0; body = neither.1 })
 
@@ -125,7 +99,7 @@ module _ (p : CpsProgram) (funs : List FunInfo) (frames : List FrameInfo) (homes
 
   keep_so : (label : ℕ) (i : FunInfo) → slice_get funs label ≡ Some i → (i.kind ≡ fun.Lambda) ⊎ (i.env ≡ [])
   keep_so label i at =
-      let has = labelled label i at in
+      let has = labelled p funs funs_are label i at in
       keeps_case label has.l i has.l.node has.l.body has.there refl refl (told_at label has.l has.there ∙ has.shows.types) has.shows.kind has.shows.types
 
   main_case : (i : FunInfo) (l : LabelForm) → label_at p.forms 1 ≡ Some l → slice_get funs 1 ≡ Some i → IsShown p 1 l i → IsFirst p l → IsMain i
@@ -141,11 +115,11 @@ module _ (p : CpsProgram) (funs : List FunInfo) (frames : List FrameInfo) (homes
       }
 
   is_main : (i : FunInfo) × (fun_info c 1 ≡ Some i) × IsMain i
-  is_main = let found = informed 1 whole.main whole.main_is in (found.0, found.1, main_case found.0 whole.main whole.main_is found.1 found.2 whole.first)
+  is_main = let found = informed p funs funs_are 1 whole.main whole.main_is in (found.0, found.1, main_case found.0 whole.main whole.main_is found.1 found.2 whole.first)
 
   serve_so : (label : ℕ) (i : FunInfo) → slice_get funs label ≡ Some i → is_block i.kind ≡ true → i.place ≡ Server
   serve_so label i at reaches =
-      let has = labelled label i at in
+      let has = labelled p funs funs_are label i at in
       has.shows.place ∙ at_server p.forms i.kind has.l.node has.l.body has.shows.kind reaches
 
   -- ---- bodies and blocks
@@ -160,7 +134,7 @@ module _ (p : CpsProgram) (funs : List FunInfo) (frames : List FrameInfo) (homes
       by_form : (l : Option LabelForm) → label_at p.forms label ≡ l → body_of l ≡ Some b → (i : FunInfo) × (fun_info c label ≡ Some i) × (is_function i.kind ≡ true) × (b.place ≡ i.place)
       by_form None there body = absurd (nowhere body)
       by_form (Some l) there body =
-          let found = informed label l there in
+          let found = informed p funs funs_are label l there in
           let kind = sym (ap (kind_in p.forms l.node) body) ∙ found.2.kind in
           (found.0, found.1, body_case found.0 l.node b kind, sym (found.2.place ∙ ap (place_in found.0.kind) body))
 
@@ -174,7 +148,7 @@ module _ (p : CpsProgram) (funs : List FunInfo) (frames : List FrameInfo) (homes
     where
       by_form : (l : Option LabelForm) → label_at p.forms label ≡ l → option_and_then (λ (l : LabelForm). l.node) l ≡ Some n → body_of l ≡ None → (i : FunInfo) × (fun_info c label ≡ Some i) × (i.kind ≡ kind_of b)
       by_form None at node body = absurd (nowhere node)
-      by_form (Some l) at node body = let found = informed label l at in (found.0, found.1, block_case found.0 n form b label kept l.node l.body there reaches node body found.2.kind)
+      by_form (Some l) at node body = let found = informed p funs funs_are label l at in (found.0, found.1, block_case found.0 n form b label kept l.node l.body there reaches node body found.2.kind)
 
   -- ---- frames
 
@@ -259,3 +233,7 @@ numbered_sound p c whole are =
     subst (λ (f : Forms). AreSound (record { forms = f; conts = c.conts; funs = c.funs; frames = c.frames; homes = c.homes })) (sym are.forms)
     (subst (λ (cs : List Conts). AreSound (record { forms = p.forms; conts = cs; funs = c.funs; frames = c.frames; homes = c.homes })) (sym are.conts)
     (are_sound p c.funs c.frames c.homes whole are.funs are.homes are.frames))
+
+-- in these tables each instance and each lambda has a body
+pub numbered_bodies : (p : CpsProgram) (c : CodeTables) → AreTables p c → (label : ℕ) (i : FunInfo) → fun_info c label ≡ Some i → is_function i.kind ≡ true → IsSome (body_at c.forms label)
+numbered_bodies p c are label i at function = subst (λ (f : Forms). IsSome (body_at f label)) (sym are.forms) (with_body p c.funs are.funs label i at function)

@@ -291,7 +291,7 @@ module _ (g : GroundProgram) (f : Forms) (rise : IsStrictlySortedBy (slice_cmp n
             let none : label_at f h.site ≡ None = slice_get_past f.labels h.site (let e : length f.labels ≡ 1 + length (labels g) = labels_long in omega arith) in
             subst (λ o. Acts (language.call_labelled g at h args None) (forms.entered_as at h args o)) (sym none) refl
 
-    labelled_acts : (at : Span) (h : FunValue) (args : List Value) (o : Option Labelled) → language.labelled g h.site ≡ o → Acts (language.call_labelled g at h args o) (forms.entered_as at h args (label_at f h.site))
+    pub labelled_acts : (at : Span) (h : FunValue) (args : List Value) (o : Option Labelled) → language.labelled g h.site ≡ o → Acts (language.call_labelled g at h args o) (forms.entered_as at h args (label_at f h.site))
     labelled_acts at h args None is = no_label at h args is
     labelled_acts at h args (Some (Whole i)) is =
         let w = found_all (Described g f) 1 (labels g) h.site (Whole i) described is in

@@ -51,7 +51,7 @@ module _ (f : Forms) (owner : ℕ) where
     pub label : IsBodyLabel f owner (Some n) form.ty before.label l.place (captured l) l.params body
     pub lowered : IsLowered f owner before.label l.body (behind_label before) body.root after
 
-  no_shell : {n ty : ℕ} {l : LambdaExpr} {at : Span} {p q : Pending} {k : Kind} → Shell f owner n ty (Node-F.Lambda l) at p k q → ⊥
+  pub no_shell : {n ty : ℕ} {l : LambdaExpr} {at : Span} {p q : Pending} {k : Kind} → Shell f owner n ty (Node-F.Lambda l) at p k q → ⊥
   no_shell (low.operation is) = absurd (none-some _ is)
 
   pub as_lambda : {within n : ℕ} {e : Expr} {before after : Pending} (l : LambdaExpr) → layer e ≡ Node-F.Lambda l → IsLowered f owner within e before n after → IsLambdaNode within e l before n after

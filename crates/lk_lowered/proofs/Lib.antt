@@ -1,8 +1,10 @@
 pub mod Acts
 pub mod Blocks
+pub mod Bodied
 pub mod Contexts
 pub mod Continued
 pub mod Enclosing
+pub mod Entered
 pub mod Inverted
 pub mod LabelBodies
 pub mod Labelling
@@ -14,6 +16,7 @@ pub mod NodeCounts
 pub mod NodeKinds
 pub mod Operators
 pub mod OwnBodies
+pub mod Sited
 pub mod Standing
 pub mod Telling
 pub mod Told

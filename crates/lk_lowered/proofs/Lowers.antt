@@ -1,12 +1,14 @@
 -- A table that is one of a ground program means the same: the two languages match.
-use Rattle.std.proofs.Common.{◌≡◌, refl, sym, ap, subst, ◌∙◌, ℕ, suc, ◌+◌, List, [], ◌∷◌, ◌++◌, append_assoc, append-nil, flat_map, length, length-append, map, Some, None, slice_get, arith}
+use Rattle.std.proofs.Common.{◌≡◌, refl, sym, ap, subst, ◌∙◌, ℕ, suc, ◌+◌, List, [], ◌∷◌, ◌++◌, flat_map, length, length-append, map, Some, None, slice_get, arith}
 use Rattle.std.proofs.lemmas.List.{length-map}
 use Rattle.std.proofs.lemmas.Option.{none-some}
 use Rattle.lk_ast.specs.Layers.{Layer, layer}
 use Rattle.lk_ast.specs.declared.expression.Expr.{Expr}
 use Rattle.lk_ast.specs.declared.expression.Node.TheOpen.{Node-F}
 use Rattle.lk_ast.specs.declared.place.Loc.TheVariants.{Client}
+use Rattle.lk_ast.specs.declared.place.Span.{Span}
 use Rattle.lk_ast.specs.declared.table.Row.{Row}
+use Rattle.lk_ast.specs.declared.value.FunValue.{FunValue}
 use Rattle.lk_ast.specs.declared.value.Value.{Value}
 use Rattle.lk_ast.specs.declared.value.Value.TheVariants as value
 use Rattle.lk_evaluation.proofs.Same.{same}
@@ -17,7 +19,7 @@ use Rattle.lk_evaluation.specs.Source as source
 use Rattle.lk_evaluation.specs.Syntax.{parts_of, is_plain}
 use Rattle.lk_ground.proofs.Levels.{own_use, own_label, labelled_level, outer}
 use Rattle.lk_ground.specs.Language as language
-use Rattle.lk_ground.specs.Language.{Labelled, Whole, Site, function_of, instance, labels, labelled_from, found_from, ground}
+use Rattle.lk_ground.specs.Language.{Whole, Site, function_of, instance, labels, labelled_from, found_from, ground}
 use Rattle.lk_ground.specs.Sites.{uses_in, labelled_in}
 use Rattle.lk_ground.specs.declared.program.GroundFun.{GroundFun}
 use Rattle.lk_ground.specs.declared.program.GroundProgram.{GroundProgram}
@@ -36,20 +38,20 @@ use Rattle.lk_ir.specs.LetNormal as forms
 use Rattle.lk_ir.specs.LetNormal.{let_normal, main_point}
 use Rattle.lk_ir.specs.Operations as operations
 use Rattle.lk_ir.specs.Operations.{is_literal}
-use Rattle.lk_ir.specs.Tables.{body_at, body_of, form_at}
+use Rattle.lk_ir.specs.Tables.{body_at, body_of, form_at, label_at}
 use Rattle.lk_ir.specs.declared.nodes.Body.{Body}
 use Rattle.lk_ir.specs.declared.nodes.Forms.{Forms}
 use Rattle.lk_ir.specs.declared.nodes.Kind.{Kind}
 use Rattle.lk_lower.proofs.Counted.{takes, counted, lowered_both}
 use Rattle.lk_lower.specs.Lowering as low
 use Rattle.lk_lower.specs.Lowering.{Pending, Shell, IsLowered, AreLowered, AreFuns, AreForms, tails_of, op_of, text_of}
-use Rattle.lk_lowered.proofs.Acts.{closure_acts, acts_of, label_is}
+use Rattle.lk_lowered.proofs.Acts.{closure_acts, acts_of, label_is, labelled_acts}
 use Rattle.lk_lowered.specs.Law.{main_at}
 use Rattle.lk_lowered.specs.Meeting.{AreAlike, IsBlockOf, IsInside, Meets, Ready, Stands}
 use Rattle.lk_lowered.proofs.Locals.{all_alike, each_alike, none_alike}
 use Rattle.lk_lowered.proofs.Labelling.{AreDistinct, AllFrom, all_from_both, all_from_map, all_distinct, found_all}
 use Rattle.lk_ground.proofs.PlacedLevels.{form_uses}
-use Rattle.lk_lowered.proofs.Standing.{IsWhole, Described, ready_all, children_stand, children_inside, sites_of}
+use Rattle.lk_lowered.proofs.Standing.{IsRest, IsWhole, Described, all_rest, first_stands, first_there, others_rest, ready_all, children_stand, children_inside, sites_of}
 
 -- what a program has to have: each instance is one of a function of the program, and what begins at places begins apart
 pub record AreApartThere (g : GroundProgram) : Type 0 where
@@ -69,13 +71,6 @@ module _ (g : GroundProgram) (f : Forms) (of : AreForms g f) (apart : AreApartTh
   distinct : AreDistinct (labels g)
   distinct = all_distinct 0 g.funs (each_instance g.funs (λ i fun is. apart.sites i fun is))
 
-  -- instances from one on: what comes before them, and that they are the program's
-  record IsRest (i : ℕ) (funs : List GroundFun) (label : ℕ) : Type 0 where
-    there : (k : ℕ) (fun : GroundFun) → slice_get funs k ≡ Some fun → instance g (k + i) ≡ Some fun
-    front : List Labelled
-    are : labels g ≡ front ++ labelled_from i funs
-    label_is : label ≡ 1 + length front
-
   record Comes (i : ℕ) (funs : List GroundFun) (label : ℕ) : Type 0 where
     described : AllFrom (Described g f) label (labelled_from i funs)
     labels_long : length f.labels ≡ label + length (labelled_from i funs)
@@ -84,39 +79,17 @@ module _ (g : GroundProgram) (f : Forms) (of : AreForms g f) (apart : AreApartTh
   plus_none : (n : ℕ) → n ≡ n + 0
   plus_none n = omega arith
 
-  funs_come : (i : ℕ) (funs : List GroundFun) (label next : ℕ) → AreFuns f i funs label next → IsRest i funs label → Comes i funs label
+  funs_come : (i : ℕ) (funs : List GroundFun) (label next : ℕ) → AreFuns f i funs label next → IsRest g i funs label → Comes i funs label
   funs_come i _ label next (low.no_fun wholes named all nodes) rest = record { described = tt; labels_long = all ∙ plus_none label; wholes_long = wholes ∙ plus_none i }
   funs_come i _ label next (low.one_fun {fun = fun} {funs = funs} body after ty whole named type has lowered others) rest =
-      let it = function_of fun in
-      let sites = labelled_in it.body in
+      let sites = labelled_in (function_of fun).body in
       let before : Pending = record { types = fun.types; calls = fun.calls; label = label + 1; next = next } in
-      let is : instance g i ≡ Some fun = subst (λ k. instance g k ≡ Some fun) (let e : 0 + i ≡ i = omega arith in e) (rest.there 0 fun refl) in
-      let front : List Labelled = rest.front ++ Whole i ∷ [] in
-      let split : labels g ≡ front ++ (map (Site i) sites ++ labelled_from (1 + i) funs) = rest.are ∙ sym (append_assoc rest.front (Whole i ∷ []) (map (Site i) sites ++ labelled_from (1 + i) funs)) in
-      let front_long : length front ≡ length rest.front + length (Whole i ∷ []) = length-append rest.front (Whole i ∷ []) in
-      let label_was : label ≡ 1 + length rest.front = rest.label_is in
-      let stands : Stands g i (uses_in it.body) sites before = record {
-        fun = fun;
-        there = is;
-        uses_front = [];
-        uses_back = [];
-        uses = sym (append-nil (uses_in it.body));
-        calls = refl;
-        labels_front = front;
-        labels_back = labelled_from (1 + i) funs;
-        labelled = split;
-        label = omega arith;
-      } in
+      let is = first_there g i fun funs label rest in
+      let stands = first_stands g i fun funs label rest next in
       let inside = apart.declared i fun is in
-      let count = counted f i lowered in
-      let after_is : after.label ≡ (label + 1) + length sites = count.label in
+      let after_is : after.label ≡ (label + 1) + length sites = (counted f i lowered).label in
       let sites_long : length (map (Site i) sites) ≡ length sites = length-map sites (Site i) in
-      let later : Comes (1 + i) funs after.label = funs_come (1 + i) funs after.label after.next others (record {
-        there = λ k other at. subst (λ m. instance g m ≡ Some other) (let e : suc k + i ≡ k + (1 + i) = omega arith in e) (rest.there (suc k) other at);
-        front = front ++ map (Site i) sites;
-        are = split ∙ sym (append_assoc front (map (Site i) sites) (labelled_from (1 + i) funs));
-        label_is = let e : length (front ++ map (Site i) sites) ≡ length front + length (map (Site i) sites) = length-append front (map (Site i) sites) in omega arith;
-      }) in
+      let later : Comes (1 + i) funs after.label = funs_come (1 + i) funs after.label after.next others (others_rest g i fun funs label rest after.label after_is) in
       record {
         described = (
           record { fun = fun; there = is; whole = whole; body = body; ty = ty; has = has; ready = record { within = label; before = before; after = after; lowered = lowered; stands = stands; inside = inside } },
@@ -133,7 +106,7 @@ module _ (g : GroundProgram) (f : Forms) (of : AreForms g f) (apart : AreApartTh
       }
 
   all_come : Comes 0 g.funs 1
-  all_come = funs_come 0 g.funs 1 0 of.funs (record { there = λ k fun is. subst (λ m. instance g m ≡ Some fun) (plus_none k) is; front = []; are = refl; label_is = refl })
+  all_come = funs_come 0 g.funs 1 0 of.funs (all_rest g)
 
   all_wholes : length f.wholes ≡ length g.funs
   all_wholes = all_come.wholes_long ∙ (let e : 0 + length g.funs ≡ length g.funs = omega arith in e)
@@ -256,6 +229,12 @@ module _ (g : GroundProgram) (f : Forms) (of : AreForms g f) (apart : AreApartTh
     rows = λ rows. refl;
     units = refl;
   }
+
+  -- ---- calls of function values
+
+  -- what has the value's label is called alike: points that meet, or neither goes anywhere
+  pub calls_meet : (at : Span) (callee : FunValue) (args : List Value) → MatchingActs M Equal (language.call_labelled g at callee args (language.labelled g callee.site)) (forms.entered_as at callee args (label_at f callee.site))
+  calls_meet at callee args = labelled_acts g f of.locals apart.uses distinct all_come.described all_come.labels_long all_wholes of.printer of.printer_is of.printer_body at callee args (language.labelled g callee.site) refl
 
   -- ---- sessions
 

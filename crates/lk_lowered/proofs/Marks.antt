@@ -174,6 +174,18 @@ no_lambda_found n (placed ∷ found) none =
     ap (λ b. cond b (Some placed) (find (λ (placed : PlacedLambda). placed.site == n) found)) (let other : placed.site ≡ n → ⊥ = λ is. none.0 (sym is) in let e : (placed.site == n) ≡ false = grind (arith, nat_tests) in e)
     ∙ no_lambda_found n found none.1
 
+module _ (p : Program) where
+  in_all : (fs : List FunDef) (f : FunDef) (block : Expr) → OneOf (λ other. other ≡ f) fs → OneOf (λ other. other ≡ block) (blocks_in f.body) → OneOf (λ other. other ≡ block) (all_blocks fs)
+  in_all [] f block one there = absurd one
+  in_all (g ∷ fs) f block (inl is) there = one_in_front (λ other. other ≡ block) (blocks_in g.body) (all_blocks fs) (subst (λ (h : FunDef). OneOf (λ other. other ≡ block) (blocks_in h.body)) (sym is) there)
+  in_all (g ∷ fs) f block (inr later) there = one_in_back (λ other. other ≡ block) (blocks_in g.body) (all_blocks fs) (in_all fs f block later there)
+
+  pub body_inside : (f : FunDef) → IsFunctionOf p f → IsInside p f.body
+  body_inside f declared = record {
+    lambdas = function_within p f declared;
+    blocks = each_of_in (IsBlockOf p) (blocks_in f.body) (λ block there. in_all (functions_of p) f block declared there);
+  }
+
 module _ (p : Program) (apart : AreMarksApart p) where
   abbrev lambdas : List ℕ
   lambdas = map site_of (lambdas_of (functions_of p))
@@ -194,20 +206,9 @@ module _ (p : Program) (apart : AreMarksApart p) where
       let once : count n (blocks ++ lambdas) ≤ 1 = apart_count n (blocks ++ lambdas) apart in
       omega arith)
 
-  in_all : (fs : List FunDef) (f : FunDef) (block : Expr) → OneOf (λ other. other ≡ f) fs → OneOf (λ other. other ≡ block) (blocks_in f.body) → OneOf (λ other. other ≡ block) (all_blocks fs)
-  in_all [] f block one there = absurd one
-  in_all (g ∷ fs) f block (inl is) there = one_in_front (λ other. other ≡ block) (blocks_in g.body) (all_blocks fs) (subst (λ (h : FunDef). OneOf (λ other. other ≡ block) (blocks_in h.body)) (sym is) there)
-  in_all (g ∷ fs) f block (inr later) there = one_in_back (λ other. other ≡ block) (blocks_in g.body) (all_blocks fs) (in_all fs f block later there)
-
-  pub body_inside : (f : FunDef) → IsFunctionOf p f → IsInside p f.body
-  body_inside f declared = record {
-    lambdas = function_within p f declared;
-    blocks = each_of_in (IsBlockOf p) (blocks_in f.body) (λ block there. in_all (functions_of p) f block declared there);
-  }
-
 pub all_apart : (g : GroundProgram) → AreInstances g → ArePlaced g.program.now → AreUsesApart g.program.now → AreMarksApart g.program.now → AreApartThere g
 all_apart g are placed uses marks = record {
-  declared = λ i fun is. body_inside g.program.now marks (function_of fun) (are.declared i fun is);
+  declared = λ i fun is. body_inside g.program.now (function_of fun) (are.declared i fun is);
   uses = λ i fun is. uses (function_of fun) (are.declared i fun is);
   sites = λ i fun is. sites_apart g.program.now marks (function_of fun) (are.declared i fun is);
   placed = placed;

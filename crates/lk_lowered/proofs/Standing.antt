@@ -1,5 +1,5 @@
 -- Expressions that stand in an instance, with what is still to come there; and what has a label in them.
-use Rattle.std.proofs.Common.{◌≡◌, ◌⊎◌, inl, inr, refl, sym, ap, subst, ◌∙◌, ℕ, ◌+◌, true, List, [], ◌∷◌, ◌++◌, append_assoc, flat_map, length, length-append, drop, map, Some, None, arith}
+use Rattle.std.proofs.Common.{◌≡◌, ◌⊎◌, inl, inr, refl, sym, ap, subst, ◌∙◌, ℕ, suc, ◌+◌, true, List, [], ◌∷◌, ◌++◌, append_assoc, append-nil, flat_map, length, length-append, drop, map, Some, None, slice_get, arith}
 use Rattle.std.proofs.lemmas.Grind.{flat_map-append}
 use Rattle.std.proofs.lemmas.List.{length-map, map-append}
 use Rattle.lk_ast.specs.Layers.{Layer, layer}
@@ -12,7 +12,7 @@ use Rattle.lk_bag.proofs.Levels.{itself}
 use Rattle.lk_evaluation.specs.Laws.{Both}
 use Rattle.lk_evaluation.specs.Syntax.{parts_of}
 use Rattle.lk_ground.proofs.Levels.{own_label}
-use Rattle.lk_ground.specs.Language.{Labelled, Whole, Site, function_of, instance}
+use Rattle.lk_ground.specs.Language.{Labelled, Whole, Site, function_of, instance, labelled_from, labels}
 use Rattle.lk_ground.specs.Sites.{PlacedUse, uses_in, labelled_in}
 use Rattle.lk_ground.specs.declared.program.GroundFun.{GroundFun}
 use Rattle.lk_ground.specs.declared.program.GroundProgram.{GroundProgram}
@@ -88,6 +88,62 @@ module _ (g : GroundProgram) (i : ℕ) where
         omega arith;
   }
 
+-- ---- instances one after another
+
+module _ (g : GroundProgram) where
+  -- instances from one on: what comes before them, and that they are the program's
+  pub record IsRest (i : ℕ) (funs : List GroundFun) (label : ℕ) : Type 0 where
+    pub there : (k : ℕ) (fun : GroundFun) → slice_get funs k ≡ Some fun → instance g (k + i) ≡ Some fun
+    pub front : List Labelled
+    pub are : labels g ≡ front ++ labelled_from i funs
+    pub label_is : label ≡ 1 + length front
+
+  pub all_rest : IsRest 0 g.funs 1
+  all_rest = record { there = λ k fun is. subst (λ m. instance g m ≡ Some fun) (let e : k ≡ k + 0 = omega arith in e) is; front = []; are = refl; label_is = refl }
+
+  module _ (i : ℕ) (fun : GroundFun) (funs : List GroundFun) (label : ℕ) (rest : IsRest i (fun ∷ funs) label) where
+    abbrev own_places : List ℕ
+    own_places = labelled_in (function_of fun).body
+
+    abbrev with_first : List Labelled
+    with_first = rest.front ++ Whole i ∷ []
+
+    pub first_there : instance g i ≡ Some fun
+    first_there = subst (λ k. instance g k ≡ Some fun) (let e : 0 + i ≡ i = omega arith in e) (rest.there 0 fun refl)
+
+    first_split : labels g ≡ with_first ++ (map (Site i) own_places ++ labelled_from (1 + i) funs)
+    first_split = rest.are ∙ sym (append_assoc rest.front (Whole i ∷ []) (map (Site i) own_places ++ labelled_from (1 + i) funs))
+
+    first_long : length with_first ≡ length rest.front + 1
+    first_long = length-append rest.front (Whole i ∷ [])
+
+    -- the body of the first of them
+    pub first_stands : (next : ℕ) → Stands g i (uses_in (function_of fun).body) own_places (record { types = fun.types; calls = fun.calls; label = label + 1; next = next })
+    first_stands next = record {
+      fun = fun;
+      there = first_there;
+      uses_front = [];
+      uses_back = [];
+      uses = sym (append-nil (uses_in (function_of fun).body));
+      calls = refl;
+      labels_front = with_first;
+      labels_back = labelled_from (1 + i) funs;
+      labelled = first_split;
+      label = omega (arith, rest.label_is, first_long);
+    }
+
+    -- and those behind it
+    pub others_rest : (after : ℕ) → after ≡ (label + 1) + length own_places → IsRest (1 + i) funs after
+    others_rest after after_is = record {
+      there = λ k other at. subst (λ m. instance g m ≡ Some other) (let e : suc k + i ≡ k + (1 + i) = omega arith in e) (rest.there (suc k) other at);
+      front = with_first ++ map (Site i) own_places;
+      are = first_split ∙ sym (append_assoc with_first (map (Site i) own_places) (labelled_from (1 + i) funs));
+      label_is =
+          let both : length (with_first ++ map (Site i) own_places) ≡ length with_first + length (map (Site i) own_places) = length-append with_first (map (Site i) own_places) in
+          let long : length (map (Site i) own_places) ≡ length own_places = length-map own_places (Site i) in
+          omega (arith, after_is, rest.label_is, first_long);
+    }
+
 -- ---- lowered there
 
 module _ (g : GroundProgram) (f : Forms) where
@@ -115,7 +171,7 @@ module _ (g : GroundProgram) (f : Forms) where
       (subst (λ us. Stands g i us (own_label (layer e) e.span.start ++ flat_map labelled_in (children_of (layer e))) before) (uses_split f i e before inside t)
       (subst (λ ls. Stands g i (uses_in e) ls before) (labels_split f i e before inside t) s))
 
-  two_stand : {i : ℕ} (e : Expr) (before inside : Pending) (t : Takes (layer e) e.span.start before inside) → Stands g i (uses_in e) (labelled_in e) before
+  pub two_stand : {i : ℕ} (e : Expr) (before inside : Pending) (t : Takes (layer e) e.span.start before inside) → Stands g i (uses_in e) (labelled_in e) before
       → Stands g i (flat_map uses_in (parts_of (layer e)) ++ flat_map uses_in (tails_of (layer e))) (flat_map labelled_in (parts_of (layer e)) ++ flat_map labelled_in (tails_of (layer e))) inside
   two_stand {i = i} e before inside t s =
       subst (λ us. Stands g i us (flat_map labelled_in (parts_of (layer e)) ++ flat_map labelled_in (tails_of (layer e))) inside) (flat_map-append uses_in (parts_of (layer e)) (tails_of (layer e)))

@@ -77,7 +77,7 @@ lambda_reach same = cc
 
 module _ (f : Forms) (g : GroundProgram) (of : AreForms g f) where
   -- the label of what reads or changes tables
-  at_block : {owner within n : ℕ} {e : Expr} {p q : Pending} → IsLowered f owner within e p n q → (form : Form) (b : Block) (label : ℕ) (kept : List Kept) → form_at f n ≡ Some form → form.kind ≡ kind.Reach b label kept → (node_of f label ≡ Some n) × (body_at f label ≡ None)
+  pub at_block : {owner within n : ℕ} {e : Expr} {p q : Pending} → IsLowered f owner within e p n q → (form : Form) (b : Block) (label : ℕ) (kept : List Kept) → form_at f n ≡ Some form → form.kind ≡ kind.Reach b label kept → (node_of f label ≡ Some n) × (body_at f label ≡ None)
   at_block {owner = owner} (low.node other inside between number is at in_it has shell parts tails) form b label kept there kind_is =
       let label_is = block_label f owner _ _ shell (ap (λ (it : Form). it.kind) (same_some (sym is ∙ there)) ∙ kind_is) in
       (ap (option_and_then (λ (l : LabelForm). l.node)) label_is.is ∙ label_is.node_is, ap body_of label_is.is ∙ label_is.body_is)
