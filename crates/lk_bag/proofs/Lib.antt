@@ -5,5 +5,4 @@ pub mod InOrder
 pub mod Levels
 pub mod Readings
 pub mod Records
-pub mod Sorting
 pub mod Within

@@ -28,6 +28,7 @@ use Rattle.lk_bag.specs.Change.{after_delete, after_insert, after_update}
 use Rattle.lk_index.specs.Free.{captured_change, captured_query}
 use Rattle.lk_locals.specs.Names.{Names, bind_each}
 use Rattle.lk_locals.specs.Names as locals
+use Rattle.lk_sort.specs.Sorted as sort
 
 -- the most rows that an insertion may leave in a table
 abbrev pub most_rows : ℕ
@@ -100,10 +101,9 @@ abbrev pub may_stand_before : List SortKey → Row → Row → Bool
 may_stand_before [] r s = true
 may_stand_before (key ∷ keys) r s = goes_before key.desc (compared (at_key key r) (at_key key s)) || (is_eq (compared (at_key key r) (at_key key s)) && may_stand_before keys r s)
 
+-- each row may stand before the next
 abbrev pub AreSorted : List SortKey → List Row → Type 0
-AreSorted keys [] = Unit {0}
-AreSorted keys (r ∷ []) = Unit {0}
-AreSorted keys (r ∷ s ∷ rows) = (may_stand_before keys r s ≡ true) × AreSorted keys (s ∷ rows)
+AreSorted keys = sort.AreSorted (may_stand_before keys)
 
 -- the bag over tables whose rows are listed so, in some order, sorted by the keys
 abbrev pub IsAnsweredOver : Program → Tables → Expr → List Value → List Row → Type 0

@@ -3,7 +3,7 @@ pub mod Blocks
 pub mod Cells
 pub mod Change
 pub mod Columns
+pub mod EitherWay
 pub mod Forms
 pub mod Inside
 pub mod Legal
-pub mod Sorting

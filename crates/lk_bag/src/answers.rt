@@ -7,12 +7,13 @@ ghost use Rattle.lk_bag.specs.Legal.{AreSorted, bag, keys_at};
 ghost use Rattle.std.specs.Prelude.{◌≡◌, IfOk, IfSome, IsPermutation, IsSome, List, map};
 
 use crate::captured::names_in;
+use crate::order::ByKeys;
 use crate::rows::rows_in;
-use crate::sort::sorted;
 use crate::values::items_of;
 use crate::walk::{query_value, rows_under};
 use lk_ast::{Expr, List, NoMemory, Node, Row, SortKey, TableRows, Value, copy_rows};
 use lk_index::Index;
+use lk_sort::sorted;
 use std::alloc::Global;
 
 /// The answer of a reading (a query, or a table) with what it captured: its rows in the order of its keys, and no rows where
@@ -50,7 +51,7 @@ fn sorted_rows(
     ensures rows { IfOk result (λ found. (rows : List Row) → values ≡ map row_value rows → IsSome found) }
 {
     match rows_in(alloc, values)? {
-        Some(rows) => Ok(Some(sorted(alloc, keys, rows)?)),
+        Some(rows) => Ok(Some(sorted(alloc, &ByKeys { keys }, rows)?)),
         None => Ok(None),
     }
 }

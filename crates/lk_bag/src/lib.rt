@@ -7,7 +7,6 @@ mod captured;
 mod change;
 mod order;
 mod rows;
-mod sort;
 mod tables;
 mod values;
 mod walk;
