@@ -19,7 +19,7 @@ use Rattle.lk_query.specs.Given.{Given, Gives, Values, at_labels, cell_or, cell_
 use Rattle.lk_query.specs.declared.part.Labelled.{Labelled}
 use Rattle.lk_norm.specs.Normal.{Names, StandsFor, always_level, as_base, as_row, both as and, columns_of, conjunction, equal_at, equal_from, equal_rows, is_always, negation, output, outputs, scalar_in, scalar_or}
 use Rattle.lk_norm.proofs.Shows.{Follows, ShowAll, at, at-looks, cells, holds, row_of, shows_base, shows_row, val}
-use Rattle.lk_norm.proofs.Unfold.{value-Case, value-Column, value-Lit, value-Op}
+use Rattle.lk_sql.proofs.MeaningForms.{value_case, value_column, value_lit, value_op}
 
 module _ (tables : Tables) (params : List Base) where
   -- ---- conditions
@@ -45,10 +45,10 @@ module _ (tables : Tables) (params : List Base) where
       s e
 
   pub holds-not : (c : Scalar) (s : Scope) → holds tables params (negation c) s ≡ not (holds tables params c s)
-  holds-not c s = ap truth (value-Op tables params op.Not (c ∷ []) s)
+  holds-not c s = ap truth (value_op tables params op.Not (c ∷ []) s)
 
   holds-and : (c d : Scalar) (s : Scope) → holds tables params (and c d) s ≡ holds tables params c s && holds tables params d s
-  holds-and c d s = ap truth (value-Op tables params op.And (c ∷ d ∷ []) s)
+  holds-and c d s = ap truth (value_op tables params op.And (c ∷ d ∷ []) s)
 
   and-true : (b : Bool) → b && true ≡ b
   and-true true = refl
@@ -65,7 +65,7 @@ module _ (tables : Tables) (params : List Base) where
   -- ---- labels
 
   pub scalar_in-is : (outs : List Out) (s : Scope) (label : List ℕ) → val tables params (scalar_in outs label) s ≡ cell_in (cells tables params outs s) label
-  scalar_in-is [] s label = value-Lit tables params zero_base s
+  scalar_in-is [] s label = value_lit tables params zero_base s
   scalar_in-is (out ∷ outs) s label = step (bytes_eq out.label label) (scalar_in-is outs s label)
     where
       step : (b : Bool) → val tables params (scalar_in outs label) s ≡ cell_in (cells tables params outs s) label → val tables params (if b then out.scalar else scalar_in outs label) s ≡ (if b then val tables params out.scalar s else cell_in (cells tables params outs s) label)
@@ -86,19 +86,19 @@ module _ (tables : Tables) (params : List Base) where
   cells-labels f h (label ∷ labels) s e = ap₂ (λ x xs. cell_with label x ∷ xs) (e label) (cells-labels f h labels s e)
 
   pub row-columns : (n : ℕ) (labels : List (List ℕ)) (s : Scope) → row_of tables params (columns_of n labels) s ≡ at_labels labels (s n)
-  row-columns n labels s = ap row_with (cells-labels (λ label. scalar.Column n label) (λ label. cell_in (s n).cells label) labels s (λ label. value-Column tables params n label s))
+  row-columns n labels s = ap row_with (cells-labels (λ label. scalar.Column n label) (λ label. cell_in (s n).cells label) labels s (λ label. value_column tables params n label s))
 
   equal_at-is : (a b : List Out) (s : Scope) (label : List ℕ) → val tables params (equal_at a b label) s ≡ given.equal_at (row_of tables params a s) (row_of tables params b s) label
-  equal_at-is a b s label = value-Op tables params op.Eq (scalar_in a label ∷ scalar_in b label ∷ []) s ∙ ap₂ equality (scalar_in-is a s label) (scalar_in-is b s label)
+  equal_at-is a b s label = value_op tables params op.Eq (scalar_in a label ∷ scalar_in b label ∷ []) s ∙ ap₂ equality (scalar_in-is a s label) (scalar_in-is b s label)
 
   equal_from-is : (x : Scalar) (y : Base) (a b : List Out) (s : Scope) (labels : List (List ℕ)) → val tables params x s ≡ y → val tables params (equal_from x a b labels) s ≡ given.equal_from y (row_of tables params a s) (row_of tables params b s) labels
   equal_from-is x y a b s [] e = e
   equal_from-is x y a b s (label ∷ labels) e =
       equal_from-is (and x (equal_at a b label)) (both y (given.equal_at (row_of tables params a s) (row_of tables params b s) label)) a b s labels
-      (value-Op tables params op.And (x ∷ equal_at a b label ∷ []) s ∙ ap₂ both e (equal_at-is a b s label))
+      (value_op tables params op.And (x ∷ equal_at a b label ∷ []) s ∙ ap₂ both e (equal_at-is a b s label))
 
   pub equal_rows-is : (labels : List (List ℕ)) (a b : List Out) (s : Scope) → val tables params (equal_rows labels a b) s ≡ given.equal_rows labels (row_of tables params a s) (row_of tables params b s)
-  equal_rows-is [] a b s = value-Lit tables params (base.Bool true) s
+  equal_rows-is [] a b s = value_lit tables params (base.Bool true) s
   equal_rows-is (label ∷ labels) a b s = equal_from-is (equal_at a b label) (given.equal_at (row_of tables params a s) (row_of tables params b s) label) a b s labels (equal_at-is a b s label)
 
   -- ---- parts that are bases or records
@@ -107,7 +107,7 @@ module _ (tables : Tables) (params : List Base) where
   F = Follows tables params
 
   pub follows_lit : (b : Base) → F (λ names. as_base (λ n. scalar.Lit b)) (λ values. of_base b)
-  follows_lit b n names values h = shows_base tables params n (λ m. scalar.Lit b) (λ s. b) (λ m l s. value-Lit tables params b s) (λ s t e. refl)
+  follows_lit b n names values h = shows_base tables params n (λ m. scalar.Lit b) (λ s. b) (λ m l s. value_lit tables params b s) (λ s t e. refl)
 
   -- a base that follows from what the parts give
   pub base_by : (f : StandsFor) (g : Values → Base) → ((n : ℕ) (names : Names) (values : ℕ → Scope → Given) → ShowAll tables params n names values → (m : ℕ) → n ≤ m → (s : Scope) → val tables params ((f names).base m) s ≡ g (at tables params s values)) → F (λ names. as_base (f names).base) (λ values. of_base (g values))
@@ -127,7 +127,7 @@ module _ (tables : Tables) (params : List Base) where
       let x = (fc n names values h).base m l s in
       let y = (fa n names values h).base m l s in
       let z = (fb n names values h).base m l s in
-      value-Case tables params ((c names).base m) ((a names).base m) ((b names).base m) s
+      value_case tables params ((c names).base m) ((a names).base m) ((b names).base m) s
       ∙ ap (λ u. if truth u then val tables params ((a names).base m) s else val tables params ((b names).base m) s) x
       ∙ ap₂ (λ u v. if truth (c' (at tables params s values)).base then u else v) y z)
 
@@ -155,7 +155,7 @@ module _ (tables : Tables) (params : List Base) where
       let z = at tables params s values in
       ap row_with (cells-labels (λ label. scalar.Case ((c names).base m) (scalar_in ((a names).row m) label) (scalar_in ((b names).row m) label)) (λ label. cell_in (if truth (c' z).base then (a' z).row else (b' z).row).cells label) labels s
       (λ label.
-      value-Case tables params ((c names).base m) (scalar_in ((a names).row m) label) (scalar_in ((b names).row m) label) s
+      value_case tables params ((c names).base m) (scalar_in ((a names).row m) label) (scalar_in ((b names).row m) label) s
       ∙ ap (λ u. if truth u then val tables params (scalar_in ((a names).row m) label) s else val tables params (scalar_in ((b names).row m) label) s) ((fc n names values h).base m i s)
       ∙ ap₂ (λ u v. if truth (c' z).base then u else v)
       (scalar_in-is ((a names).row m) s label ∙ ap (λ r. cell_in r.cells label) ((fa n names values h).row m i s))
@@ -167,12 +167,12 @@ module _ (tables : Tables) (params : List Base) where
     pub follows_one : (o : SqlOp) (a : ℕ) → F (λ names. as_base (λ n. scalar.Op o ((f a names).base n ∷ []))) (λ values. of_base (operation o ((g a values).base ∷ [])))
     follows_one o a =
         base_by (λ names. as_base (λ n. scalar.Op o ((f a names).base n ∷ []))) (λ values. operation o ((g a values).base ∷ []))
-        (λ n names values i m l s. value-Op tables params o ((f a names).base m ∷ []) s ∙ ap (λ x. operation o (x ∷ [])) ((h a n names values i).base m l s))
+        (λ n names values i m l s. value_op tables params o ((f a names).base m ∷ []) s ∙ ap (λ x. operation o (x ∷ [])) ((h a n names values i).base m l s))
 
     pub follows_two : (o : SqlOp) (a b : ℕ) → F (λ names. as_base (λ n. scalar.Op o ((f a names).base n ∷ (f b names).base n ∷ []))) (λ values. of_base (operation o ((g a values).base ∷ (g b values).base ∷ [])))
     follows_two o a b =
         base_by (λ names. as_base (λ n. scalar.Op o ((f a names).base n ∷ (f b names).base n ∷ []))) (λ values. operation o ((g a values).base ∷ (g b values).base ∷ []))
-        (λ n names values i m l s. value-Op tables params o ((f a names).base m ∷ (f b names).base m ∷ []) s ∙ ap₂ (λ x y. operation o (x ∷ y ∷ [])) ((h a n names values i).base m l s) ((h b n names values i).base m l s))
+        (λ n names values i m l s. value_op tables params o ((f a names).base m ∷ (f b names).base m ∷ []) s ∙ ap₂ (λ x y. operation o (x ∷ y ∷ [])) ((h a n names values i).base m l s) ((h b n names values i).base m l s))
 
     -- the parts of a record
     labelled : (n : ℕ) (names : Names) (values : ℕ → Scope → Given) → ShowAll tables params n names values → (m : ℕ) → n ≤ m → (s : Scope) (items : List Labelled) →

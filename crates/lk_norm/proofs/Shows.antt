@@ -15,7 +15,7 @@ use Rattle.lk_query.specs.Given.{Given, Gives, Values, cell_with, nothing as no_
 use Rattle.lk_query.specs.Order.{bind}
 use Rattle.lk_norm.specs.Normal.{Branch, Names, Stands, StandsFor, as_base, as_list, as_row, nothing}
 use Rattle.lk_norm.proofs.Sums.{total-same, total-zero}
-use Rattle.lk_norm.proofs.Unfold.{value-Lit}
+use Rattle.lk_sql.proofs.MeaningForms.{value_lit}
 
 abbrev pub Each : {X : Type 0} → (X → Type 0) → List X → Type 0
 Each P [] = Unit {0}
@@ -169,7 +169,7 @@ module _ (tables : Tables) (params : List Base) where
 
   pub shows_row : (n : ℕ) (f : ℕ → List Out) (v : Scope → Row) → ((m : ℕ) → n ≤ m → (s : Scope) → row_of (f m) s ≡ v s) → Steady n v → Shows n (as_row f) (λ s. of_row (v s))
   shows_row n f v h i = record {
-    base = λ m l s. value-Lit tables params zero_base s;
+    base = λ m l s. value_lit tables params zero_base s;
     row = h;
     list = λ m g c fit w l s. sym (wanted-none w g c s);
     sound = λ m g c fit. tt;
@@ -183,7 +183,7 @@ module _ (tables : Tables) (params : List Base) where
       Steady n v →
       Shows n (as_list f) (λ s. of_list (v s))
   shows_list n f v h j i = record {
-    base = λ m l s. value-Lit tables params zero_base s;
+    base = λ m l s. value_lit tables params zero_base s;
     row = λ m l s. refl;
     list = h;
     sound = j;
@@ -192,7 +192,7 @@ module _ (tables : Tables) (params : List Base) where
 
   pub shows_nothing : (n : ℕ) → Shows n nothing (λ s. no_given)
   shows_nothing n = record {
-    base = λ m l s. value-Lit tables params zero_base s;
+    base = λ m l s. value_lit tables params zero_base s;
     row = λ m l s. refl;
     list = λ m g c fit w l s. sym (wanted-none w g c s);
     sound = λ m g c fit. tt;

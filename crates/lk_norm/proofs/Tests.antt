@@ -18,7 +18,8 @@ use Rattle.lk_norm.proofs.Bases.{base_by, row-columns}
 use Rattle.lk_norm.proofs.Lists.{count-more, list_by, total-more, with_row-below, with_row-same}
 use Rattle.lk_norm.proofs.Shows.{Agree, Fit, Follows, Steady-more, at, holds, row_of, total-when, weight, weights, when}
 use Rattle.lk_norm.proofs.Sums.{total-filter, total-map, total-same}
-use Rattle.lk_norm.proofs.Unfold.{rows-is, value-Exists, value-Lit, value-Op}
+use Rattle.lk_sql.proofs.MeaningForms.{value_exists, value_lit, value_op}
+use Rattle.lk_norm.proofs.Unfold.{rows-is}
 
 abbrev pub one : {X : Type 0} → X → ℕ
 one x = 1
@@ -62,7 +63,7 @@ module _ (tables : Tables) (params : List Base) where
   any-selects : (columns : List Column) (branches : List Branch) (s : Scope) → has_row (map (λ q. rows tables params q s) (selects columns branches)) ≡ is_some (weights tables params all s branches)
   any-selects columns [] s =
       ap (λ r. has_row (r ∷ [])) (rows-is tables params (branch [] never (map no_output columns)) s)
-      ∙ no-size (λ t. row_with (map (λ f. f t) (map (cell tables params) (map no_output columns)))) (truth (value tables params never s)) s (ap truth (value-Lit tables params (base.Bool false) s))
+      ∙ no-size (λ t. row_with (map (λ f. f t) (map (cell tables params) (map no_output columns)))) (truth (value tables params never s)) s (ap truth (value_lit tables params (base.Bool false) s))
   any-selects columns (b ∷ branches) s = any-counts (map (λ q. rows tables params q s) (map select (b ∷ branches))) ∙ ap is_some (sizes (b ∷ branches) s)
 
   pub follows_empty : (columns : List Column) (q : StandsFor) (q' : Gives) → Follows tables params q q' → Follows tables params (λ names. as_base (λ n. negation (scalar.Exists (selects columns ((q names).list n [] always))))) (λ values. of_base (base.Bool (is_empty (q' values).list)))
@@ -71,20 +72,20 @@ module _ (tables : Tables) (params : List Base) where
       (λ n names values h m l s.
       let branches = (q names).list m [] always in
       let given = (q' (at tables params s values)).list in
-      let true-here : holds tables params always s ≡ true = ap truth (value-Lit tables params (base.Bool true) s) in
+      let true-here : holds tables params always s ≡ true = ap truth (value_lit tables params (base.Bool true) s) in
       let counted : weights tables params all s branches ≡ size given =
       (fq n names values h).list m [] always (fit n m l) all (λ s t a. refl) s
       ∙ ap (λ b. when b (size given) + 0) true-here
       ∙ (omega arith) in
-      value-Op tables params op.Not (scalar.Exists (selects columns branches) ∷ []) s
-      ∙ ap operations.negation (value-Exists tables params (selects columns branches) s)
+      value_op tables params op.Not (scalar.Exists (selects columns branches) ∷ []) s
+      ∙ ap operations.negation (value_exists tables params (selects columns branches) s)
       ∙ ap (λ b. base.Bool (not b)) (any-selects columns branches s ∙ ap is_some counted)
       ∙ ap base.Bool (none-counts given))
     where
       fit : (n m : ℕ) → n ≤ m → Fit tables params n m [] always
       fit n m l = record {
         above = omega (arith, l);
-        looks = λ s t a. ap truth (value-Lit tables params (base.Bool true) s ∙ sym (value-Lit tables params (base.Bool true) t));
+        looks = λ s t a. ap truth (value_lit tables params (base.Bool true) s ∙ sym (value_lit tables params (base.Bool true) t));
       }
 
   pub follows_read : (t : List ℕ) (labels : List (List ℕ)) → Follows tables params (λ names. as_list (λ m g d. branch (g ++ generator (next m g) t ∷ []) d (columns_of (next m g) labels) ∷ [])) (λ values. of_list (map (at_labels labels) (tables t)))

@@ -16,12 +16,13 @@ use Rattle.lk_norm.specs.Normal.{Branch, Names, always, branch, never, no_output
 use Rattle.lk_norm.proofs.Follows.{follows}
 use Rattle.lk_norm.proofs.Shows.{Fit, ShowAll, cells, holds, weight, weights, when}
 use Rattle.lk_norm.proofs.Sums.{total-append, total-filter, total-map, total-same}
-use Rattle.lk_norm.proofs.Unfold.{cell-is, rows-is, value-Lit}
+use Rattle.lk_sql.proofs.MeaningForms.{cell_is, value_lit}
+use Rattle.lk_norm.proofs.Unfold.{rows-is}
 
 module _ (tables : Tables) (params : List Base) where
   cells-are : (outs : List Out) (s : Scope) → map (λ f. f s) (map (cell tables params) outs) ≡ cells tables params outs s
   cells-are [] s = refl
-  cells-are (out ∷ outs) s = ap₂ (λ x xs. x ∷ xs) (cell-is tables params out s) (cells-are outs s)
+  cells-are (out ∷ outs) s = ap₂ (λ x xs. x ∷ xs) (cell_is tables params out s) (cells-are outs s)
 
   weight-is : (w : Row → ℕ) (b : Branch) (s : Scope) → total w (rows tables params (select b) s) ≡ weight tables params (λ t. w) s b
   weight-is w b s =
@@ -40,7 +41,7 @@ module _ (tables : Tables) (params : List Base) where
   selects-are : (columns : List Column) (w : Row → ℕ) (branches : List Branch) (s : Scope) → total w (all_rows tables params (selects columns branches) s) ≡ weights tables params (λ t. w) s branches
   selects-are columns w [] s =
       ap (λ r. total w (r ++ [])) (rows-is tables params (branch [] never (map no_output columns)) s)
-      ∙ none-given w (λ t. row_with (map (λ f. f t) (map (cell tables params) (map no_output columns)))) (truth (value tables params never s)) s (ap truth (value-Lit tables params (base.Bool false) s))
+      ∙ none-given w (λ t. row_with (map (λ f. f t) (map (cell tables params) (map no_output columns)))) (truth (value tables params never s)) s (ap truth (value_lit tables params (base.Bool false) s))
   selects-are columns w (b ∷ branches) s = weights-are w (b ∷ branches) s
 
   -- the selects of the normal form give what the query gives, where names stand for what gives their values
@@ -51,11 +52,11 @@ module _ (tables : Tables) (params : List Base) where
       let given = (gives tables parts root values).list in
       selects-are columns w branches s
       ∙ (follows tables params parts root 0 names (λ k s. values k) h).list 0 [] always fit (λ t. w) (λ s t a. refl) s
-      ∙ ap (λ b. when b (total w given) + 0) (ap truth (value-Lit tables params (base.Bool true) s))
+      ∙ ap (λ b. when b (total w given) + 0) (ap truth (value_lit tables params (base.Bool true) s))
       ∙ omega arith
     where
       fit : Fit tables params 0 0 [] always
       fit = record {
         above = omega arith;
-        looks = λ s t a. ap truth (value-Lit tables params (base.Bool true) s ∙ sym (value-Lit tables params (base.Bool true) t));
+        looks = λ s t a. ap truth (value_lit tables params (base.Bool true) s ∙ sym (value_lit tables params (base.Bool true) t));
       }

@@ -1,2 +1,3 @@
 pub mod Labels
+pub mod MeaningForms
 pub mod TextForms
