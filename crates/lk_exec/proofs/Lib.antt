@@ -1,0 +1,6 @@
+pub mod Agreeing
+pub mod Chosen
+pub mod Fitting
+pub mod Operands
+pub mod Scanned
+pub mod Scopes
