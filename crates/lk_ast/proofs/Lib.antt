@@ -1,4 +1,5 @@
 pub mod Chains
+pub mod FittingRows
 mod NoFloat
 pub mod PlainLevels
 pub mod PlainRows

@@ -41,7 +41,7 @@ pub use event::{Event, ReadEvent, Trap, WriteEvent};
 pub use expression::{Case, ChangeExpr, Expr, LambdaExpr, LastCase, Node, PartExpr, SortKey};
 pub use functions::{find_function, functions_in, functions_of, is_main, main_of};
 pub use json::{holds_function, value_text};
-pub use limits::{MESSAGE_DEPTH, MESSAGE_LIMIT};
+pub use limits::{MESSAGE_DEPTH, MESSAGE_LIMIT, MOST_ROWS};
 pub use list::List;
 pub use memory::NoMemory;
 pub use operators::{with_operand, with_operands};

@@ -1,4 +1,7 @@
-//! How large messages between client and server may be.
+//! How large tables, and messages between client and server, may be.
+
+/// The most rows that a table may have in a tables file, or behind an insertion.
+pub const MOST_ROWS: u64 = 65_536;
 
 /// The most bytes of a message's body.
 pub const MESSAGE_LIMIT: u64 = 1_048_576;

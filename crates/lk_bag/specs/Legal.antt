@@ -7,6 +7,7 @@ use Rattle.std.specs.declared.cmp.Ordering.{Ordering}
 use Rattle.std.specs.declared.cmp.Ordering.TheVariants.{Equal}
 use Rattle.lk_ast.specs.BaseOrder.{base_cmp}
 use Rattle.lk_ast.specs.Layers.{Layer, layer}
+use Rattle.lk_ast.specs.Limits.{most_rows}
 use Rattle.lk_ast.specs.Rows.{row_value, rows_value}
 use Rattle.lk_ast.specs.Tables.{Tables}
 use Rattle.lk_ast.specs.declared.declaration.Program.{Program}
@@ -29,10 +30,6 @@ use Rattle.lk_index.specs.Free.{captured_change, captured_query}
 use Rattle.lk_locals.specs.Names.{Names, bind_each}
 use Rattle.lk_locals.specs.Names as locals
 use Rattle.lk_sort.specs.Sorted as sort
-
--- the most rows that an insertion may leave in a table
-abbrev pub most_rows : ℕ
-most_rows = 65536
 
 -- the same tables, as bags of rows
 abbrev pub AreSame : Tables → Tables → Type 0

@@ -1,5 +1,5 @@
 -- What writings make of a table.
-use Rattle.std.specs.Prelude.{◌≡◌, ℕ, ◌+◌, ◌<◌, ◌≤◌, Bool, not, List, [], Option, length, IfSome, map}
+use Rattle.std.specs.Prelude.{Bool, not, List, [], map}
 use Rattle.std.specs.List.{filter}
 use Rattle.lk_ast.specs.Tables.{Tables}
 use Rattle.lk_ast.specs.declared.table.Base.{Base}
@@ -8,19 +8,6 @@ use Rattle.lk_ast.specs.declared.table.Row.{Row}
 use Rattle.lk_sql.specs.Change.{changed, is_changed, set_to}
 use Rattle.lk_sql.specs.declared.tree.Out.{Out}
 use Rattle.lk_sql.specs.declared.tree.Scalar.{Scalar}
-
--- the most rows that an insertion may leave in a table
-abbrev pub most_rows : ℕ
-most_rows = 65_536
-
--- where tables are told, the table of that name has at most so many rows with these
-abbrev pub HasRoom : Option Tables → List ℕ → List Row → Type 0
-HasRoom told name rows = IfSome told (λ tables. length (tables name) + length rows ≤ most_rows)
-
--- it would have that many with these, too many
-pub record IsOverfull (told : Option Tables) (name : List ℕ) (rows : List Row) (n : ℕ) : Type 0 where
-  pub many : most_rows < n
-  pub size : IfSome told (λ tables. length (tables name) + length rows ≡ n)
 
 -- a change sees no table
 abbrev pub no_tables : Tables

@@ -4,21 +4,19 @@ ghost use Rattle.lk_ast.specs.Tables.{all_fit, row_fits};
 ghost use Rattle.lk_ast.specs.declared.table.Row.{Row as TheRow};
 ghost use Rattle.lk_exec.specs.Causes.{FaultHasCause, HasCause, IfFull};
 ghost use Rattle.lk_exec.specs.Listings.{IsListed};
-ghost use Rattle.lk_exec.specs.Writings.{HasRoom, IsOverfull, kept_rows as rows_kept, updated, updated_rows as rows_updated};
+ghost use Rattle.lk_exec.specs.Writings.{kept_rows as rows_kept, updated, updated_rows as rows_updated};
 ghost use Rattle.lk_outside.specs.Causes.{HasCause as OutHasCause};
 ghost use Rattle.lk_outside.specs.Store.{Changes, HasForeignRow};
+ghost use Rattle.lk_outside.specs.TableSizes.{HasRoom, IsOverfull};
 ghost use Rattle.std.specs.Prelude.{◌≡◌, ◌++◌, true, List, OnOk};
 
 use crate::changes::{kept_rows, updated_rows};
 use crate::error::{ExecError, raised, raised_in};
 use crate::scans::scan_rows;
-use lk_ast::{Base, List, Row, TableDef};
+use lk_ast::{Base, List, MOST_ROWS, Row, TableDef};
 use lk_outside::{OutFault, Store};
 use lk_sql::{Out, Scalar};
 use std::alloc::Global;
-
-/// The most rows that an insertion may leave in a table.
-const MOST_ROWS: u64 = 65_536;
 
 // ---- insertions
 

@@ -2,7 +2,7 @@
 
 use crate::excerpts::shown_part;
 use crate::messages::message;
-use lk_ast::{BaseKind, Column, List, NoMemory, Span, TableDef, Text};
+use lk_ast::{BaseKind, Column, List, MOST_ROWS, NoMemory, Span, TableDef, Text};
 use lk_bag::table_defs;
 use lk_cli::{Source, Sources, TablesFault};
 use lk_parse::parse;
@@ -116,7 +116,7 @@ fn wrong_rows(alloc: Global, def: &TableDef, rows: &Json) -> Result<Option<Strin
         number = number.wrapping_add(1);
     }
     let count = rows.len();
-    if count > 65_536 {
+    if count as u64 > MOST_ROWS {
         return Ok(Some(format!(in alloc; "table `{table}` has {count} rows; 65,536 is the most")?));
     }
     Ok(None)

@@ -1,1 +1,2 @@
 pub mod FileContents
+pub mod TableSizes

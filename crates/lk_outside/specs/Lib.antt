@@ -6,3 +6,4 @@ pub mod MemFiles
 pub mod MemSink
 pub mod Sink
 pub mod Store
+pub mod TableSizes

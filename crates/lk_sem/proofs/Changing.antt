@@ -6,7 +6,9 @@ use Rattle.std.proofs.lemmas.Bool.{and_parts, both_ways}
 use Rattle.std.proofs.lemmas.List.Sorted.{IsPermutation-refl, IsPermutation-map, length_permutation}
 use Rattle.std.proofs.lemmas.Option.{none-some}
 use Rattle.std.proofs.lemmas.Slice.Eq.{bytes_eq-Decides}
+use Rattle.lk_ast.proofs.FittingRows.{fits_filter, fits_map}
 use Rattle.lk_ast.specs.Layers.{layer}
+use Rattle.lk_ast.specs.Limits.{most_rows}
 use Rattle.lk_ast.specs.Rows.{rows_value}
 use Rattle.lk_ast.specs.Tables.{Tables, all_fit, row_fits, table_defs}
 use Rattle.lk_ast.specs.declared.declaration.Program.{Program}
@@ -19,9 +21,10 @@ use Rattle.lk_ast.specs.declared.table.TableDef.{TableDef}
 use Rattle.lk_ast.specs.declared.value.Value.{Value}
 use Rattle.lk_bag.specs.Blocks.{block_at}
 use Rattle.lk_bag.specs.Change.{with_rows, updated, is_met, after_insert, after_update, after_delete}
-use Rattle.lk_bag.specs.Legal.{AreAllCaptured, AreSame, IsLegal, insert, update, delete, most_rows, names_in}
+use Rattle.lk_bag.specs.Legal.{AreAllCaptured, AreSame, IsLegal, insert, update, delete, names_in}
 use Rattle.lk_names.specs.Programs.{IsBound}
 use Rattle.lk_outside.specs.Store.{Changes, Puts}
+use Rattle.lk_outside.specs.TableSizes.{HasSize}
 use Rattle.lk_types.proofs.Members.{each_in, each_of_in, found_in}
 use Rattle.lk_sound.specs.Histories.{AreFit, Follows, write_event}
 use Rattle.lk_sound.specs.Tables.{AreTables, IsWriting, table_at}
@@ -30,7 +33,7 @@ use Rattle.lk_types.proofs.Parts.{same_some}
 use Rattle.lk_types.specs.Each.{Each, OneOf}
 use Rattle.lk_sem.specs.Scans.{FitsDef, IsScanned}
 use Rattle.lk_sem.specs.SourceRuns.{IsOverfull}
-use Rattle.lk_sem.specs.Writings.{HasAdded, HasChanged, HasRoom, HasSize, HasWritten, IsChanged, IsDeletion, IsInsertion, IsUpdate}
+use Rattle.lk_sem.specs.Writings.{HasAdded, HasChanged, HasWritten, IsChanged, IsDeletion, IsInsertion, IsUpdate}
 use Rattle.lk_sem.specs.declared.writes.Written.{Written}
 use Rattle.lk_sem.specs.declared.writes.Written.TheVariants as written
 use Rattle.lk_sound.proofs.Legality.{legal_same, same_itself}
@@ -40,22 +43,6 @@ use Rattle.lk_sound.proofs.Shuffles.{IsPermutation-filter}
 use Rattle.lk_sound.proofs.TableNames.{only_one, tables_apart}
 
 -- ---- rows that fit
-
-pub fits_map : (def : TableDef) (f : Row → Row) → ((row : Row) → row_fits def row ≡ true → row_fits def (f row) ≡ true) → (rows : List Row) → all_fit def rows ≡ true → all_fit def (map f rows) ≡ true
-fits_map def f keeps [] fit = refl
-fits_map def f keeps (row ∷ rows) fit =
-    let both = and_parts (row_fits def row) (all_fit def rows) fit in
-    ap₂ (λ a b. a && b) (keeps row both.0) (fits_map def f keeps rows both.1)
-
-pub fits_filter : (def : TableDef) (test : Row → Bool) (rows : List Row) → all_fit def rows ≡ true → all_fit def (filter test rows) ≡ true
-fits_filter def test [] fit = refl
-fits_filter def test (row ∷ rows) fit =
-    let both = and_parts (row_fits def row) (all_fit def rows) fit in
-    go (test row) both.0 (fits_filter def test rows both.1)
-  where
-    go : (b : Bool) → row_fits def row ≡ true → all_fit def (filter test rows) ≡ true → all_fit def (cond b (row ∷ filter test rows) (filter test rows)) ≡ true
-    go true one more = ap₂ (λ a b. a && b) one more
-    go false one more = more
 
 fits_both : (def : TableDef) (rows others : List Row) → all_fit def rows ≡ true → all_fit def others ≡ true → all_fit def (rows ++ others) ≡ true
 fits_both def [] others a b = b
@@ -212,15 +199,6 @@ module _ (p : Program) (bound : IsBound p) (site : ℕ) (args : List Value) (tab
       leaves : (told : Option Tables) → HasSize told def.name rows size → IfSome told (λ tables. length (after_insert table.text rows tables table.text) ≡ size)
       leaves None is = tt
       leaves (Some tables) is = long tables ∙ is
-
--- the sizes by the rows scanned
-pub size_of : (told : Option Tables) (name : List ℕ) (there rows : List Row) (n : ℕ) → IfSome told (λ t. IsPermutation (t name) there) → n ≡ length there + length rows → HasSize told name rows n
-size_of None name there rows n same is = tt
-size_of (Some tables) name there rows n same is = ap (λ l. l + length rows) (sym (length_permutation (tables name) there same)) ∙ sym is
-
-pub room_of : (told : Option Tables) (name : List ℕ) (there rows : List Row) (n : ℕ) → IfSome told (λ t. IsPermutation (t name) there) → n ≡ length there + length rows → n ≤ most_rows → HasRoom told name rows
-room_of None name there rows n same is few = tt
-room_of (Some tables) name there rows n same is few = let size : length (tables name) + length rows ≡ n = size_of (Some tables) name there rows n same is in subst (λ k. k ≤ most_rows) (sym size) few
 
 -- ---- the kind of a writing
 

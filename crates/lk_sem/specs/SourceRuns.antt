@@ -3,6 +3,7 @@ use Rattle.std.specs.Prelude.{◌≡◌, ℕ, ◌+◌, ◌<◌, ◌≤◌, false
 use Rattle.lk_ast.specs.Functions.{main_of}
 use Rattle.lk_ast.specs.Layers.{layer}
 use Rattle.lk_ast.specs.Plain.{holds_function}
+use Rattle.lk_ast.specs.Limits.{most_rows}
 use Rattle.lk_ast.specs.Rows.{rows_value}
 use Rattle.lk_ast.specs.Tables.{Tables}
 use Rattle.lk_ast.specs.declared.declaration.Program.{Program}
@@ -15,7 +16,6 @@ use Rattle.lk_ast.specs.declared.table.Row.{Row}
 use Rattle.lk_ast.specs.declared.value.Value.{Value}
 use Rattle.lk_bag.specs.Blocks.{block_at}
 use Rattle.lk_bag.specs.Change.{after_insert}
-use Rattle.lk_bag.specs.Legal.{most_rows}
 use Rattle.lk_evaluation.specs.Evaluation.{Primitive, Printing, Reading, Writing}
 use Rattle.lk_evaluation.specs.Laws.{HasBegun}
 use Rattle.lk_evaluation.specs.Run.{Run, Out, Goes, Stops, Trapped, Spent, Waiting, events_of, answers_in, start}

@@ -1,6 +1,7 @@
 -- What becomes of a writing.
 use Rattle.std.specs.Prelude.{◌≡◌, ℕ, ◌+◌, ◌<◌, ◌≤◌, true, List, [], ◌∷◌, ◌++◌, Option, Some, None, length, IfSome, IsSomeAnd}
 use Rattle.lk_ast.specs.Layers.{layer}
+use Rattle.lk_ast.specs.Limits.{most_rows}
 use Rattle.lk_ast.specs.Rows.{rows_value}
 use Rattle.lk_ast.specs.Tables.{Tables, all_fit, row_fits}
 use Rattle.lk_ast.specs.declared.declaration.Program.{Program}
@@ -13,9 +14,10 @@ use Rattle.lk_ast.specs.declared.table.TableDef.{TableDef}
 use Rattle.lk_ast.specs.declared.value.Value.{Value}
 use Rattle.lk_bag.specs.Blocks.{block_at}
 use Rattle.lk_bag.specs.Change.{updated}
-use Rattle.lk_bag.specs.Legal.{AreAllCaptured, most_rows, names_in}
+use Rattle.lk_bag.specs.Legal.{AreAllCaptured, names_in}
 use Rattle.lk_outside.specs.Causes.{next_count}
 use Rattle.lk_outside.specs.Store.{Changes}
+use Rattle.lk_outside.specs.TableSizes.{HasRoom, HasSize}
 use Rattle.lk_sound.specs.Histories.{Follows, write_event}
 use Rattle.lk_sound.specs.Tables.{AreTables, table_at}
 use Rattle.lk_sem.specs.SourceRuns.{IsOverfull}
@@ -54,14 +56,6 @@ pub record IsDeletion (p : Program) (site : ℕ) (args : List Value) (block : Ex
   pub declared : table_at p (out-ChangeExpr change).table.text ≡ Some def
 
 -- ---- what the tables are then
-
--- where tables are told, the table of that name has at most so many rows with these
-abbrev pub HasRoom : Option Tables → List ℕ → List Row → Type 0
-HasRoom told name rows = IfSome told (λ tables. length (tables name) + length rows ≤ most_rows)
-
--- where tables are told, it would have so many
-abbrev pub HasSize : Option Tables → List ℕ → List Row → ℕ → Type 0
-HasSize told name rows size = IfSome told (λ tables. length (tables name) + length rows ≡ size)
 
 -- the rows stand behind those of the table of that name, or it would be too full and all is as it was
 abbrev pub HasAdded : Option Tables → Option Tables → List ℕ → List Row → Written → Type 0

@@ -13,13 +13,10 @@ ghost use Rattle.lk_sound.specs.Tables.{IsWriting};
 use crate::catalog::Catalog;
 use crate::reads::scan_one;
 use crate::rows::rows_in;
-use lk_ast::{ChangeExpr, Expr, List, Node, Row, TableDef, Value, Word};
+use lk_ast::{ChangeExpr, Expr, List, MOST_ROWS, Node, Row, TableDef, Value, Word};
 use lk_bag::{kept_rows, updated_rows};
 use lk_outside::{OutFault, Store};
 use std::alloc::Global;
-
-/// The most rows that an insertion may leave in a table.
-const MOST_ROWS: u64 = 65_536;
 
 /// What becomes of a writing: it is done, or it is an insertion that would have left that many rows in its table, too many.
 #[derive(Drop)]

@@ -3,6 +3,7 @@ use Rattle.std.proofs.Common.{◌≡◌, ℕ, ◌+◌, ◌≤◌, Bool, true, fa
 use Rattle.std.specs.Prelude.{bytes_eq}
 use Rattle.std.proofs.lemmas.List.Sorted.{IsPermutation-refl, IsPermutation-trans, IsPermutation-map, IsPermutation-append_left, length_permutation}
 use Rattle.std.proofs.lemmas.Slice.Eq.{bytes_eq-Decides}
+use Rattle.lk_ast.specs.Limits.{most_rows}
 use Rattle.lk_ast.specs.Tables.{Tables}
 use Rattle.lk_ast.specs.declared.declaration.Program.{Program}
 use Rattle.lk_ast.specs.declared.event.Event.{Event}
@@ -10,7 +11,7 @@ use Rattle.lk_ast.specs.declared.event.Event.TheVariants as event
 use Rattle.lk_ast.specs.declared.expression.ChangeExpr.{ChangeExpr, out-ChangeExpr}
 use Rattle.lk_ast.specs.declared.table.Row.{Row}
 use Rattle.lk_bag.specs.Change.{with_rows, updated, is_met, after_insert, after_update, after_delete}
-use Rattle.lk_bag.specs.Legal.{AreSame, IsAnswer, IsLegal, done, print, enter, leave, read, insert, update, delete, most_rows, names_in}
+use Rattle.lk_bag.specs.Legal.{AreSame, IsAnswer, IsLegal, done, print, enter, leave, read, insert, update, delete, names_in}
 use Rattle.lk_types.specs.Each.{Each}
 use Rattle.lk_sound.proofs.Shuffles.{IsPermutation-filter}
 use Rattle.lk_sound.specs.Histories.{Follows, GoesQuietly, HasFollowed, HasHistory, HasPast, IsQuiet, Precedes}

@@ -10,6 +10,7 @@ use Rattle.std.proofs.lemmas.Map.Text.{is_eq-slice_cmp}
 use Rattle.std.proofs.lemmas.Slice.Eq.{bytes_eq-Decides}
 use Rattle.serde_json.specs.Data.{Data, null, boolean, number, string, array, object, Members, no_members, member}
 use Rattle.serde_json.specs.Find.{get, get_member}
+use Rattle.lk_ast.specs.Limits.{most_rows}
 use Rattle.lk_ast.specs.Tables.{all_fit}
 use Rattle.lk_ast.specs.declared.table.Row.{Row}
 use Rattle.lk_ast.specs.declared.table.TableDef.{TableDef}
@@ -17,7 +18,7 @@ use Rattle.lk_ast.specs.declared.table.TableRows.{TableRows}
 use Rattle.lk_tables.specs.declared.error.TablesError.{TablesError}
 use Rattle.lk_tables.specs.declared.error.TablesError.TheVariants.{UnknownTable, TooManyRows}
 use Rattle.lk_tables.specs.Choices.{first_some, all_some}
-use Rattle.lk_tables.specs.Reading.{max_rows, entries, rows_of, rows_refusal, table_refusal, member_refusal, object_refusal, table_of, AreRowsOf}
+use Rattle.lk_tables.specs.Reading.{entries, rows_of, rows_refusal, table_refusal, member_refusal, object_refusal, table_of, AreRowsOf}
 use Rattle.lk_tables.proofs.Fits.{rows_fit}
 
 none_is_some : {X : Type 0} {x : X} → None ≡ Some x → ⊥
@@ -58,7 +59,7 @@ if_known false o e = absurd (none_is_some (sym e))
 
 -- rows, as many as a table may have
 abbrev AreFew : Option (List Row) → Type 0
-AreFew o = IsSomeAnd o (λ rows. length rows ≤ max_rows)
+AreFew o = IsSomeAnd o (λ rows. length rows ≤ most_rows)
 
 few_at : (b : Bool) → (if b then Some TooManyRows else None) ≡ None → b ≡ false
 few_at true e = absurd (none_is_some (sym e))
@@ -66,7 +67,7 @@ few_at false e = refl
 
 few : (o : Option (List Row)) → rows_refusal o ≡ None → AreFew o
 few None e = absurd (none_is_some (sym e))
-few (Some rows) e = let low : nat_lt max_rows (length rows) ≡ false = few_at _ e in grind (arith, nat_tests)
+few (Some rows) e = let low : nat_lt most_rows (length rows) ≡ false = few_at _ e in grind (arith, nat_tests)
 
 if_named : (b : Bool) (o : Option TablesError) → b ≡ true → (if b then o else None) ≡ None → o ≡ None
 if_named true o is e = e

@@ -16,6 +16,7 @@ use Rattle.std.specs.Ordering.{nat_cmp, match_ordering}
 use Rattle.std.proofs.lemmas.Map.Text.{is_eq-slice_cmp}
 use Rattle.std.specs.Cmp.Lexicographic.{slice_cmp}
 use Rattle.lk_ast.specs.JsonText.{Entry}
+use Rattle.lk_ast.specs.Limits.{most_rows}
 use Rattle.lk_ast.specs.Tables.{cells_fit}
 use Rattle.lk_ast.specs.declared.table.Row.{Row}
 use Rattle.lk_ast.specs.declared.table.TableDef.{TableDef}
@@ -26,7 +27,7 @@ use Rattle.lk_tables.specs.Choices.{first_some, all_some}
 use Rattle.lk_tables.specs.Law.{are_distinct, has_distinct_labels, IsSameBag, ReadsBack}
 use Rattle.lk_tables.specs.Words.{cells_fit_words, table_fits_words}
 use Rattle.lk_tables.specs.Printing.{IsPrinted, IsTableEntry}
-use Rattle.lk_tables.specs.Reading.{max_bytes, max_rows, entries, rows_of, rows_refusal, is_named, table_refusal, member_refusal, object_refusal, object_in, rows_for, table_of, AreRowsOf}
+use Rattle.lk_tables.specs.Reading.{max_bytes, entries, rows_of, rows_refusal, is_named, table_refusal, member_refusal, object_refusal, object_in, rows_for, table_of, AreRowsOf}
 use Rattle.lk_tables.proofs.Back.{IsGood, AreBack, sorted_back, some_more}
 use Rattle.lk_tables.proofs.Puts.{put_all, key_of, is_among, right_true, both_left, both_right, not_true, left_false, right_false, get_put_first}
 
@@ -119,12 +120,12 @@ few_enough : (b : Bool) → b ≡ false → (if b then Some TooManyRows else Non
 few_enough true e = absurd (true≢false e)
 few_enough false e = refl
 
-high_enough : (n : ℕ) → n ≤ max_rows → nat_lt max_rows n ≡ false
+high_enough : (n : ℕ) → n ≤ most_rows → nat_lt most_rows n ≡ false
 high_enough n low = grind (arith, nat_tests)
 
-not_refused : (table : TableDef) (printed : TableRows) (d : Data) → length printed.rows ≤ max_rows → AreBack table.columns printed.rows d → rows_refusal (rows_of table.columns d) ≡ None
+not_refused : (table : TableDef) (printed : TableRows) (d : Data) → length printed.rows ≤ most_rows → AreBack table.columns printed.rows d → rows_refusal (rows_of table.columns d) ≡ None
 not_refused table printed d low back =
-    ap rows_refusal back.is ∙ few_enough _ (high_enough _ (subst (λ (n : ℕ). n ≤ max_rows) (sym (length_permutation printed.rows back.read back.same)) low))
+    ap rows_refusal back.is ∙ few_enough _ (high_enough _ (subst (λ (n : ℕ). n ≤ most_rows) (sym (length_permutation printed.rows back.read back.same)) low))
 
 here_refusal : (b : Bool) (o rest : Option TablesError) → o ≡ None → rest ≡ None → option_or (if b then o else None) rest ≡ None
 here_refusal true o rest p q = ap (λ o. option_or o rest) p ∙ q

@@ -9,11 +9,12 @@ use Rattle.serde_json.specs.Data.{Data}
 use Rattle.serde_json.specs.Find.{as_array}
 use Rattle.serde_json.specs.View.{view, items_view}
 use Rattle.serde_json.specs.declared.value.Value.{Value}
+use Rattle.lk_ast.specs.Limits.{most_rows}
 use Rattle.lk_ast.specs.declared.table.Column.{Column}
 use Rattle.lk_ast.specs.declared.table.Row.{Row}
 use Rattle.lk_tables.specs.declared.error.TablesError.TheVariants.{BadRows, TooManyRows}
 use Rattle.lk_tables.specs.Choices.{all_some}
-use Rattle.lk_tables.specs.Reading.{max_rows, row_of, rows_of, rows_refusal}
+use Rattle.lk_tables.specs.Reading.{row_of, rows_of, rows_refusal}
 use Rattle.lk_tables.proofs.Lists.{some_of_all, as_many}
 use Rattle.lk_tables.proofs.Members.{rows_of_array}
 
@@ -30,9 +31,9 @@ if_many : (b : Bool) → then_some b TooManyRows ≡ (if b then Some TooManyRows
 if_many true = refl
 if_many false = refl
 
-refused_many : (n : ℕ) (o : Option (List Row)) → is_some o ≡ true → IfSome o (λ rows. length rows ≡ n) → then_some (nat_lt max_rows n) TooManyRows ≡ rows_refusal o
+refused_many : (n : ℕ) (o : Option (List Row)) → is_some o ≡ true → IfSome o (λ rows. length rows ≡ n) → then_some (nat_lt most_rows n) TooManyRows ≡ rows_refusal o
 refused_many n None e so = absurd (true≢false (sym e))
-refused_many n (Some rows) e so = if_many _ ∙ ap (λ (m : ℕ). if nat_lt max_rows m then Some TooManyRows else None) (sym so)
+refused_many n (Some rows) e so = if_many _ ∙ ap (λ (m : ℕ). if nat_lt most_rows m then Some TooManyRows else None) (sym so)
 
 abbrev all_rows : List Column → List Value → Bool
 all_rows columns vs = list_all (λ v. is_some (row_of columns (view v))) vs
@@ -41,7 +42,7 @@ pub bad_rows : (columns : List Column) (vs seen : List Value) (d : Data) → Som
 bad_rows columns vs seen d is same test = refused_none _ (has_rows columns vs d false is (test ∙ ap (all_rows columns) same))
 
 pub many_rows : (columns : List Column) (vs seen : List Value) (d : Data) → Some (items_view vs) ≡ as_array d → seen ≡ vs → true ≡ all_rows columns seen
-    → then_some (nat_lt max_rows (length vs)) TooManyRows ≡ rows_refusal (rows_of columns d)
+    → then_some (nat_lt most_rows (length vs)) TooManyRows ≡ rows_refusal (rows_of columns d)
 many_rows columns vs seen d is same test =
     refused_many (length vs) _ (has_rows columns vs d true is (test ∙ ap (all_rows columns) same))
     (subst (λ o. IfSome o (λ rows. length rows ≡ length vs)) (sym (rows_of_array columns vs d is))

@@ -15,6 +15,7 @@ use Rattle.lk_ast.specs.declared.table.Column.{Column}
 use Rattle.lk_ast.specs.declared.table.Row.{Row}
 use Rattle.lk_ast.specs.declared.table.TableDef.{TableDef}
 use Rattle.lk_ast.specs.declared.table.TableRows.{TableRows}
+use Rattle.lk_ast.specs.Limits.{most_rows}
 use Rattle.lk_ast.specs.Tables.{all_fit}
 use Rattle.lk_tables.specs.declared.error.TablesError.{TablesError}
 use Rattle.lk_tables.specs.declared.error.TablesError.TheVariants.{TooLong, NotJson, UnknownTable, BadRows, TooManyRows}
@@ -23,10 +24,6 @@ use Rattle.lk_tables.specs.Choices.{first_some, all_some}
 -- how many bytes a tables file may have
 abbrev pub max_bytes : ℕ
 max_bytes = 16_777_216
-
--- how many rows a table may have
-abbrev pub max_rows : ℕ
-max_rows = 65_536
 
 -- the elements of an array in their order
 abbrev pub elements : Items → List Data
@@ -63,7 +60,7 @@ rows_of columns d = option_and_then (λ items. all_some (row_of columns) (elemen
 -- why these aren't a table's rows: they are none, or too many
 abbrev pub rows_refusal : Option (List Row) → Option TablesError
 rows_refusal None = Some BadRows
-rows_refusal (Some rows) = if nat_lt max_rows (length rows) then Some TooManyRows else None
+rows_refusal (Some rows) = if nat_lt most_rows (length rows) then Some TooManyRows else None
 
 -- a table of that name
 abbrev pub is_named : List ℕ → TableDef → Bool
@@ -107,4 +104,4 @@ tables_in tables text = option_and_then (λ d. all_some (table_of d) tables) (ob
 
 -- the table's name, with at most so many rows as a table may have, each of which the table may hold
 abbrev pub AreRowsOf : TableDef → TableRows → Type 0
-AreRowsOf table read = (read.name ≡ table.name) × (all_fit table read.rows ≡ true) × (length read.rows ≤ max_rows)
+AreRowsOf table read = (read.name ≡ table.name) × (all_fit table read.rows ≡ true) × (length read.rows ≤ most_rows)

@@ -11,12 +11,9 @@ ghost use Rattle.std.specs.Prelude.{◌≡◌, IfOk};
 
 use crate::error::TablesError;
 use crate::named::NamedTables;
-use lk_ast::{BaseKind, Column, NoMemory, TableDef};
+use lk_ast::{BaseKind, Column, MOST_ROWS, NoMemory, TableDef};
 use serde_json::{Map, Value as Json};
 use std::alloc::Global;
-
-/// How many rows a table may have.
-const MAX_ROWS: usize = 65_536;
 
 /// Why the object isn't one from names of tables to their rows, its members being looked at in byte order of their keys.
 pub fn object_refusal(
@@ -78,7 +75,7 @@ fn rows_refusal(columns: &[Column], value: &Json) -> Option<TablesError>
     if !are_rows(columns, rows.as_slice()) {
         return Some(TablesError::BadRows);
     }
-    (rows.len() > MAX_ROWS).then_some(TablesError::TooManyRows)
+    (rows.len() as u64 > MOST_ROWS).then_some(TablesError::TooManyRows)
 }
 
 fn are_rows(columns: &[Column], rows: &[Json]) -> bool

@@ -1,6 +1,6 @@
 use Rattle.std.proofs.Common.{subst, sym, true, ◌≡◌}
+use Rattle.lk_ast.proofs.FittingRows.{fits_map}
 use Rattle.lk_ast.specs.Tables.{all_fit}
-use Rattle.lk_exec.proofs.Fitting.{fits_map}
 use Rattle.lk_exec.specs.Writings.{updated}
 use Rattle.lk_exec.proofs.writes.update_open.Goals as goal
 

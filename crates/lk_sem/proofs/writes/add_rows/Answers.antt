@@ -1,6 +1,6 @@
 use Rattle.std.proofs.Common.{◌≡◌, ◌+◌, ◌≤◌, length, arith, subst, sym, ap, ap₂}
-use Rattle.lk_bag.specs.Legal.{most_rows}
-use Rattle.lk_sem.proofs.Changing.{room_of, size_of}
+use Rattle.lk_ast.specs.Limits.{most_rows}
+use Rattle.lk_outside.proofs.TableSizes.{room_of, size_of}
 use Rattle.lk_sem.proofs.writes.add_rows.Goals as goal
 
 pub returns-then-size-gt-MOST_ROWS-clause-added : goal.returns-then-size-gt-MOST_ROWS-clause-added
