@@ -1,5 +1,5 @@
 -- Evaluations worked by hand, computed by the definition.
-use Rattle.std.proofs.Common.{◌≡◌, ℕ, List, [], ◌∷◌, ◌++◌, if◌then◌else◌, map, length, pos, sym, ap, ◌∙◌}
+use Rattle.std.proofs.Common.{◌≡◌, ℕ, Bool, true, false, List, [], ◌∷◌, ◌++◌, if◌then◌else◌, map, length, pos, sym, ap, ◌∙◌}
 use Rattle.std.specs.Prelude.{codes, None, Some, cond}
 use Rattle.std.proofs.lemmas.Cmp.{nat_list_cmp_total}
 use Rattle.std.specs.Cmp.Lexicographic.{slice_cmp}
@@ -38,7 +38,7 @@ use Rattle.lk_evaluation.specs.Evaluation.{eval_to}
 use Rattle.lk_evaluation.specs.Run.{Goes, Stops, Waiting, Within, Called, Returned, Function, Site, start}
 use Rattle.lk_evaluation.specs.Source.{session}
 use Rattle.lk_operators.specs.Records.{record_of}
-use Rattle.lk_operators.specs.Values.{field, fields, int, text, unit}
+use Rattle.lk_operators.specs.Values.{field, fields, int, text, truth, unit}
 use Rattle.lk_operators.specs.declared.outcome.Outcome.TheVariants as outcome
 
 -- the value of a name that was bound
@@ -114,6 +114,42 @@ pub nests : session nest nest_main (codes "ann") (start 20 [])
     })
 unfolding eval_to
 nests = simp (node.outs-Concat, node.outs-Text, node.outs-Name, node.outs-Call, node.outs-Seq, node.outs-Print, value.outs-Base, value.outs-Fields, lookup-bind)
+
+-- ---- conditions
+
+abbrev bool : Bool → Expr
+bool b = at_zero (node.Bool b)
+
+-- fun main(a) client { e }
+abbrev alone_main : Expr → FunDef
+alone_main e = function 4 (codes "main") (codes "a") Client e
+
+abbrev alone : Expr → Program
+alone e = record { decls = decl.Fun (alone_main e) ∷ [] }
+
+-- the value of an expression alone, after so many nodes of ten, each a step
+abbrev comes_to : Expr → Bool → ℕ → ℕ → Type 0
+comes_to e b steps left = session (alone e) (alone_main e) (codes "ann") (start 10 []) ≡ Goes (truth b) (record { fuel = left; steps = steps; log = []; answers = []; returns = None })
+
+-- `true && false`: both sides are evaluated
+pub and_both : comes_to (at_zero (node.And (bool true) (bool false))) false 3 7
+unfolding eval_to
+and_both = simp (node.outs-And, node.outs-Bool)
+
+-- `false && true`: the right side isn't entered
+pub and_left : comes_to (at_zero (node.And (bool false) (bool true))) false 2 8
+unfolding eval_to
+and_left = simp (node.outs-And, node.outs-Bool)
+
+-- `true || false`: the right side isn't entered
+pub or_left : comes_to (at_zero (node.Or (bool true) (bool false))) true 2 8
+unfolding eval_to
+or_left = simp (node.outs-Or, node.outs-Bool)
+
+-- `false || true`: both sides are evaluated
+pub or_both : comes_to (at_zero (node.Or (bool false) (bool true))) true 3 7
+unfolding eval_to
+or_both = simp (node.outs-Or, node.outs-Bool)
 
 -- ---- tables
 

@@ -41,11 +41,12 @@ use Rattle.lk_lowered.proofs.Telling.{covered}
 use Rattle.lk_lowered.proofs.TypedPrograms.{at_block}
 use Rattle.lk_lowered.specs.Law.{AreDeclared, IsReached, IsSiteAt, SitedLaw, block_of, has_site, is_reach}
 use Rattle.lk_lowered.specs.Meeting.{IsInside, Ready, Stands}
+use Rattle.lk_sites.proofs.ClosedSites.{none_in}
 use Rattle.lk_sites.proofs.Touring.{by_parts}
 use Rattle.lk_sites.proofs.Visiting.{front_and}
 use Rattle.lk_sites.specs.SiteKinds.{is_site}
-use Rattle.lk_sites.specs.Sites.{Site, Tour, all, behind_node, entered, in_instance, in_instances, is_closed, site_at, start, visit}
-use Rattle.lk_sound.proofs.Inside.{bodies_of, by_insides, insides}
+use Rattle.lk_sites.specs.Sites.{Site, Tour, all, entered, in_instance, in_instances, is_closed, site_at, start, visit}
+use Rattle.lk_sound.proofs.Inside.{bodies_of, insides}
 use Rattle.lk_types.proofs.Members.{each_back, each_both, each_front, one_in_back, one_in_front}
 use Rattle.lk_types.proofs.Parts.{same_some}
 use Rattle.lk_types.specs.Each.{Each, OneOf}
@@ -126,33 +127,6 @@ module _ (f : Forms) where
 -- ---- what a tour finds
 
 module _ (i : ℕ) where
-  record IsSame (t after : Tour) : Type 0 where
-    label : after.label ≡ t.label
-    found : after.found ≡ t.found
-
-  behind_same : (l : Layer) (t : Tour) → IsSame t (behind_node l t)
-  behind_same (Node-F.Function h) t = record { label = refl; found = refl }
-  behind_same (Node-F.Call h args) t = record { label = refl; found = refl }
-  behind_same other t = record { label = refl; found = refl }
-
-  abbrev FindsNothing : Expr → Type 0
-  FindsNothing e = (t : Tour) → IsSame t (visit i e true t)
-
-  both_same : {a b c : Tour} → IsSame a b → IsSame b c → IsSame a c
-  both_same one two = record { label = two.label ∙ one.label; found = two.found ∙ one.found }
-
-  all_same : (es : List Expr) → Each FindsNothing es → (t : Tour) → IsSame t (all (map (visit i) es) true t)
-  all_same [] same t = record { label = refl; found = refl }
-  all_same (e ∷ es) same t = both_same (same.0 t) (all_same es same.1 (visit i e true t))
-
-  -- nothing inside of queries, updates and deletions
-  finds_nothing : (e : Expr) → FindsNothing e
-  finds_nothing = by_insides FindsNothing (λ e same t. subst (IsSame t) (sym (by_parts i e true t)) (both_same (behind_same (layer e) t) (all_same (insides (layer e)) same (behind_node (layer e) t))))
-
-  nothing_each : (es : List Expr) → Each FindsNothing es
-  nothing_each [] = tt
-  nothing_each (e ∷ es) = (finds_nothing e, nothing_each es)
-
   abbrev own_found : Bool → Expr → Tour → List Site
   own_found true e t = site_at i e t ∷ []
   own_found false e t = []
@@ -201,7 +175,7 @@ module _ (g : GroundProgram) (f : Forms) where
 
   closed_meets : (i : ℕ) (es : List Expr) (t : Tour) (q : ℕ) → AreMet t q → AreMet (all (map (visit i) es) true t) q
   closed_meets i es t q met =
-      let same = all_same i es (nothing_each i es) t in
+      let same = none_in i es t in
       record { label_is = same.label ∙ met.label_is; sites = subst (Each HasNode) (sym same.found) met.sites; labels = λ label n below is. subst (OneOf (IsOf label n)) (sym same.found) (met.labels label n below is) }
 
   -- what stands right inside a node are its children, or it is closed

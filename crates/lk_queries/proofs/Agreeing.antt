@@ -6,19 +6,18 @@ use Rattle.lk_ast.specs.Layers.{Layer, layer}
 use Rattle.lk_ast.specs.Tables.{Tables, tables_of}
 use Rattle.lk_ast.specs.declared.declaration.FunDef.{FunDef}
 use Rattle.lk_ast.specs.declared.declaration.Program.{Program}
-use Rattle.lk_ast.specs.declared.expression.Case.{Case}
 use Rattle.lk_ast.specs.declared.expression.Expr.{Expr}
-use Rattle.lk_ast.specs.declared.expression.LastCase.{LastCase}
 use Rattle.lk_ast.specs.declared.expression.Node.TheOpen.{Node-F}
 use Rattle.lk_ast.specs.declared.place.Word.{Word}
 use Rattle.lk_ast.specs.declared.value.Value.{Value}
 use Rattle.lk_ast.specs.declared.value.Value.TheVariants as value
 use Rattle.lk_bag.proofs.Given as given_forms
-use Rattle.lk_bag.proofs.Given.{is_operation, operands, all_given, given_operation, given_level, beside}
-use Rattle.lk_bag.specs.Bag.{value_of, items, chosen, for_each, given, level, entered, called_function, called}
+use Rattle.lk_bag.proofs.Given.{is_operation, operands, all_given, given_operation}
+use Rattle.lk_bag.specs.Bag.{value_of, items, chosen, for_each, given, entered, called_function, called}
 use Rattle.lk_locals.specs.Names.{Names, no_names, bind, bind_all, lookup}
 use Rattle.lk_operators.specs.Operators.{operated}
 use Rattle.lk_operators.specs.Values.{bool_in, truth, unit}
+use Rattle.lk_sound.proofs.SameBag.{no_rule}
 use Rattle.lk_sound.proofs.Bags.{before_caller}
 use Rattle.lk_sound.proofs.Bindings.{lookup_bound}
 use Rattle.lk_sound.proofs.QueryParts.{IsEarly, IsQueryNode, AreQueryNodes, operands_are}
@@ -35,10 +34,6 @@ use Rattle.lk_typing.specs.Rules.{Rule}
 use Rattle.lk_typing.specs.Rules as rule
 use Rattle.lk_typing.specs.Types.{function_of}
 use Rattle.lk_typing.specs.Typing.{HasType, HaveTypes, label_of, expr_of, plain, lambda, var, switch, switch_open, for_list, for_table, query, update, delete, none, more}
-
--- a switch gives the unit value whatever is in it
-no_rule : (tables : Tables) (calls : List ℕ → List Value → Value) (e d : Expr) (cases : List Case) (last : Option LastCase) (names : Names) → layer e ≡ Node-F.Switch d cases last → given tables calls e names ≡ unit
-no_rule tables calls e d cases last names is = given_level tables calls e names ∙ ap (λ l. level tables calls (beside tables calls l) l names) is
 
 -- helpers among the first so many functions give the same
 abbrev pub CallsAgree : Program → Instances → (List ℕ → List Value → Value) → (List ℕ → List Value → Value) → ℕ → Type 0

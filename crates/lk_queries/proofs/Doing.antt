@@ -36,8 +36,8 @@ use Rattle.lk_queries.specs.Law.{AtMostScan}
 use Rattle.lk_queries.specs.Order.{IsLike}
 use Rattle.lk_queries.proofs.Coming.{Comes, gone}
 use Rattle.lk_queries.proofs.Liking.{like_itself}
-use Rattle.lk_queries.proofs.QueryTypes.{items_shown}
-use Rattle.lk_queries.proofs.Shuffled.{along}
+use Rattle.lk_inline.proofs.Loops.{items_shown}
+use Rattle.lk_sound.proofs.Shuffles.{along}
 
 -- ---- tables in another order
 

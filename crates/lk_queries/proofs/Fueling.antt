@@ -72,7 +72,7 @@ use Rattle.lk_queries.proofs.Coming.{AreFrom, legal_from, IsCome}
 use Rattle.lk_queries.proofs.Giving.{operator_insides, both_blocks}
 use Rattle.lk_queries.proofs.LikeGiven.{CallsLike, NamesLike, names_themselves, like_bound, shown_items, given_like}
 use Rattle.lk_queries.proofs.Liking.{like_itself, like_then, like_items, like_fits, likes_fit}
-use Rattle.lk_queries.proofs.Shuffled.{along}
+use Rattle.lk_sound.proofs.Shuffles.{along}
 use Rattle.lk_queries.specs.Order.{EnoughLaw}
 use Rattle.lk_queries.proofs.Fuel.{Uses, DoesUse, IsFueled, total, times, uses_more, gone_uses, reading_uses, done_uses, given_uses, choose_uses, node_uses, each_uses}
 use Rattle.lk_queries.proofs.LikeGiven.{likes_bound, parts_like}

@@ -70,7 +70,8 @@ use Rattle.lk_queries.proofs.Barred.{no_local, no_trap, no_move}
 use Rattle.lk_queries.proofs.Entering.{IsRight, IsBody, node_right, each_right}
 use Rattle.lk_queries.proofs.Kept.{IsTaken, taken_of}
 use Rattle.lk_queries.proofs.Operating.{Does, CallsRight, operator_right}
-use Rattle.lk_queries.proofs.QueryTypes.{flat_list, items_of, list_shown}
+use Rattle.lk_inline.proofs.Standing.{list_shown}
+use Rattle.lk_queries.proofs.QueryTypes.{flat_list, items_of}
 use Rattle.lk_queries.proofs.Reading.{read, same_value}
 
 -- ---- what stands in an operator is some of the program

@@ -1,5 +1,5 @@
 -- What is captured under local names: the values of the free names, which stand for them again.
-use Rattle.std.proofs.Common.{◌≡◌, refl, sym, ap, ap₂, ◌∙◌, subst, inl, inr, ◌⊎◌, Bool, true, false, cond, List, [], ◌∷◌, Option, Some, None, IsSome}
+use Rattle.std.proofs.Common.{◌≡◌, refl, sym, ap, ◌∙◌, subst, inl, inr, ◌⊎◌, Bool, true, false, cond, List, [], ◌∷◌, Option, Some, None}
 use Rattle.std.proofs.lemmas.Option.{none-some}
 use Rattle.std.specs.Cmp.Lexicographic.{bytes_decides}
 use Rattle.std.specs.Str.{bytes_eq}
@@ -7,55 +7,19 @@ use Rattle.lk_ast.specs.declared.declaration.Program.{Program}
 use Rattle.lk_ast.specs.declared.value.Value.{Value}
 use Rattle.lk_index.specs.Free.{in_byte_order}
 use Rattle.lk_locals.specs.Names.{Names, no_names, bind, bind_each, lookup, lookup_all, with_value}
-use Rattle.lk_operators.specs.Values.{unit}
 use Rattle.lk_scope.specs.Names as scope
 use Rattle.lk_sound.proofs.Apart.{ordered_apart}
 use Rattle.lk_sound.proofs.Bindings.{lookup_bound, same_bytes}
 use Rattle.lk_sound.proofs.Calls.{kept_fit}
-use Rattle.lk_sound.proofs.Captured.{AreKept}
+use Rattle.lk_sound.proofs.Captured.{AreKept, any_such, kept_of}
 use Rattle.lk_sound.proofs.Free.{AreKnown}
 use Rattle.lk_sound.proofs.Names.{IsAmong}
 use Rattle.lk_sound.proofs.OrderedWords.{ordered_holds, ordered_of}
 use Rattle.lk_sound.specs.Instances.{Instances}
 use Rattle.lk_sound.specs.Points.{AreLocals}
-use Rattle.lk_sound.specs.Values.{Fits, none_left, one_more}
 use Rattle.lk_types.specs.Rows.{Label}
 use Rattle.lk_types.specs.declared.ground.Ground.{Ground}
 use Rattle.lk_typing.specs.Names.{Named, named, names_of}
-
--- ---- values of names, and the types that they have
-
-module _ (p : Program) (i : Instances) (locals : Named Ground) (names : Names) where
-  abbrev AreThere : List Label → Type 0
-  AreThere = AreKept p i (λ t. Unit {0}) locals names
-
-  one_more_kept : (x : Label) (xs : List Label) (t : Ground) (v : Value) → named x locals ≡ Some t → lookup names x ≡ Some v → Fits p i v t → AreThere xs → AreThere (x ∷ xs)
-  one_more_kept x xs t v is found fits rest =
-      record {
-        values = v ∷ rest.values;
-        kept = (x, t) ∷ rest.kept;
-        found = ap₂ with_value found rest.found;
-        named_are = ap (λ ys. x ∷ ys) rest.named_are;
-        fit = one_more fits rest.fit;
-        each = (tt, rest.each);
-        same = λ y among. by_test y (bytes_eq x y) refl among;
-      }
-    where
-      by_test : (y : Label) (b : Bool) → bytes_eq x y ≡ b → IsAmong y (x ∷ xs) → cond b (Some t) (named y rest.kept) ≡ named y locals
-      by_test y true same among = sym is ∙ ap (λ z. named z locals) ((bytes_decides x y).0 same)
-      by_test y false other (inl same) = let itself : bytes_eq x y ≡ true = (bytes_decides x y).1 same in absurd cc
-      by_test y false other (inr among) = rest.same y among
-
-  type_of : (x : Label) (o : Option Ground) → named x locals ≡ o → IsSome o → (t : Ground) × (named x locals ≡ Some t)
-  type_of x None is some = absurd cc
-  type_of x (Some t) is some = (t, is)
-
-  kept_of : (xs : List Label) → AreLocals p i locals names → ((x : Label) → IsAmong x xs → IsSome (named x locals)) → AreThere xs
-  kept_of [] fit each = record { values = []; kept = []; found = refl; named_are = refl; fit = none_left; each = tt; same = λ y among. absurd among }
-  kept_of (x ∷ xs) fit each =
-      let such = type_of x (named x locals) refl (each x (inl refl)) in
-      let held = fit x such.0 such.1 in
-      one_more_kept x xs such.0 held.0 such.1 held.1 held.2 (kept_of xs fit (λ y among. each y (inr among)))
 
 -- ---- names that stand for them again
 
@@ -103,7 +67,7 @@ pub record IsTaken (p : Program) (i : Instances) (locals : Named Ground) (names 
 
 pub taken_of : (p : Program) (i : Instances) (locals : Named Ground) (names : Names) (words : List Label) → AreLocals p i locals names → AreKnown locals scope.no_names words → IsTaken p i locals names words
 taken_of p i locals names words fit known =
-    let all : AreKept p i (λ t. Unit {0}) locals names (in_byte_order words) = kept_of p i locals names (in_byte_order words) fit (λ x among. (known.known x (ordered_of words x among)).1) in
+    let all : AreKept p i (λ t. Unit {0}) locals names (in_byte_order words) = kept_of p i (λ t. Unit {0}) locals names (in_byte_order words) fit (λ x among. any_such locals x (known.known x (ordered_of words x among)).1) in
     let among : (x : Label) (t : Ground) → named x all.kept ≡ Some t → IsAmong x (in_byte_order words) = λ x t is. subst (IsAmong x) all.named_are (named_among x t all.kept is) in
     record {
       values = all.values;

@@ -46,7 +46,8 @@ use Rattle.lk_queries.proofs.AnyOrder.{expression_comes, query_answers, same_beh
 use Rattle.lk_queries.proofs.Coming.{AreFrom, legal_from}
 use Rattle.lk_queries.proofs.Giving.{IsTypedQuery, body_blocks, only_reads, rows_given, typed_query}
 use Rattle.lk_queries.proofs.Liking.{like_itself, like_fits, like_items}
-use Rattle.lk_queries.proofs.QueryTypes.{flat_list, items_shown}
+use Rattle.lk_inline.proofs.Loops.{items_shown}
+use Rattle.lk_queries.proofs.QueryTypes.{flat_list}
 use Rattle.lk_translate.proofs.RowsBack.{rows_back}
 
 -- ---- sorting

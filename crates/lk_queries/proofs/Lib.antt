@@ -7,7 +7,6 @@ pub mod Calculating
 pub mod Barred
 pub mod Operating
 pub mod Giving
-pub mod Shuffled
 pub mod Liking
 pub mod FlatParts
 pub mod LikeGiven

@@ -25,8 +25,10 @@ use Rattle.lk_types.specs.declared.ground.Ground.TheVariants as known
 use Rattle.lk_types.specs.declared.ground.GroundField.{GroundField}
 use Rattle.lk_typing.specs.Types.{base}
 use Rattle.lk_queries.specs.Order.{IsLike, same, shuffled}
-use Rattle.lk_queries.proofs.QueryTypes.{items_shown, list_shown, query_level}
-use Rattle.lk_queries.proofs.Shuffled.{flat_shuffled}
+use Rattle.lk_inline.proofs.Loops.{items_shown}
+use Rattle.lk_inline.proofs.Standing.{list_shown}
+use Rattle.lk_queries.proofs.QueryTypes.{query_level}
+use Rattle.lk_sound.proofs.Shuffles.{flat_shuffled}
 
 pub like_itself : (v : Value) → IsLike v v
 like_itself v = same refl

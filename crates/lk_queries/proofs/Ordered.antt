@@ -71,7 +71,7 @@ use Rattle.lk_queries.proofs.Giving.{only_reads, operator_insides, both_blocks}
 use Rattle.lk_queries.proofs.Kept.{IsTaken, taken_of}
 use Rattle.lk_queries.proofs.LikeGiven.{CallsLike, NamesLike, names_themselves, like_bound, shown_items, given_like}
 use Rattle.lk_queries.proofs.Liking.{like_itself, like_lists, like_then, like_items, like_flat, like_each, like_fits, likes_fit, bool_flat}
-use Rattle.lk_queries.proofs.Shuffled.{flat_shuffled}
+use Rattle.lk_sound.proofs.Shuffles.{flat_shuffled}
 use Rattle.lk_queries.proofs.Calculating.{is_calculated, results}
 use Rattle.lk_queries.proofs.Doing.{same_tables, as_list, one_of, two_of, DoesLike, CallsCome, gives_it, done_come, choice_come}
 

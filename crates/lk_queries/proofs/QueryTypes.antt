@@ -21,12 +21,6 @@ flat_list a is = sym (ap query_level (known.outs-List a)) ∙ is
 pub variant_not_flat : (gs : List GroundField) → is_query_type (known.Tags gs) ≡ true → ⊥
 variant_not_flat gs is = let wrong : false ≡ true = sym (ap query_level (known.outs-Tags gs)) ∙ is in cc
 
-pub list_shown : (values : List Value) → list_in (value.List values) ≡ Some values
-list_shown values = simp (value.outs-List)
-
 -- the values of a list
 pub items_of : (v : Value) (values : List Value) → list_in v ≡ Some values → items v ≡ values
 items_of v values is = ap (λ o. unwrap_or o []) is
-
-pub items_shown : (values : List Value) → items (value.List values) ≡ values
-items_shown values = items_of (value.List values) values (list_shown values)

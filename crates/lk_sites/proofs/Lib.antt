@@ -1,3 +1,4 @@
+pub mod ClosedSites
 pub mod Passing
 pub mod SiteLabels
 pub mod SiteNodes

@@ -1,5 +1,5 @@
 -- The labels of what a visit finds: each is that of the place where the block begins, in its instance.
-use Rattle.std.proofs.Common.{◌≡◌, ℕ, ◌+◌, ◌==◌, Bool, true, false, ◌||◌, List, [], ◌∷◌, ◌++◌, append_assoc, append-nil, flat_map, length, length-append, map, Some, if◌then◌else◌, refl, sym, ◌∙◌, ap, subst, arith}
+use Rattle.std.proofs.Common.{◌≡◌, ℕ, ◌+◌, ◌==◌, true, false, List, [], ◌∷◌, ◌++◌, append_assoc, append-nil, flat_map, length, length-append, map, Some, if◌then◌else◌, refl, sym, ◌∙◌, ap, subst, arith}
 use Rattle.std.proofs.lemmas.Bool.Decides.{nat_tests}
 use Rattle.lk_ast.specs.Layers.{Layer, layer}
 use Rattle.lk_ast.specs.declared.expression.Expr.{Expr}
@@ -10,8 +10,9 @@ use Rattle.lk_ground.specs.Language.{Labelled, Whole, found_from, function_of, l
 use Rattle.lk_ground.specs.Sites.{labelled_in}
 use Rattle.lk_ground.specs.declared.program.GroundFun.{GroundFun}
 use Rattle.lk_ground.specs.declared.program.GroundProgram.{GroundProgram}
-use Rattle.lk_sites.proofs.Visiting.{insides_level, visit_level}
-use Rattle.lk_sites.specs.Sites.{Site, Tour, all, at_node, behind_node, entered, in_instance, in_instances, is_closed, site_at, sites_of, start, visit}
+use Rattle.lk_sites.proofs.ClosedSites.{behind_same, none_in}
+use Rattle.lk_sites.proofs.Touring.{by_parts}
+use Rattle.lk_sites.specs.Sites.{Site, Tour, all, at_node, entered, in_instance, in_instances, is_closed, site_at, sites_of, start, visit}
 use Rattle.lk_sound.proofs.Inside.{by_insides, insides}
 use Rattle.lk_types.proofs.Members.{each_weaker, each_both}
 use Rattle.lk_types.specs.Each.{Each}
@@ -67,16 +68,6 @@ moved : (ls : List Labelled) (t after : Tour) → AreLabelled ls t → after.lab
 moved ls t after are label_is found_is = record { next = label_is ∙ are.next; found = subst (Each (IsLabelled ls)) (sym found_is) are.found }
 
 module _ (fun : ℕ) where
-  behind_label : (l : Layer) (t : Tour) → (behind_node l t).label ≡ t.label
-  behind_label (Node-F.Function g) t = refl
-  behind_label (Node-F.Call g args) t = refl
-  behind_label other t = refl
-
-  behind_found : (l : Layer) (t : Tour) → (behind_node l t).found ≡ t.found
-  behind_found (Node-F.Function g) t = refl
-  behind_found (Node-F.Call g args) t = refl
-  behind_found other t = refl
-
   -- a site
   with_site : (ls : List Labelled) (e : Expr) (t after : Tour) → AreLabelled ls t → after.label ≡ t.label + 1 → after.found ≡ t.found ++ site_at fun e t ∷ [] → AreLabelled (ls ++ language.Site fun e.span.start ∷ []) after
   with_site ls e t after are label_is found_is =
@@ -102,35 +93,7 @@ module _ (fun : ℕ) where
   at_labelled other e ls t are = subst (λ all. AreLabelled all t) (sym (append-nil ls)) are
 
   entered_labelled : (l : Layer) (e : Expr) (ls : List Labelled) (t : Tour) → AreLabelled ls t → AreLabelled (ls ++ map (language.Site fun) (own_label l e.span.start)) (entered fun l e false t)
-  entered_labelled l e ls t are = moved _ (at_node fun l e t) _ (at_labelled l e ls t are) (behind_label l (at_node fun l e t)) (behind_found l (at_node fun l e t))
-
-  -- ---- inside of queries, updates and deletions
-
-  record IsSame (t after : Tour) : Type 0 where
-    label : after.label ≡ t.label
-    found : after.found ≡ t.found
-
-  abbrev FindsNothing : Expr → Type 0
-  FindsNothing e = (t : Tour) → IsSame t (visit fun e true t)
-
-  all_same : (es : List Expr) → Each FindsNothing es → (t : Tour) → IsSame t (all (map (visit fun) es) true t)
-  all_same [] same t = record { label = refl; found = refl }
-  all_same (e ∷ es) same t =
-      let one = same.0 t in
-      let rest = all_same es same.1 (visit fun e true t) in
-      record { label = rest.label ∙ one.label; found = rest.found ∙ one.found }
-
-  -- by what stands in it
-  within_all : (e : Expr) (flag : Bool) (t : Tour) → visit fun e flag t ≡ all (map (visit fun) (insides (layer e))) (flag || is_closed (layer e)) (entered fun (layer e) e flag t)
-  within_all e flag t = visit_level fun e flag t ∙ ap (λ go. go (flag || is_closed (layer e)) (entered fun (layer e) e flag t)) (insides_level fun (layer e))
-
-  finds_nothing : (e : Expr) → FindsNothing e
-  finds_nothing = by_insides FindsNothing (λ e same t.
-      let inner = all_same (insides (layer e)) same (behind_node (layer e) t) in
-      record {
-        label = ap (λ (t : Tour). t.label) (within_all e true t) ∙ inner.label ∙ behind_label (layer e) t;
-        found = ap (λ (t : Tour). t.found) (within_all e true t) ∙ inner.found ∙ behind_found (layer e) t;
-      })
+  entered_labelled l e ls t are = moved _ (at_node fun l e t) _ (at_labelled l e ls t are) (behind_same l (at_node fun l e t)).label (behind_same l (at_node fun l e t)).found
 
   -- ---- outside of them
 
@@ -144,13 +107,9 @@ module _ (fun : ℕ) where
       (append_assoc ls (map (language.Site fun) (labelled_in e)) (map (language.Site fun) (flat_map labelled_in es)) ∙ ap (λ more. ls ++ more) (sym (map_append (language.Site fun) (labelled_in e) (flat_map labelled_in es))))
       (all_labels es label.1 (ls ++ map (language.Site fun) (labelled_in e)) (visit fun e false t) (label.0 ls t are))
 
-  nothing_each : (es : List Expr) → Each FindsNothing es
-  nothing_each [] = tt
-  nothing_each (e ∷ es) = (finds_nothing e, nothing_each es)
-
   closed_labels : (es : List Expr) (ls : List Labelled) (t : Tour) → AreLabelled ls t → AreLabelled (ls ++ []) (all (map (visit fun) es) true t)
   closed_labels es ls t are =
-      let same = all_same es (nothing_each es) t in
+      let same = none_in fun es t in
       subst (λ more. AreLabelled more (all (map (visit fun) es) true t)) (sym (append-nil ls)) (moved ls t (all (map (visit fun) es) true t) are same.label same.found)
 
   -- what is labelled in it, where nothing is inside of what is closed
@@ -166,7 +125,7 @@ module _ (fun : ℕ) where
       let own = own_label (layer e) e.span.start in
       let inner = flat_map labelled_in (outer (layer e)) in
       subst (λ all. AreLabelled (ls ++ all) (visit fun e false t)) (sym (ap (map (language.Site fun)) (labelled_level e) ∙ map_append (language.Site fun) own inner))
-      (subst (AreLabelled (ls ++ (map (language.Site fun) own ++ map (language.Site fun) inner))) (sym (within_all e false t))
+      (subst (AreLabelled (ls ++ (map (language.Site fun) own ++ map (language.Site fun) inner))) (sym (by_parts fun e false t))
       (subst (λ all_labels. AreLabelled all_labels (all (map (visit fun) (insides (layer e))) (is_closed (layer e)) (entered fun (layer e) e false t))) (append_assoc ls (map (language.Site fun) own) (map (language.Site fun) inner))
       (inner_labels (layer e) label (ls ++ map (language.Site fun) own) (entered fun (layer e) e false t) (entered_labelled (layer e) e ls t are)))))
 

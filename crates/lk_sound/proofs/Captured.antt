@@ -67,14 +67,15 @@ module _ (p : Program) (i : Instances) (Q : Ground → Type 0) (locals : Named G
       by_test y false other (inl same) = let itself : bytes_eq x y ≡ true = (bytes_decides x y).1 same in absurd cc
       by_test y false other (inr among) = rest.same y among
 
-  kept_of : (xs : List Label) → AreLocals p i locals names → ((x : Label) → IsAmong x xs → HasSuch Q locals x) → AreKept p i Q locals names xs
+  pub kept_of : (xs : List Label) → AreLocals p i locals names → ((x : Label) → IsAmong x xs → HasSuch Q locals x) → AreKept p i Q locals names xs
   kept_of [] fit each = record { values = []; kept = []; found = refl; named_are = refl; fit = none_left; each = tt; same = λ y among. absurd among }
   kept_of (x ∷ xs) fit each =
       let such : HasSuch Q locals x = each x (inl refl) in
       let held : (v : Value) × (lookup names x ≡ Some v) × Fits p i v such.0 = fit x such.0 such.1 in
       one_more_kept x xs such.0 held.0 such.1 such.2 held.1 held.2 (kept_of xs fit (λ y among. each y (inr among)))
 
-any_such : (locals : Named Ground) (x : Label) → IsSome (named x locals) → HasSuch (λ t. Unit {0}) locals x
+-- a name with a type has such a one where all types are
+pub any_such : (locals : Named Ground) (x : Label) → IsSome (named x locals) → HasSuch (λ t. Unit {0}) locals x
 any_such locals x some = by_type (named x locals) refl some
   where
     by_type : (o : Option Ground) → named x locals ≡ o → IsSome o → HasSuch (λ t. Unit {0}) locals x

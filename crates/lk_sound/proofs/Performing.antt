@@ -38,7 +38,7 @@ Sound p i rec = (effects : EffectSet) (t : Ground) (point : Point) → IsPoint p
 abbrev pub Grow : Program → Evaluates Point → Type 0
 Grow p rec = Keeps (source p) (List Entry) Runs Outs rec rec
 
-handed_grows : (plain : Bool) (s : Run) → Extends s.log (handed plain s).log
+pub handed_grows : (plain : Bool) (s : Run) → Extends s.log (handed plain s).log
 handed_grows true s = extends_itself s.log
 handed_grows false s = extends_itself s.log
 
@@ -46,7 +46,7 @@ handed_grows false s = extends_itself s.log
 event_grows : (s : Run) (entry : Entry) → Extends s.log (s.log ++ entry ∷ [])
 event_grows s entry = extends_later s.log entry s.log (extends_itself s.log)
 
-joined_grows : (at : Span) (made : List Value) (found : Option (List Value)) (next : List Value → Run → Out Value) (s : Run) → ((all : List Value) → Extends s.log (run_of (next all s)).log) → Extends s.log (run_of (joined at made found next s)).log
+pub joined_grows : (at : Span) (made : List Value) (found : Option (List Value)) (next : List Value → Run → Out Value) (s : Run) → ((all : List Value) → Extends s.log (run_of (next all s)).log) → Extends s.log (run_of (joined at made found next s)).log
 joined_grows at made None next s grows = extends_itself s.log
 joined_grows at made (Some values) next s grows = grows (made ++ values)
 

@@ -30,7 +30,7 @@ use Rattle.lk_types.specs.Rows.{Label}
 use Rattle.lk_sound.proofs.TablesSeen.{IsDeclared, SeesTables, blocks_see, functions_see, insides_see, table_seen}
 
 -- a switch gives the unit value whatever is in it
-no_rule : (tables : Tables) (calls : List ℕ → List Value → Value) (e d : Expr) (cases : List Case) (last : Option LastCase) (names : Names) → layer e ≡ Node-F.Switch d cases last → given tables calls e names ≡ unit
+pub no_rule : (tables : Tables) (calls : List ℕ → List Value → Value) (e d : Expr) (cases : List Case) (last : Option LastCase) (names : Names) → layer e ≡ Node-F.Switch d cases last → given tables calls e names ≡ unit
 no_rule tables calls e d cases last names is = given_level tables calls e names ∙ ap (λ l. level tables calls (beside tables calls l) l names) is
 
 module _ (p : Program) (tables others : Tables) (agree : (x : Label) → IsDeclared p x → tables x ≡ others x) where

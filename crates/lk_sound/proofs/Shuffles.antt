@@ -1,6 +1,6 @@
--- A permutation of what passes a test.
-use Rattle.std.proofs.Common.{◌≡◌, ℕ, zero, suc, ◌<◌, Bool, true, false, cond, List, [], ◌∷◌, ◌++◌, filter, length, get_or, set, swap, arith, IsPermutation}
-use Rattle.std.proofs.lemmas.List.Sorted.{IsPermutation-refl, IsPermutation-keeps, IsPermutation-trans, IsPermutation-cons, IsPermutation-append_left, IsPermutation-append_comm}
+-- Lists in another order: what holds along each permutation, what passes a test, and what is made of each element.
+use Rattle.std.proofs.Common.{◌≡◌, ℕ, zero, suc, ◌<◌, Bool, true, false, cond, List, [], ◌∷◌, ◌++◌, filter, flat_map, length, get_or, set, swap, arith, IsPermutation, subst, append_assoc}
+use Rattle.std.proofs.lemmas.List.Sorted.{IsPermutation-refl, IsPermutation-keeps, IsPermutation-trans, IsPermutation-cons, IsPermutation-append_left, IsPermutation-append_right, IsPermutation-append_comm}
 
 -- A relation holds along each permutation if it is reflexive and transitive, and goes under a head and over an exchange of two heads.
 module _ {X : Type 0} (R : List X → List X → Type 0) (same : (xs : List X) → R xs xs)
@@ -24,7 +24,7 @@ module _ {X : Type 0} (R : List X → List X → Type 0) (same : (xs : List X) �
   swapped [] i j p q = same []
   swapped (x ∷ l) i j p q = exchanged (x ∷ l) i j x p q
 
-  along : (xs ys : List X) → IsPermutation xs ys → R xs ys
+  pub along : (xs ys : List X) → IsPermutation xs ys → R xs ys
   along xs = IsPermutation-keeps xs (R xs) (same xs) (λ l i j p q h. chain xs l _ h (swapped l i j p q))
 
 module _ {X : Type 0} (test : X → Bool) where
@@ -48,3 +48,13 @@ module _ {X : Type 0} (test : X → Bool) where
       (λ x xs ys h. skips (test x) x _ _ h)
       (λ x y xs. turns (test x) (test y) x y _)
       (λ xs ys zs. IsPermutation-trans _ _ _)
+
+-- what is made of each element, one behind the other
+pub flat_shuffled : {X Y : Type 0} (f : X → List Y) (xs ys : List X) → IsPermutation xs ys → IsPermutation (flat_map f xs) (flat_map f ys)
+flat_shuffled f = along (λ xs ys. IsPermutation (flat_map f xs) (flat_map f ys))
+    (λ xs. IsPermutation-refl _)
+    (λ x xs ys h. IsPermutation-append_right (f x) (flat_map f xs) (flat_map f ys) h)
+    (λ x y xs. subst (λ l. IsPermutation l (f y ++ (f x ++ flat_map f xs))) (append_assoc (f x) (f y) (flat_map f xs))
+    (subst (λ l. IsPermutation ((f x ++ f y) ++ flat_map f xs) l) (append_assoc (f y) (f x) (flat_map f xs))
+    (IsPermutation-append_left (flat_map f xs) (f x ++ f y) (f y ++ f x) (IsPermutation-append_comm (f x) (f y)))))
+    (λ xs ys zs. IsPermutation-trans _ _ _)
