@@ -70,9 +70,12 @@ ReachesLaw = (c : CodeTables) → IsWhole c → (n : ℕ) (form : Form) (b : Blo
     → (values : List Value) → FitEach (IsFun c) values ts → Reaches c label t (act c.forms form.at form.kind form.tails names values)
 
 -- What a call enters (`body_entered` of lk_ir) does what its label does, with the values of what is kept and then those passed.
-abbrev pub CallsLaw : Type 0
-CallsLaw = (c : CodeTables) (label : ℕ) (i : FunInfo) (b : Body) → fun_info c label ≡ Some i → is_function i.kind ≡ true → body_at c.forms label ≡ Some b → (env args : List Value) → length b.names ≡ length env → (place : Loc) (r : Run)
+abbrev pub DoesAsLabels : CodeTables → Type 0
+DoesAsLabels c = (label : ℕ) (i : FunInfo) (b : Body) → fun_info c label ≡ Some i → is_function i.kind ≡ true → body_at c.forms label ≡ Some b → (env args : List Value) → length b.names ≡ length env → (place : Loc) (r : Run)
     → eval (language c) (under (bind_each (bind_each no_names b.names env) b.params args) b.root) place r ≡ does c label (env ++ args) place r
+
+abbrev pub CallsLaw : Type 0
+CallsLaw = (c : CodeTables) → DoesAsLabels c
 
 -- a point of a type: its positions are points of types, and from values of these it does what one of its type does
 abbrev pub TypedPointsLaw : Type 0

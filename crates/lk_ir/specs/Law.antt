@@ -32,10 +32,13 @@ HasContsLaw = (f : Forms) (all : List Conts) → AreNamed f all → (n : ℕ) (f
 abbrev pub Agree : Forms → Point → Point → Type 0
 Agree f p q = (p.node ≡ q.node) × ((x : ℕ) → Uses f x p.node → lookup p.names x ≡ lookup q.names x)
 
--- With the names kept that are used, an evaluation comes to the same as with all of them.
+-- with these continuations an evaluation comes to the same as with all names
+abbrev pub KeepsPoints : Forms → List Conts → Type 0
+KeepsPoints f all = (n : ℕ) (names : Env) (place : Loc) (r : Run) → eval (continuing f all) (under names n) place r ≡ eval (let_normal f) (under names n) place r
+
+-- So it is where they keep the names that are used.
 abbrev pub ContinuesLaw : Type 0
-ContinuesLaw = (f : Forms) (all : List Conts) → AreNamed f all → (n : ℕ) (names : Env) (place : Loc) (r : Run)
-    → eval (continuing f all) (under names n) place r ≡ eval (let_normal f) (under names n) place r
+ContinuesLaw = (f : Forms) (all : List Conts) → AreNamed f all → KeepsPoints f all
 
 -- the continuations of earlier positions have nothing more to take from the names
 abbrev pub IsSteady : List (Option Cont) → Env → Type 0

@@ -69,11 +69,14 @@ abbrev pub BeginsLaw : Type 0
 BeginsLaw = (g : GroundProgram) (f : Forms) → IsTableOf g f → (main : GroundFun) → instance g 0 ≡ Some main
     → (b : Body) × (body_at f 1 ≡ Some b) × ((arg : List ℕ) → Meets g f (main_at main arg) (main_point b arg))
 
--- So the evaluation of that body is the program's session.
-abbrev pub SessionsLaw : Type 0
-SessionsLaw = (g : GroundProgram) (f : Forms) → IsTableOf g f → (main : GroundFun) → instance g 0 ≡ Some main → (b : Body) → body_at f 1 ≡ Some b
-    → (arg : List ℕ) (fuel : ℕ) (answers : List (List Row))
+-- the evaluation of the body of label 1 is the session of the ground program that begins in this instance
+abbrev pub HasSession : GroundProgram → Forms → GroundFun → Type 0
+HasSession g f main = (b : Body) → body_at f 1 ≡ Some b → (arg : List ℕ) (fuel : ℕ) (answers : List (List Row))
     → language.session g (function_of main) arg (start fuel answers) ≡ eval (let_normal f) (main_point b arg) Client (start fuel answers)
+
+-- So it is with the first instance.
+abbrev pub SessionsLaw : Type 0
+SessionsLaw = (g : GroundProgram) (f : Forms) → IsTableOf g f → (main : GroundFun) → instance g 0 ≡ Some main → HasSession g f main
 
 -- ---- calls of function values
 
@@ -93,10 +96,13 @@ pub record IsEntered (g : GroundProgram) (f : Forms) (callee : FunValue) (args :
   pub params : length body.params ≡ length args
   pub same : (at : Loc) (r : Run) → eval (ground g) point at r ≡ eval (let_normal f) (entered_point label body callee.env args) at r
 
--- A call of a function value goes, in the ground program, to what the body of its label is in the table.
-abbrev pub EntersLaw : Type 0
-EntersLaw = (g : GroundProgram) (f : Forms) → IsTableOf g f → (at : Span) (callee : FunValue) (args : List Value) (mark : Loc) (called : FunValue) (passed : List Value) (point : language.Point)
+-- a call of a function value goes, in the ground program, to what the body of its label is in the table
+abbrev pub HasCalls : GroundProgram → Forms → Type 0
+HasCalls g f = (at : Span) (callee : FunValue) (args : List Value) (mark : Loc) (called : FunValue) (passed : List Value) (point : language.Point)
     → call_labelled g at callee args (labelled g callee.site) ≡ Goto mark called passed point → IsEntered g f callee args mark point
+
+abbrev pub EntersLaw : Type 0
+EntersLaw = (g : GroundProgram) (f : Forms) → IsTableOf g f → HasCalls g f
 
 -- ---- sites
 
