@@ -30,6 +30,6 @@ not_ground program typed result mono.NoMemory is too_many too_large shape = tt
 -- what is translated of a ground program means what stands there, and is well formed
 pub are_queries : TranslationLaw → (p : Program) (typed : Typed) (g : GroundProgram) → IsTyped p typed → HaveColumns p → IsGround p typed g → (all : List Translated) → AreTranslated g.program.now g all → AreQueries p g all
 are_queries law p typed g is_typed columns is all made =
-    let translated : AreTranslated p g all = subst (λ q. AreTranslated q g all) is.0.program made in
-    let meant = law p is_typed.0 typed.schemes typed.types g is.0 is.3 all translated in
-    (translated, meant, all_good p columns g all meant)
+    let translated : AreTranslated p g all = subst (λ q. AreTranslated q g all) is.grounded.program made in
+    let meant = law p is_typed.0 typed.schemes typed.types g is.grounded is.instances all translated in
+    record { translated = translated; meant = meant; good = all_good p columns g all meant }

@@ -187,7 +187,7 @@ begins_at f label n form node is =
 
 module _ (p : Program) (typed : Typed) (g : GroundProgram) (is : IsGround p typed g) where
   declared : AreDeclared g
-  declared i f at = subst (λ q. IsFunctionOf q (function_of f)) (sym is.0.program) (instance_of p is.3.shaped.instances false _ g.funs is.3.shaped.instances.mains is.3.mains i f at)
+  declared i f at = subst (λ q. IsFunctionOf q (function_of f)) (sym is.grounded.program) (instance_of p is.instances.shaped.instances false _ g.funs is.instances.shaped.instances.mains is.instances.mains i f at)
 
   pub of_sites : (queries : List Translated) → Each (IsMeant p g) queries → (c : Contents) → AreTablesOf g c.tables → AreRun c.tables.forms.tables c.defs queries c.tables.funs c.blocks → AreOfSites p g c
   of_sites queries meant c of run label i at has =

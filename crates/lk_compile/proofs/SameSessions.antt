@@ -40,7 +40,7 @@ use Rattle.lk_types.proofs.Parts.{same_some}
 use Rattle.lk_ground.specs.UsesApart.{AreUsesApart}
 use Rattle.lk_index.specs.Places.{ArePlaced}
 use Rattle.lk_compile.specs.Accepted.{IsGround}
-use Rattle.lk_compile.specs.Compiled.{AreTablesOf}
+use Rattle.lk_compile.specs.Compiled.{AreTablesOf, IsLowered}
 use Rattle.lk_compile.specs.Sessions.{ArePlacesApart, DoesAsCalled, HasSessions, code_session}
 
 -- ---- the body of label 1
@@ -104,27 +104,34 @@ module _ (calls : CallsLaw) (continues : ContinuesLaw) (enters : EntersLaw) (g :
 
 module _ (p : Program) (typed : Typed) (g : GroundProgram) (is : IsGround p typed g) where
   are_instances : AreUsesApart p → AreInstances g
-  are_instances apart = instances_lemma g p typed.schemes typed.types is.0.mains is.0.helpers is.0.program is.0.funs is.0.instances.main_bodies apart
+  are_instances apart = instances_lemma g p typed.schemes typed.types is.grounded.mains is.grounded.helpers is.grounded.program is.grounded.funs is.grounded.instances.main_bodies apart
 
-  is_table : (f : Forms) → AreForms g f → ArePlacesApart p → IsTableOf g f
+  pub is_table : (f : Forms) → AreForms g f → ArePlacesApart p → IsTableOf g f
   is_table f forms apart = record {
     forms = forms;
     instances = are_instances apart.uses;
-    placed = subst ArePlaced (sym is.0.program) apart.placed;
-    uses = subst AreUsesApart (sym is.0.program) apart.uses;
-    marks = subst AreMarksApart (sym is.0.program) apart.marks;
+    placed = subst ArePlaced (sym is.grounded.program) apart.placed;
+    uses = subst AreUsesApart (sym is.grounded.program) apart.uses;
+    marks = subst AreMarksApart (sym is.grounded.program) apart.marks;
+  }
+
+  pub is_lowered : SessionsLaw → EntersLaw → (f : Forms) → AreForms g f → IsLowered p g f
+  is_lowered sessions enters f forms = record {
+    forms = forms;
+    sessions = λ apart. sessions g f (is_table f forms apart);
+    calls = λ apart. enters g f (is_table f forms apart);
   }
 
   pub has_sessions : CallsLaw → ContinuesLaw → SessionsLaw → EntersLaw → (c : CodeTables) → AreSound c → AreTablesOf g c → HasSessions p g c
   has_sessions calls continues sessions enters c sound of =
       let forms : AreForms g c.forms = subst (AreForms g) (sym of.numbers.forms) of.forms in
-      let main = is.1.0 in
+      let main = is.keeps.0 in
       let same : ArePlacesApart p → (arg : List ℕ) (fuel : ℕ) (answers : List (List Row)) → code_session c arg fuel answers ≡ ground.session g (function_of main) arg (start fuel answers)
-      = λ apart. same_session calls continues sessions g c sound forms (is_table c.forms forms apart) main is.1.1.0 in
+      = λ apart. same_session calls continues sessions g c sound forms (is_table c.forms forms apart) main is.keeps.1.0 in
       record {
         main = main;
-        is_main = is.1.1;
+        is_main = is.keeps.1;
         same = same;
-        keeps = λ apart arg fuel answers. subst (λ (out : Out Value). MatchingOuts (Alike g) Value Value (Alike g) out (source.session p (function_of main) arg (start fuel answers))) (sym (same apart arg fuel answers)) (is.1.2 apart.placed apart.uses arg fuel answers);
+        keeps = λ apart arg fuel answers. subst (λ (out : Out Value). MatchingOuts (Alike g) Value Value (Alike g) out (source.session p (function_of main) arg (start fuel answers))) (sym (same apart arg fuel answers)) (is.keeps.2 apart.placed apart.uses arg fuel answers);
         calls = λ apart. does_as_called calls continues enters g c sound (is_table c.forms forms apart);
       }

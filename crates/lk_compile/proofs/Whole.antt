@@ -92,7 +92,7 @@ module _ (p : Program) (typed : Typed) (i : Instances) where
 
 module _ (p : Program) (typed : Typed) (g : GroundProgram) (c : CpsProgram) (bound : IsBound p) (is : IsGround p typed g) (of : AreForms g c.forms) (conts : IsContinued c) where
   source : IsTypedGround p g
-  source = record { bound = bound; instances = is.3 }
+  source = record { bound = bound; instances = is.instances }
 
   tells : Tells c.forms (info_in c)
   tells = tells_in g c of (envs_of c conts.envs (captured p g c.forms source of))
@@ -109,10 +109,10 @@ module _ (p : Program) (typed : Typed) (g : GroundProgram) (c : CpsProgram) (bou
       passes = (found_in is_main (functions_of p) (function_of f) main).1
 
       text : IsOfText f
-      text = text_first p typed is.3.shaped.instances g.funs is.3.shaped.instances.mains is.3.mains f at passes
+      text = text_first p typed is.instances.shaped.instances g.funs is.instances.shaped.instances.mains is.instances.mains f at passes
 
       plain : has_function text.answer ≡ false
-      plain = plain_answer (known.Text ∷ []) text.effects text.answer f.ty text.is (plain_main p typed g is.0 f at)
+      plain = plain_answer (known.Text ∷ []) text.effects text.answer f.ty text.is (plain_main p typed g is.grounded f at)
 
       by_funs : (funs : List GroundFun) → AreFuns c.forms 0 funs 1 0 → slice_get funs 0 ≡ Some f → HasFirst
       by_funs _ (low.no_fun wholes titles labels nodes) there = absurd (none-some f there)
@@ -137,8 +137,8 @@ module _ (p : Program) (typed : Typed) (g : GroundProgram) (c : CpsProgram) (bou
 
   pub are_whole : CountFrom 0 (all_orders c.conts) → IsTypedProgram c → IsWhole c
   are_whole order is_typed =
-      let main = is.1.0 in
-      let first = first_of main is.1.1.0 is.1.1.1 in
+      let main = is.keeps.0 in
+      let first = first_of main is.keeps.1.0 is.keeps.1.1 in
       record {
         typed = is_typed;
         order = order;

@@ -13,7 +13,7 @@ use Rattle.lk_infer.specs.declared.typed.Typed.{Typed}
 use Rattle.lk_mono.specs.Grounded.{IsGrounded}
 use Rattle.lk_mono.specs.Instanced.{HasInstances}
 use Rattle.lk_mono.specs.Instances.{AreTooMany, IsTooLarge}
-use Rattle.lk_mono.specs.Keeps.{Keeps}
+use Rattle.lk_mono.specs.Keeps.{Keeps, SameEvents}
 use Rattle.lk_mono.specs.Plain.{ShowsPlain}
 use Rattle.lk_mono.specs.Refused.{HasFault}
 use Rattle.lk_mono.specs.declared.error.MonoError.{MonoError}
@@ -43,16 +43,19 @@ IsTyped program typed = names.IsBound program × ArePrincipal program typed.sche
 -- The ground program of a program with these schemes and types: its functions at the types at which sessions use them, in
 -- shapes that can be shown, compared and run by a database. Its sessions end as those of the program, with the same fuel, steps
 -- and events, and no function stands in what these show.
-abbrev pub IsGround : Program → Typed → GroundProgram → Type 0
-IsGround program typed ground_program =
-    IsGrounded program typed.schemes typed.types ground_program × Keeps program ground_program × ShowsPlain program × HasInstances program ground_program
+pub record IsGround (program : Program) (typed : Typed) (ground_program : GroundProgram) : Type 0 where
+  pub grounded : IsGrounded program typed.schemes typed.types ground_program
+  pub keeps : Keeps program ground_program
+  pub events : SameEvents program ground_program
+  pub plain : ShowsPlain program
+  pub instances : HasInstances program ground_program
 
 -- Its queries, readings of tables, updates and deletions are these as SQL, by their labels. What a database may answer
 -- them with is what the readings may be answered with, they change rows as the text says, and they are well formed.
-abbrev pub AreQueries : Program → GroundProgram → List Translated → Type 0
-AreQueries program ground_program queries =
-    AreTranslated program ground_program queries
-    × Each (IsMeant program ground_program) queries × Each (λ (query : Translated). IsGoodCode query.code) queries
+pub record AreQueries (program : Program) (ground_program : GroundProgram) (queries : List Translated) : Type 0 where
+  pub translated : AreTranslated program ground_program queries
+  pub meant : Each (IsMeant program ground_program) queries
+  pub good : Each (λ (query : Translated). IsGoodCode query.code) queries
 
 -- it has a ground program with this SQL
 abbrev pub IsTranslated : Program → Typed → List Translated → Type 0

@@ -5,30 +5,49 @@ use Rattle.lk_ast.specs.declared.declaration.Program.{Program}
 use Rattle.lk_ast.specs.declared.place.Loc.TheVariants.{Client, Server}
 use Rattle.lk_code.specs.Running.{RunsAt}
 use Rattle.lk_code.specs.Tables.{program_in}
+use Rattle.lk_code.specs.TypedLaw.{DoesAsLabels}
 use Rattle.lk_code.specs.declared.tables.CodeTables.{CodeTables}
 use Rattle.lk_code.specs.declared.tables.Contents.{Contents}
 use Rattle.lk_defun.specs.Numbers.{AreTables}
+use Rattle.lk_ground.specs.Language.{instance}
+use Rattle.lk_ground.specs.declared.program.GroundFun.{GroundFun}
 use Rattle.lk_ground.specs.declared.program.GroundProgram.{GroundProgram}
 use Rattle.lk_infer.specs.declared.typed.Typed.{Typed}
+use Rattle.lk_ir.specs.Law.{KeepsPoints}
 use Rattle.lk_ir.specs.Orders.{CountFrom, all_orders}
 use Rattle.lk_ir.specs.declared.ir.CpsProgram.{CpsProgram}
+use Rattle.lk_ir.specs.declared.nodes.Forms.{Forms}
 use Rattle.lk_lower.specs.Lowering.{AreForms}
+use Rattle.lk_lowered.specs.Law.{HasCalls, HasSession}
 use Rattle.lk_lowered.specs.Typing.{IsContinued}
 use Rattle.lk_translate.specs.declared.translated.Translated.{Translated}
 use Rattle.lk_compile.specs.Accepted.{AreQueries, IsGround, IsTyped}
 use Rattle.lk_compile.specs.Blocks.{AreRun}
-use Rattle.lk_compile.specs.Sessions.{HasSessions}
+use Rattle.lk_compile.specs.Sessions.{ArePlacesApart, HasSessions}
 use Rattle.lk_compile.specs.Sites.{AreOfSites}
 use Rattle.lk_compile.specs.declared.compiling.Parts.{Parts}
 
--- The tables that numbers give to the table of a ground program, whose continuations keep just what is used behind them and are counted
--- one by one.
-pub record AreTablesOf (g : GroundProgram) (c : CodeTables) : Type 0 where
-  pub cps : CpsProgram
-  pub forms : AreForms g cps.forms
-  pub conts : IsContinued cps
-  pub order : CountFrom 0 (all_orders cps.conts)
+-- ---- what each pass below types keeps
+
+-- `lower`: the ground program as one table of nodes. It has the sessions of the ground program, and a call enters in it what the call goes
+-- to there.
+pub record IsLowered (p : Program) (g : GroundProgram) (f : Forms) : Type 0 where
+  pub forms : AreForms g f
+  pub sessions : ArePlacesApart p → (main : GroundFun) → instance g 0 ≡ Some main → HasSession g f main
+  pub calls : ArePlacesApart p → HasCalls g f
+
+-- `cps`: continuations that keep just what is used behind them, counted one by one. With them each point comes to the same.
+pub record HasContinuations (c : CpsProgram) : Type 0 where
+  pub conts : IsContinued c
+  pub order : CountFrom 0 (all_orders c.conts)
+  pub points : KeepsPoints c.forms c.conts
+
+-- `defun`: labels and frames by numbers. What a call enters does what its label does.
+pub record IsNumbered (cps : CpsProgram) (c : CodeTables) : Type 0 where
   pub numbers : AreTables cps c
+  pub calls : DoesAsLabels c
+
+-- ---- code
 
 -- what labels run at the server, over the tables of the program
 pub record IsFilled (p : Program) (queries : List Translated) (c : Contents) : Type 0 where
@@ -36,8 +55,9 @@ pub record IsFilled (p : Program) (queries : List Translated) (c : Contents) : T
   pub blocks : AreRun c.tables.forms.tables c.defs queries c.tables.funs c.blocks
   pub program : program_in c ≡ Some p
 
--- The code of an accepted program: the tables of its ground program, whose sessions do what the program's do, and what its labels run at
--- the server, each that of its own site. All is there that either place runs.
+-- The code of an accepted program, pass by pass: types, the ground program, its queries as SQL, its table of nodes, continuations, numbers.
+-- Together: sessions of the code do what the program's do, and each label that reads or changes tables runs the SQL of its own site. All is
+-- there that either place runs.
 pub record IsCodeOf (p : Program) (c : Contents) : Type 0 where
   pub typed : Typed
   pub is_typed : IsTyped p typed
@@ -45,7 +65,10 @@ pub record IsCodeOf (p : Program) (c : Contents) : Type 0 where
   pub is_ground : IsGround p typed ground
   pub queries : List Translated
   pub are_queries : AreQueries p ground queries
-  pub tables : AreTablesOf ground c.tables
+  pub cps : CpsProgram
+  pub lowered : IsLowered p ground cps.forms
+  pub continued : HasContinuations cps
+  pub numbered : IsNumbered cps c.tables
   pub sessions : HasSessions p ground c.tables
   pub filled : IsFilled p queries c
   pub sites : AreOfSites p ground c
@@ -57,6 +80,14 @@ pub record IsCodeOf (p : Program) (c : Contents) : Type 0 where
 -- a ground program is that of a typed program
 abbrev pub IsSource : GroundProgram → Type 0
 IsSource g = (typed : Typed) × IsTyped g.program.now typed × IsGround g.program.now typed g
+
+-- The tables that numbers give to the table of a ground program, with its continuations.
+pub record AreTablesOf (g : GroundProgram) (c : CodeTables) : Type 0 where
+  pub cps : CpsProgram
+  pub forms : AreForms g cps.forms
+  pub conts : IsContinued cps
+  pub order : CountFrom 0 (all_orders cps.conts)
+  pub numbers : AreTables cps c
 
 -- what of the code is made of a ground program with this SQL
 pub record AreGroundParts (g : GroundProgram) (queries : List Translated) (parts : Parts) : Type 0 where

@@ -5,7 +5,7 @@ use Rattle.lk_sound.specs.Instances.{IsShaped}
 use Rattle.lk_cli.proofs.top.answer_source.Goals as goal
 
 pub answer_session-requires-clause-shaped : goal.answer_session-requires-clause-shaped
-answer_session-requires-clause-shaped g c = subst IsShaped (sym c.program.ensures.same) c.in-Ok.ensures.accepted.1.1.3.shaped
+answer_session-requires-clause-shaped g c = subst IsShaped (sym c.program.ensures.same) c.in-Ok.ensures.accepted.1.1.instances.shaped
 
 pub answer_session-requires-clause-named : goal.answer_session-requires-clause-named
 answer_session-requires-clause-named g c = rw c.as_str.ensures at c.ready-picked.ensures.named

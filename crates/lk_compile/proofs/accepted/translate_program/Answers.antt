@@ -12,5 +12,5 @@ returns-in_err-ground-clause-refused c =
 
 pub returns-clause-made : goal.returns-clause-made
 returns-clause-made c =
-    let is : IsGround c.args.program.now c.args.typed.now c.in_ok-ground.ground = (c.in_ok-ground.ensures.grounded, c.in_ok-ground.ensures.keeps, c.in_ok-ground.ensures.plain, c.in_ok-ground.ensures.instances) in
+    let is : IsGround c.args.program.now c.args.typed.now c.in_ok-ground.ground = record { grounded = c.in_ok-ground.ensures.grounded; keeps = c.in_ok-ground.ensures.keeps; events = c.in_ok-ground.ensures.events; plain = c.in_ok-ground.ensures.plain; instances = c.in_ok-ground.ensures.instances } in
     (c.in_ok-ground.ground, is, are_queries c.translate_laws.ensures.translated c.args.program.now c.args.typed.now c.in_ok-ground.ground c.requires.typed c.requires.columns is c.in_ok-translate.field-0 c.in_ok-translate.ensures.translated)

@@ -22,7 +22,7 @@ returns-clause-code c =
     let typed = c.in_ok-typed.typed in
     let same = c.in_ok-scoped.ensures.same in
     let of : AreParts p typed c.in_ok-parts.parts = subst (λ p. AreParts p typed c.in_ok-parts.parts) same c.in_ok-parts.ensures.parts in
-    is_code c.session_laws.ensures.stands p typed c.in_ok-parts.parts c.into_program.result c.whole.result
+    is_code c.session_laws.ensures.stands c.session_laws.ensures.calls c.session_laws.ensures.continues c.session_laws.ensures.same c.session_laws.ensures.enters p typed c.in_ok-parts.parts c.into_program.result c.whole.result
     (subst (λ p. IsTyped p typed) same (subst IsBound (sym same) c.in_ok-scoped.ensures.bound, c.in_ok-typed.ensures.principal, c.in_ok-typed.ensures.types, c.in_ok-typed.ensures.in_order))
     of (has_sessions p typed of.ground of.is_ground c.session_laws.ensures.calls c.session_laws.ensures.continues c.session_laws.ensures.same c.session_laws.ensures.enters c.in_ok-parts.parts.code.tables c.whole.ensures.sound of.are.tables)
     c.whole.ensures.sound (c.into_program.ensures.same ∙ same) c.whole.ensures.whole

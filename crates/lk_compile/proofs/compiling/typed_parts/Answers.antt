@@ -16,7 +16,7 @@ ground_parts-requires c =
     let g = c.in_ok-ground.ground in
     let typed = c.args.typed.now in
     let same = c.in_ok-ground.ensures.grounded.program in
-    let is : IsGround p typed g = (c.in_ok-ground.ensures.grounded, c.in_ok-ground.ensures.keeps, c.in_ok-ground.ensures.plain, c.in_ok-ground.ensures.instances) in
+    let is : IsGround p typed g = record { grounded = c.in_ok-ground.ensures.grounded; keeps = c.in_ok-ground.ensures.keeps; events = c.in_ok-ground.ensures.events; plain = c.in_ok-ground.ensures.plain; instances = c.in_ok-ground.ensures.instances } in
     record { source = (typed, subst (λ q. IsTyped q typed) (sym same) c.requires.typed, subst (λ q. IsGround q typed g) (sym same) is) }
 
 pub returns-clause-parts : goal.returns-clause-parts
@@ -24,7 +24,7 @@ returns-clause-parts c =
     let p = c.args.program.now in
     let g = c.in_ok-ground.ground in
     let typed = c.args.typed.now in
-    let is : IsGround p typed g = (c.in_ok-ground.ensures.grounded, c.in_ok-ground.ensures.keeps, c.in_ok-ground.ensures.plain, c.in_ok-ground.ensures.instances) in
+    let is : IsGround p typed g = record { grounded = c.in_ok-ground.ensures.grounded; keeps = c.in_ok-ground.ensures.keeps; events = c.in_ok-ground.ensures.events; plain = c.in_ok-ground.ensures.plain; instances = c.in_ok-ground.ensures.instances } in
     record {
       ground = g;
       is_ground = is;

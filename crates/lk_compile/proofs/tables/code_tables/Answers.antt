@@ -12,7 +12,7 @@ defun-requires c =
     let p = g.program.now in
     let program = c.in_ok-program.program in
     let has = c.in_ok-program.ensures in
-    let source : IsTypedGround p g = record { bound = c.requires.source.1.0; instances = c.requires.source.2.3 } in
+    let source : IsTypedGround p g = record { bound = c.requires.source.1.0; instances = c.requires.source.2.instances } in
     let forms : AreForms g program.forms = subst (AreForms g) (sym has.forms) c.in_ok-table.ensures.lowered in
     let conts : IsContinued program = record {
       named = subst (λ f. AreNamed f program.conts) (sym has.forms) has.named;
