@@ -134,22 +134,22 @@ comes_to e b steps left = session (alone e) (alone_main e) (codes "ann") (start 
 -- `true && false`: both sides are evaluated
 pub and_both : comes_to (at_zero (node.And (bool true) (bool false))) false 3 7
 unfolding eval_to
-and_both = simp (node.outs-And, node.outs-Bool)
+and_both = simp (node.outs-And, node.outs-Bool, value.outs-Base)
 
 -- `false && true`: the right side isn't entered
 pub and_left : comes_to (at_zero (node.And (bool false) (bool true))) false 2 8
 unfolding eval_to
-and_left = simp (node.outs-And, node.outs-Bool)
+and_left = simp (node.outs-And, node.outs-Bool, value.outs-Base)
 
 -- `true || false`: the right side isn't entered
 pub or_left : comes_to (at_zero (node.Or (bool true) (bool false))) true 2 8
 unfolding eval_to
-or_left = simp (node.outs-Or, node.outs-Bool)
+or_left = simp (node.outs-Or, node.outs-Bool, value.outs-Base)
 
 -- `false || true`: both sides are evaluated
 pub or_both : comes_to (at_zero (node.Or (bool false) (bool true))) true 3 7
 unfolding eval_to
-or_both = simp (node.outs-Or, node.outs-Bool)
+or_both = simp (node.outs-Or, node.outs-Bool, value.outs-Base)
 
 -- ---- tables
 
