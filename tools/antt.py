@@ -1,7 +1,7 @@
-"""Reads .antt files for other scripts here: what a file imports and defines, and which definitions a text of it names.
+"""Reads .antt files for other scripts here, which import it: what a file defines and imports, and what a word of it is.
 
-Names are resolved as the files import them (`use M.{a, b as c}`, `use M as m`), and a name that a text binds itself, as a
-parameter, by λ or let, or as a variable of a pattern, names nothing. What a binder binds is bound up to the end of its brackets.
+A definition is an abbreviation, a function, a record, a data family or a lemma. Words are resolved as files import them
+(`use M.{a, b as c}`, `use M as m`): a constructor is its family, a type of the code (`specs.declared`) a text, what is std's nothing.
 """
 
 import collections
@@ -12,17 +12,17 @@ import re
 Definition = collections.namedtuple("Definition", "path line name kind sections parts")
 
 
-class Parts(list):
-    """Lines of a definition, which is told from others without them."""
-
-    __hash__ = object.__hash__
-
-
 USE = re.compile(r"^\s*(?:ghost )?use ([^\s{;]+?)(?:\.\{([^}]*)\}| as ([^\s;]+));?\s*$", re.M)
 HEAD = re.compile(r"^((?:(?:abbrev|unfoldable|opaque|pub|record|data) )*)([^\s(){}:]+)(?=[\s:]|$)")
 TOKEN = re.compile(r"[(){};,]|[^\s(){};,]+")
 MEMBER = re.compile(r"^\s*(?:pub )?([^\s(){}:]+)(?= [:({])")
 COMMENT = re.compile(r"(^|\s)--(\s.*)?$")
+
+
+class Parts(list):
+    """Lines of a definition, which is told from others without them."""
+
+    __hash__ = object.__hash__
 
 
 @functools.cache
@@ -54,14 +54,14 @@ def spelt(name):
     return [word for word in name.split("◌") if word]
 
 
-def without_colons(line):
-    """Whether a line without a word of its own states something: a colon outside of brackets comes before any `=`."""
+def states(line):
+    """Whether a line has a name's type, and no equation: outside of brackets a colon comes before any `=`."""
     depth = 0
     for token in TOKEN.findall(line):
         depth += (token in "({") - (token in ")}")
         if depth == 0 and token in (":", "="):
-            return token == "="
-    return True
+            return token == ":"
+    return False
 
 
 @functools.cache
@@ -86,7 +86,7 @@ def definitions(path):
             continue
         inner, last = sections[-1][0] if sections else 0, found[-1] if found else None
         head = HEAD.match(line[inner:]) if indent == inner else None
-        if head and (not last or head[1] or head[2] != last.name) and (head[1] or not without_colons(line)):
+        if head and (not last or head[1] or head[2] != last.name) and (head[1] or states(line)):
             kind = " ".join(word for word in head[1].split() if word != "pub") or "lemma"
             found.append(Definition(path, at, head[2], kind, " ".join(it[1] for it in sections), Parts([line])))
         elif last and (indent == inner or indent == inner + 2 and last.kind in ("record", "data") and MEMBER.match(line)):
@@ -134,77 +134,3 @@ def resolve(path, token):
             return None
         return there(module, name or words[1])
     return by_name(path).get(words[0]) if path.endswith(".antt") else None
-
-
-def until(tokens, end):
-    """The names before a colon, or before the point behind the last variable of a λ; none where there is something else."""
-    group = []
-    for token in tokens:
-        if end == ":" and token == end:
-            return group
-        if end == "." and token.endswith("."):
-            return [*group, token[:-1]]
-        if token in ("(", ")", "}", ",", ";", "→", "="):
-            return []
-        group.append(token)
-    return []
-
-
-def names(path, text, bound=()):
-    """What a text of a file takes from outside of itself, as words with what they name, and what it binds outside of brackets."""
-    tokens = TOKEN.findall(re.sub(r'"[^"]*"', '""', text))
-    levels, binds, found, after = [set(bound)], [], [], 0
-    for at, token in enumerate(tokens):
-        if at < after:
-            continue
-        if token in ("(", "{"):
-            binds.append(until(tokens[at + 1 :], ":"))
-            levels.append(set())
-            after = at + 1 + len(binds[-1])
-        elif token in (")", "}") and binds:
-            levels.pop()
-            levels[-1] |= set(binds.pop())
-        elif token == ";":
-            levels[-1] = set()
-        elif token == "λ":
-            group = until(tokens[at + 1 :], ".")
-            levels[-1] |= set(group)
-            after = at + 1 + len(group)
-        elif token == "let":
-            levels[-1].add(tokens[at + 1])
-        elif tokens[at + 1 : at + 2] == ["="] and tokens[at - 1] in ("{", ";") or token[0] in ".,)}":
-            continue
-        elif not any(token.split(".")[0] in level for level in levels):
-            found.append((token, resolve(path, token)))
-    return found, levels[0]
-
-
-def equation(path, text, bound):
-    """What an equation names: constructors on its left side, anything on its right one, where the left one's variables are bound."""
-    tokens, depth, constructors, variables = TOKEN.findall(text), 0, [], set(bound)
-    for at, token in enumerate(tokens):
-        depth += (token in "({") - (token in ")}")
-        if token == "=" and depth == 0:
-            return constructors + names(path, " ".join(tokens[at + 1 :]), variables)[0]
-        found = resolve(path, token)
-        if isinstance(found, str) or found and (tokens[at - 1] == "(" or "." in token or token[0].isupper()):
-            constructors.append((token, found))
-        elif at:
-            variables.add(token)
-    return names(path, text, bound)[0]
-
-
-@functools.cache
-def named_by(it):
-    """The words of a definition that name something, each with what it names."""
-    found, bound = names(it.path, it.sections)
-    head, inside = names(it.path, it.parts[0].split(it.name, 1)[1], bound)
-    found = found + head
-    if it.kind in ("record", "data"):
-        fields = [MEMBER.match(part)[1] for part in it.parts[1:]] if it.kind == "record" else []
-        for part in it.parts[1:]:
-            found += names(it.path, part[MEMBER.match(part).end() :], inside | set(fields))[0]
-    else:
-        for part in it.parts[1:]:
-            found += equation(it.path, part, bound)
-    return [(word, thing) for word, thing in found if thing is not None and thing != it]

@@ -14,7 +14,8 @@ import collections
 import re
 import sys
 
-from antt import Definition, named_by, names, text_of
+from antt import Definition, text_of
+from naming import named_by, names
 
 
 def clause_of(path, function, clause):
