@@ -1,6 +1,5 @@
 -- Names that are filled in from the last one to the first, and their look-ups.
-use Rattle.std.proofs.Common.{arith, ◌≡◌, ℕ, zero, suc, ◌+◌, ◌-◌, ◌<◌, ◌≤◌, Bool, true, false, List, [], ◌∷◌, ◌++◌, Option, Some, None, bytes_eq, if◌then◌else◌, map, drop, take, length, get_or, refl, sym, ap, ap₂, ◌∙◌}
-use Rattle.std.proofs.Math.Seq.{drop-cons}
+use Rattle.std.proofs.Common.{arith, ◌≡◌, ℕ, zero, suc, ◌+◌, ◌<◌, Bool, true, false, List, [], ◌∷◌, ◌++◌, Option, Some, None, bytes_eq, if◌then◌else◌, map, take, length, refl, sym, ap, ◌∙◌}
 use Rattle.std.specs.Borrow.{Bor}
 use Rattle.std.specs.Option.{option_copied}
 use Rattle.lk_bodies.specs.Captured.{bound_parts}
@@ -19,13 +18,6 @@ copied_or false t found others same = same
 pub named_typed : (x : Label) (entries : Named (Bor Ground)) → option_copied (named x entries) ≡ named x (typed entries)
 named_typed x [] = refl
 named_typed x (entry ∷ entries) = copied_or (bytes_eq entry.0 x) entry.1 (named x entries) (named x (typed entries)) (named_typed x entries)
-
--- what is left from one before on
-pub left_before : {A : Type 0} (xs : List A) (i : ℕ) (x : A) → 0 < i → i ≤ length xs → x ≡ get_or xs (i - 1) x → drop (i - 1) xs ≡ x ∷ drop i xs
-left_before xs i x some within is =
-    let one_more : suc (i - 1) ≡ i = omega (arith, some) in
-    let below : i - 1 < length xs = omega (arith, some, within) in
-    drop-cons xs (i - 1) x below ∙ ap₂ (λ y j. y ∷ drop j xs) (sym is) one_more
 
 -- ---- a part for each name
 

@@ -1,5 +1,5 @@
 -- Tables that are scanned one after the other, and what a session makes of them.
-use Rattle.std.proofs.Common.{◌≡◌, ◌∙◌, refl, sym, ap, subst, inl, inr, true, ℕ, List, [], ◌∷◌, ◌++◌, map}
+use Rattle.std.proofs.Common.{◌≡◌, ◌∙◌, refl, ap, subst, inr, true, ℕ, List, [], ◌∷◌, ◌++◌, map}
 use Rattle.std.specs.Prelude.{Option, Some, None, option_map, IfSome, Result, Ok, Err, IfOk}
 use Rattle.std.specs.List.{AllZip}
 use Rattle.lk_ast.specs.Tables.{Tables, all_fit, rows_of, table_defs}
@@ -9,9 +9,7 @@ use Rattle.lk_ast.specs.declared.table.TableDef.{TableDef}
 use Rattle.lk_ast.specs.declared.table.TableRows.{TableRows}
 use Rattle.lk_outside.specs.Causes.{next_count}
 use Rattle.lk_outside.specs.declared.fault.OutFault.{OutFault}
-use Rattle.lk_outside.specs.declared.fault.OutFault.TheVariants.{Failed, NoMemory}
-use Rattle.lk_sem.specs.SourceRuns.{HasBegunSession, IsRun, commits_after}
-use Rattle.lk_sem.specs.declared.run.SourceRun.{SourceRun}
+use Rattle.lk_sem.specs.SourceRuns.{IsRun, commits_after}
 use Rattle.lk_sound.specs.Histories.{HasAnswer, HasHistory, KeepsOthers}
 use Rattle.lk_sound.specs.Tables.{table_at}
 use Rattle.lk_types.specs.Each.{Each}
@@ -95,15 +93,6 @@ told_others program loaded None new others x none = tt
 told_others program loaded (Some old) None others x none = tt
 told_others program loaded (Some old) (Some new) others x none = others x none ∙ unloaded program loaded old x none
 
-keeps_itself : (program : Program) (told : Option Tables) → KeepsOthers program told told
-keeps_itself program None x none = tt
-keeps_itself program (Some tables) x none = refl
-
--- before the rows were loaded
-pub left_before : (program : Program) (command : SourceCommand) (loaded : List TableRows) (old new : Option Tables) (before after : ℕ) (fault : OutFault) → new ≡ old → after ≡ before
-    → AreLeft program command loaded fault old new before after
-left_before program command loaded old new before after fault is none = record { become = inl (is, none); others = subst (KeepsOthers program old) (sym is) (keeps_itself program old) }
-
 -- afterwards
 pub left_over : (program : Program) (command : SourceCommand) (loaded : List TableRows) (old between new : Option Tables) (before middle after : ℕ) (fault : OutFault)
     → between ≡ option_map (loaded_over (table_defs program) loaded) old → middle ≡ next_count before
@@ -112,13 +101,6 @@ left_over program command loaded old between new before middle after fault is on
   become = inr (subst (λ told. BreaksOff program command fault told new (next_count before) after) is (subst (λ count. BreaksOff program command fault between new count after) one breaks));
   others = told_others program loaded old new (subst (λ told. KeepsOthers program told new) is others);
 }
-
--- at the end of a run
-pub breaks_behind : (program : Program) (command : SourceCommand) (run : SourceRun) (fault : OutFault) (loaded new : Option Tables) (before after : ℕ)
-    → IsRun program command.arg command.fuel new run → Each (HasAnswer program) run.log → HasBegunSession program command.arg command.fuel run.log → HasHistory program loaded new run.log
-    → after ≡ commits_after run.log before → BreaksOff program command fault loaded new before after
-breaks_behind program command run Failed loaded new before after is answered begun history committed = (run, is, answered, history, committed)
-breaks_behind program command run NoMemory loaded new before after is answered begun history committed = (run.log, begun, answered, history, committed)
 
 -- ---- fits
 

@@ -1,6 +1,6 @@
 -- The answers of stages as those of the whole.
 use Rattle.std.proofs.Common.{◌≡◌, ◌≤◌, ◌⊎◌, refl, sym, ap, subst, inl, inr, ℕ, List, Result, Ok, Err, arith, bytes_eq, find}
-use Rattle.std.specs.Prelude.{Option, Some, None, IfErr, IfOk, IfSome, IsErrAnd, IsSome, IsSomeAnd, option_map}
+use Rattle.std.specs.Prelude.{Option, Some, None, IfErr, IfOk, IfSome, IsSome, IsSomeAnd, option_map}
 use Rattle.lk_ast.specs.Tables.{Tables, table_defs}
 use Rattle.lk_ast.specs.declared.declaration.Program.{Program}
 use Rattle.lk_ast.specs.declared.table.TableDef.{TableDef}
@@ -9,7 +9,7 @@ use Rattle.lk_outside.specs.Causes.{HasCause, Rose}
 use Rattle.lk_outside.specs.Files.{Contents}
 use Rattle.lk_outside.specs.declared.fault.OutFault.{OutFault}
 use Rattle.lk_outside.specs.declared.fault.OutFault.TheVariants.{Failed, NoMemory}
-use Rattle.lk_cli.specs.Answers.{Answers, AnswersSession, HasBrokenOff, HasNoRows, IsAcceptedOf, IsHandedBack, IsSessionOver, RefusedBy, TellsReads, answer_of}
+use Rattle.lk_cli.specs.Answers.{Answers, AnswersSession, HasBrokenOff, HasNoRows, IsAcceptedOf, IsHandedBack, IsSessionOver, TellsReads, answer_of}
 use Rattle.lk_cli.specs.Loading.{AreLeft, AreLoaded}
 use Rattle.lk_cli.specs.Seen.{CameBack, FilesSeen, StoreSeen, StoresSeen, picked_seen, store_seen, stores_seen}
 use Rattle.lk_words.specs.Words.{store_of}
@@ -19,15 +19,8 @@ use Rattle.lk_cli.specs.declared.answer.Done.{Done}
 use Rattle.lk_cli.specs.declared.answer.Refusal.{Refusal}
 use Rattle.lk_cli.specs.declared.answer.Refusal.TheVariants as refused
 use Rattle.lk_words.specs.declared.command.Command.{Command}
-use Rattle.lk_words.specs.declared.command.Command.TheVariants.{Check, Labels, Source, Sql}
+use Rattle.lk_words.specs.declared.command.Command.TheVariants.{Source}
 use Rattle.lk_words.specs.declared.command.SourceCommand.{SourceCommand}
-
--- ---- errors
-
--- what holds of an error holds of the answer that hands it on
-pub handed_on : {T E : Type 0} (P : E → Type 0) (answer : Result T E) (error : E) → IsErrAnd answer (λ given. given ≡ error) → P error → IfErr answer P
-handed_on P (Ok x) error is holds = absurd is
-handed_on P (Err given) error is holds = subst P (sym is) holds
 
 -- ---- the store
 
@@ -159,14 +152,6 @@ whole_answer contents between failed before middle after same le stores command 
     (subst (λ c. AnswersSession (record { contents = c; failed = failed; before = middle; after = after }) stores command program answer) same is)
 
 -- ---- the words
-
--- where memory ran out before the words were read, that is an answer to any
-pub unread : (files : FilesSeen) (stores : StoresSeen) (form : Option Command) → stores.back ≡ None → files.after ≡ files.before → RefusedBy files stores form refused.NoMemory
-unread files stores None back same = (back, tt)
-unread files stores (Some (Check command)) back same = (back, inl tt)
-unread files stores (Some (Sql command)) back same = (back, inl tt)
-unread files stores (Some (Labels command)) back same = (back, inl tt)
-unread files stores (Some (Source command)) back same = inl (refl, back, same)
 
 -- an answer to a command is one to the words that have its form
 pub form_answer : {S : Type 0} (files : FilesSeen) (name : S → List ℕ) (tables : S → Option Tables) (commits faults : S → ℕ) (stores : List S) (back : Option S) (command form : Option Command) (answer : Result Answer Refusal)

@@ -2,7 +2,7 @@
 use Rattle.std.proofs.Common.{◌≡◌, ◌↔◌, inl, inr, refl, sym, ap, subst, ◌∙◌, ℕ, ◌+◌, ◌<◌, ◌≤◌, true, false, IsTrue, IfSome, ◌-◌, List, [], ◌∷◌, Option, Some, None, drop, length, slice_index_or, slice_get, arith}
 use Rattle.std.proofs.lemmas.Bool.{cases_lt}
 use Rattle.std.proofs.lemmas.List.{drop_all, drop_more, length-drop}
-use Rattle.std.proofs.lemmas.Option.{none-some, slice_get_read, slice_get_within}
+use Rattle.std.proofs.lemmas.Option.{slice_get_read, slice_get_within}
 use Rattle.std.specs.Prelude.{◌⊎◌, Bool}
 use Rattle.lk_ast.specs.declared.place.Loc.{Loc}
 use Rattle.lk_ast.specs.declared.value.Field.{Field}
@@ -126,13 +126,6 @@ module _ (c : CodeTables) where
   no_return f (g ∷ gs) None some chained = chained.1.3
   no_return f (g ∷ gs) (Some t) some chained = chained.3
 
-  -- what is told of the first one
-  first_told : (f : Frame) (fs : List Frame) (wanted : Option Ground) → ChainFits c (f ∷ fs) wanted → (info : FrameInfo) × (frame_info c f.number ≡ Some info) × Wants info wanted
-  first_told f [] None chained = (chained.1.0, chained.1.1, tt)
-  first_told f [] (Some t) chained = (chained.0, chained.1, chained.2)
-  first_told f (g ∷ gs) None chained = (chained.1.0, chained.1.1, tt)
-  first_told f (g ∷ gs) (Some t) chained = (chained.0, chained.1, chained.2)
-
   module _ {P : Type 0} (frames : List Frame) (i : ℕ) (wanted : Option Ground) (so_far : ChainFits c (drop i frames) wanted ↔ P) (f : Frame) (within : i < length frames) (f_is : f ≡ slice_index_or frames i f) where
     abbrev rest : List Frame
     rest = drop (i + 1) frames
@@ -143,12 +136,7 @@ module _ (c : CodeTables) where
     begins : ChainFits c (f ∷ rest) wanted → P
     begins chained = so_far.0 (subst (λ fs. ChainFits c fs wanted) (sym (next_is frames i f within f_is)) chained)
 
-    pub chain_unknown : frame_info c f.number ≡ None → IsTrue false ↔ P
-    chain_unknown unknown = refused (λ p. let told = first_told f rest wanted (first_of p) in none-some told.0 (sym unknown ∙ told.1))
-
     module _ (info : FrameInfo) (is : frame_info c f.number ≡ Some info) where
-      pub chain_unwanted : (Wants info wanted → ⊥) → IsTrue false ↔ P
-      chain_unwanted other = refused (λ p. let told = first_told f rest wanted (first_of p) in other (subst (λ (it : FrameInfo). Wants it wanted) (same_some (sym told.1 ∙ is)) told.2))
 
       module _ (wants : Wants info wanted) where
         pub chain_last : (b : Bool) → length frames ≤ i + 1 → (IsTrue b ↔ (f.number < first_frame c)) → IsTrue b ↔ P
@@ -159,9 +147,6 @@ module _ (c : CodeTables) where
         module _ (before : i + 1 ≡ length frames → ⊥) where
           some : rest ≡ [] → ⊥
           some over = let left : length frames - (i + 1) ≡ 0 = sym (length-drop (i + 1) frames) ∙ ap length over in before (omega (arith, left, within))
-
-          pub chain_returned : (f.number < first_frame c) → IsTrue false ↔ P
-          chain_returned return = refused (λ p. let more = no_return f rest wanted some (first_of p) in let wrong : ⊥ = omega (arith, more, return) in wrong)
 
           pub chain_more : ((f.number < first_frame c) → ⊥) → AreChained c rest info.result ↔ P
           chain_more later = let goes = goes_behind f rest info wanted is wants some (let e : first_frame c ≤ f.number = omega (arith, later) in e) in (λ chained. begins (goes.1 chained), λ p. goes.0 (first_of p))

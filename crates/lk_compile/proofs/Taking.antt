@@ -1,5 +1,5 @@
 -- What labels take of what is translated, and the tables that they change.
-use Rattle.std.proofs.Common.{◌≡◌, ◌==◌, ◌⊎◌, inl, inr, refl, sym, ap, subst, ◌∙◌, ℕ, zero, suc, ◌+◌, ◌<◌, ◌≤◌, Bool, true, List, [], ◌∷◌, ◌++◌, append-nil, append_assoc, length, reverse, slice_get, Option, Some, find, bytes_eq, arith}
+use Rattle.std.proofs.Common.{◌≡◌, ◌==◌, ◌⊎◌, inl, inr, refl, sym, ap, subst, ◌∙◌, ℕ, zero, suc, ◌+◌, ◌<◌, ◌≤◌, Bool, true, List, [], ◌∷◌, ◌++◌, append_assoc, length, reverse, slice_get, Option, Some, find, bytes_eq, arith}
 use Rattle.std.proofs.lemmas.Bool.{cases_lt, eqb-true}
 use Rattle.std.proofs.lemmas.List.{length-append, reverse-append}
 use Rattle.std.proofs.lemmas.Option.{slice_get_within}
@@ -59,8 +59,6 @@ get_last [] x = refl
 get_last (y ∷ xs) x = get_last xs x
 
 module _ (touched : List Touched) (defs : List TableDef) (queries : List Translated) (funs : List FunInfo) where
-  pub none_run : AreRunSoFar touched defs queries funs 0 [] (reverse queries)
-  none_run = record { counted = refl; each = λ label i below. absurd (omega arith); rest = ([], sym (append-nil (reverse queries))) }
 
   pub one_more_run : (n : ℕ) (blocks grown : List (Option BlockCode)) (left less : List Translated) (i : FunInfo) (found : Option BlockCode) → AreRunSoFar touched defs queries funs n blocks left → slice_get funs n ≡ Some i
       → OfAll left (λ all. Runs touched defs all n i.kind found) → Takes left less → grown ≡ blocks ++ found ∷ [] → AreRunSoFar touched defs queries funs (n + 1) grown less

@@ -12,9 +12,6 @@ use Rattle.lk_ground.specs.declared.program.GroundProgram.{GroundProgram}
 
 -- ---- what the kinds of values show
 
-base_in_of_base : (b : Base) → ◌≡◌ {A = Option Base} (base_in (value.Base b)) (Some b)
-base_in_of_base b = simp (value.outs-Base)
-
 base_in_of_list : (vs : List Value) → ◌≡◌ {A = Option Base} (base_in (value.List vs)) (None)
 base_in_of_list vs = simp (value.outs-List)
 

@@ -129,9 +129,6 @@ module _ (p : Program) (i : Instances) (tables : Tables) (calls : List ℕ → L
 
     -- ---- literals
 
-    nothing_left : {ts : List Ground} → ts ≡ [] → Parts ts [] → Parts [] []
-    nothing_left same are = subst (λ ts. Parts ts []) same are
-
     pub int_arm : (number : ℤ) (ts : List Ground) (t : Ground) → layer e ≡ Node-F.Int number → By (operator.Literal kind.Int) ts t → Parts ts [] → Makes t
     int_arm number _ _ is rule.literal are =
         leaf_made p i tables calls makes e locals numbers s q have known.Int (part.Lit (base.Int number)) (walk_form makes e (Node-F.Int number) is numbers s) are.left are.ordered tt

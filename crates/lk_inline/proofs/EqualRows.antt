@@ -1,5 +1,5 @@
 -- That records are equal at each label stands for that they are the same.
-use Rattle.std.proofs.Common.{◌≡◌, refl, sym, ap, ap₂, subst, ◌∙◌, Bool, true, false, not, ◌&&◌, List, [], ◌∷◌, map, Option, Some, None, inl, inr, if◌then◌else◌, bytes_eq}
+use Rattle.std.proofs.Common.{◌≡◌, refl, sym, ap, ap₂, subst, ◌∙◌, Bool, true, false, ◌&&◌, List, [], ◌∷◌, map, Option, Some, None, inl, inr, if◌then◌else◌, bytes_eq}
 use Rattle.std.specs.Bool.{⊤}
 use Rattle.std.specs.List.{list_all}
 use Rattle.std.specs.Ordering.{is_eq}
@@ -34,8 +34,6 @@ use Rattle.lk_sound.proofs.TableRows.{cell_fields, bytes_itself}
 use Rattle.lk_sound.specs.Instances.{Instances}
 use Rattle.lk_sound.specs.Values.{Fits, FieldsFit, field}
 use Rattle.lk_sql.specs.Meaning.{cell_in}
-use Rattle.lk_sql.specs.Operations.{operation, truth}
-use Rattle.lk_sql.specs.declared.tree.SqlOp.TheVariants as op
 use Rattle.lk_types.specs.Each.{OneOf}
 use Rattle.lk_types.specs.Rows.{Label}
 use Rattle.lk_types.specs.declared.ground.Ground.TheVariants as known
@@ -161,9 +159,3 @@ module _ (p : Program) (i : Instances) where
       → Stands known.Bool (value_of (operated (Node-F.Eq a b) (v ∷ w ∷ []))) (of_base (equal_rows (labels (columns_of t)) g.row h.row))
   equal_rows_stand a b t is v w g h one other first second =
       base_stands known.Bool _ (equal_rows (labels (columns_of t)) g.row h.row) bool_is (ap value.Base (rows_same t is v w g h one other first second))
-
-  pub other_rows_stand : (a b : Expr) (t : Ground) → is_flat_row t ≡ true → (v w : Value) (g h : Given) → Fits p i v t → Fits p i w t → Stands t v g → Stands t w h
-      → Stands known.Bool (value_of (operated (Node-F.Ne a b) (v ∷ w ∷ []))) (of_base (operation op.Not (equal_rows (labels (columns_of t)) g.row h.row ∷ [])))
-  other_rows_stand a b t is v w g h one other first second =
-      base_stands known.Bool _ (operation op.Not (equal_rows (labels (columns_of t)) g.row h.row ∷ [])) bool_is
-      (ap (λ b. value.Base (base.Bool (not (truth b)))) (rows_same t is v w g h one other first second))

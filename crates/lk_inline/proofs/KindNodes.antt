@@ -2,7 +2,7 @@
 use Rattle.std.proofs.Common.{List, [], ◌∷◌}
 use Rattle.lk_inline.specs.KindsOfTypes.{IsInOrder}
 use Rattle.lk_sites.specs.Pending.{Pending}
-use Rattle.lk_sites.specs.Takes.{Takes, called, none, other}
+use Rattle.lk_sites.specs.Takes.{Takes, called, other}
 use Rattle.lk_sound.specs.Nodes.{TypedNode, Use}
 use Rattle.lk_types.specs.Each.{Each}
 
@@ -15,9 +15,3 @@ pub taken_in_order : (helpers : List Use) (nodes : List TypedNode) (p q : Pendin
 taken_in_order helpers [] p q takes order = tt
 taken_in_order helpers (node ∷ nodes) _ q (other is rest) order = (order.0, taken_in_order helpers nodes _ q rest order.1)
 taken_in_order helpers (node ∷ nodes) _ q (called is at rest) order = (order.0, taken_in_order helpers nodes _ q rest order.1)
-
--- and so have those behind them
-pub left_in_order : (helpers : List Use) (nodes : List TypedNode) (p q : Pending) → Takes helpers nodes p q → Each IsInOrder p.types → Each IsInOrder q.types
-left_in_order helpers [] _ q none order = order
-left_in_order helpers (node ∷ nodes) _ q (other is rest) order = left_in_order helpers nodes _ q rest order.1
-left_in_order helpers (node ∷ nodes) _ q (called is at rest) order = left_in_order helpers nodes _ q rest order.1

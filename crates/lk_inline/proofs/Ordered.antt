@@ -324,11 +324,6 @@ called_keeps helpers (suc n) h numbers parts within ordered = entered_keeps (cal
 
 -- ---- what is walked at the start: a part for each name
 
-bound_only : (names : List Label) (n : ℕ) (x : Part) → slice_get (bound_parts names) n ≡ Some x → part.Bound ≡ x
-bound_only [] n x is = let wrong : None ≡ Some x = is in absurd cc
-bound_only (name ∷ names) zero x is = let same : Some part.Bound ≡ Some x = is in cc
-bound_only (name ∷ names) (suc n) x is = bound_only names n x is
-
 pub numbered_below : (names : List Label) (first n : ℕ) → first + length (bound_parts names) ≤ n → NamesBelow n (numbered first names)
 numbered_below [] first n le = tt
 numbered_below (name ∷ names) first n le = (omega (arith, le), numbered_below names (first + 1) n (omega (arith, le)))
@@ -341,10 +336,6 @@ module _ (helpers : List GroundFun) (n : ℕ) (names : List Label) (s : State) w
   one_ordered e is =
       let same : length s.parts ≡ length (bound_parts names) = ap length is in
       walk_keeps (called helpers n) (called_keeps helpers n) e (numbered 0 names) s (numbered_below names 0 (length s.parts) (omega (arith, same))) (subst AreOrdered (sym is) (bound_ordered names))
-
-  all_walk : (es : List Expr) → Each KeepsOrder (map (walk (called helpers n)) es)
-  all_walk [] = tt
-  all_walk (e ∷ es) = (walk_keeps (called helpers n) (called_keeps helpers n) e, all_walk es)
 
   all_set : (sets : List PartExpr) → Each KeepsOrder (map (λ (set : PartExpr). walk (called helpers n) set.expr) sets)
   all_set [] = tt

@@ -73,10 +73,6 @@ pub walks_of_fields : (makes : Calls) (items : List PartExpr) → map (λ item. 
 walks_of_fields makes [] = refl
 walks_of_fields makes (item ∷ items) = ap (λ walks. walk makes item.expr ∷ walks) (walks_of_fields makes items)
 
--- several, and then another one
-with_last : Several → Walk → Named ℕ → Several
-with_last m w names = record { numbers = m.numbers ++ (w names m.state).part ∷ []; state = (w names m.state).state }
-
 pub all_last : (walks : List Walk) (w : Walk) (names : Named ℕ) (s : State) → all (walks ++ w ∷ []) names s ≡ record { numbers = (all walks names s).numbers ++ (w names (all walks names s).state).part ∷ []; state = (w names (all walks names s).state).state }
 all_last [] w names s = refl
 all_last (v ∷ walks) w names s =

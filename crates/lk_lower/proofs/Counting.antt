@@ -88,12 +88,6 @@ fewer_there held rest more e is grown =
     let left : nodes_of more ≡ nodes_of rest + nodes_of (inside (layer e)) = ap nodes_of grown ∙ nodes_both rest (inside (layer e)) in
     omega arith
 
--- none is left
-pub none_left : (count : List Expr → ℕ) (held : List Expr) (done all : ℕ) → count [] ≡ 0 → held ≡ [] → done + count held ≡ all → done ≡ all
-none_left count held done all nothing none same =
-    let last : count held ≡ 0 = ap count none ∙ nothing in
-    omega arith
-
 -- a walk that leaves some of what stands in it out
 pub fewer_entered : (held rest : List Expr) (e : Expr) (more : ℕ) → held ≡ rest ++ e ∷ [] → more ≤ nodes_of rest + nodes_of (inside (layer e)) → more < nodes_of held
 fewer_entered held rest e more is below =

@@ -63,12 +63,6 @@ grows_past types calls s = stays s (past types calls s) refl refl (begins_itself
 pub grows_types : (types : List Ground) (s : State) → Grows s (with_types types s)
 grows_types types s = stays s (with_types types s) refl refl (begins_itself s.labels) (types, refl) (begins_itself s.tables)
 
-pub grows_label : (form : LabelForm) (s : State) → Grows s (with_label form s)
-grows_label form s = stays s (with_label form s) refl refl (form ∷ [], refl) (begins_itself s.types) (begins_itself s.tables)
-
-pub grows_table : (touched : Touched) (s : State) → Grows s (with_table touched s)
-grows_table touched s = stays s (with_table touched s) refl refl (begins_itself s.labels) (begins_itself s.types) (touched ∷ [], refl)
-
 pub learns_itself : (s : State) → Learns s s
 learns_itself s = ([], ap (λ (types : List Ground). record s { types = types }) (sym (append-nil s.types)))
 

@@ -70,11 +70,6 @@ module _ (functions : Named (Entry Ground)) (tables : List TableDecl) (names : N
   by_use (rule.call {g} {ts} {a} may) = (record { name = g; type = function_of ts effects a }, refl, refl)
   by_use other = refl
 
-  none_used : (h : Head) (ts : List Ground) (t : Ground) (o : Option Use) → ((g : Label) → h ≡ operator.Function g → ⊥) → ((g : Label) → h ≡ operator.Call g → ⊥) → UseIs h ts t o → o ≡ None
-  none_used (operator.Function g) ts t o a b is = absurd (a g refl)
-  none_used (operator.Call g) ts t o a b is = absurd (b g refl)
-  none_used other ts t o a b is = is
-
   op_unused : (ts : List Ground) (t : Ground) (of : Option Use) (o : Op) → UseIs (code.head_of o) ts t of → of ≡ None
   op_unused ts t of (op.Int n) is = is
   op_unused ts t of (op.Text n) is = is

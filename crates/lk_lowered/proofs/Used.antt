@@ -89,9 +89,6 @@ module _ (f : Forms) (x : ℕ) where
   pub no_use : UsedIn f x [] → ⊥
   no_use uses = elim uses [ ]
 
-  no_use_in : {ns : List ℕ} → ns ≡ [] → UsedIn f x ns → ⊥
-  no_use_in are uses = no_use (subst (UsedIn f x) are uses)
-
   no_tail_use : {bs : List (Option ℕ)} → UsedInTails f x bs [] → ⊥
   no_tail_use uses = elim uses [ ]
 

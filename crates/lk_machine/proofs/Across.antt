@@ -1,5 +1,5 @@
 -- A call enters a body at its place, or crosses to the other place.
-use Rattle.std.proofs.Common.{◌≡◌, refl, sym, ap, subst, ◌∙◌, ℕ, true, false, List, ◌++◌, Some, None, length, take, drop}
+use Rattle.std.proofs.Common.{◌≡◌, refl, sym, ap, subst, ◌∙◌, ℕ, true, false, List, ◌++◌, Some, length, take, drop}
 use Rattle.std.proofs.Math.Path.{fun_ext}
 use Rattle.std.proofs.Math.Seq.{drop-append_seam, take-append_seam}
 use Rattle.std.specs.Option.{option_map, unwrap_or}
@@ -40,16 +40,6 @@ use Rattle.lk_machine.specs.declared.state.Now.TheVariants as now
 use Rattle.lk_machine.specs.declared.state.State.{State}
 
 -- ---- places
-
--- what runs here isn't called across
-pub stays : (place mark : Loc) → is_at mark place ≡ true → (g : Callee) (args : List Value) (body : Loc → Evaluation) (r : Run) → call_from place mark g args body r ≡ body place r
-stays Client Client is g args body r = refl
-stays Client Server is g args body r = let wrong : false ≡ true = is in cc
-stays Client Any is g args body r = refl
-stays Server Client is g args body r = let wrong : false ≡ true = is in cc
-stays Server Server is g args body r = refl
-stays Server Any is g args body r = refl
-stays Any mark is g args body r = refl
 
 -- and what doesn't runs at the other place
 pub across : (place mark : Loc) → is_at mark place ≡ false → IsPlace place → mark ≡ other place
@@ -157,12 +147,6 @@ module _ (c : CodeTables) where
 
     abbrev names : Env
     names = bind_each (bind_each no_names b.names env) b.params args
-
-    pub enters_with : (old : State) → old.printed ≡ None → is_at b.place old.place ≡ true → (scope : Env) → scope ≡ names
-        → Leads c old (performed c old.place (called label b env args)) (record old { now = now.Enter b.root scope }) next.More
-    enters_with old quiet here scope are =
-        goes_next c old (now.Enter b.root scope) (performed c old.place (called label b env args)) quiet
-        (λ r. stays old.place b.place here (Function (record { site = label; env = env })) args (eval (language c) point) r ∙ ap (λ ns. eval (language c) (under ns b.root) old.place r) (sym are))
 
     pub enters_well : (old : State) → is_at b.place old.place ≡ true → IsReady old → (scope : Env) → scope ≡ names
         → Moves c (ActsAt c old.place (called label b env args)) old (record old { now = now.Enter b.root scope }) next.More

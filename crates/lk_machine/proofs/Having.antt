@@ -18,9 +18,9 @@ use Rattle.lk_moves.proofs.Courses.{takes_as, takes_then}
 use Rattle.lk_moves.specs.Courses.{Evaluation, Takes}
 use Rattle.lk_operators.specs.Values.{text, unit}
 use Rattle.lk_types.specs.declared.ground.Ground.{Ground}
-use Rattle.lk_machine.proofs.Taking.{alone, comes_to, goes_next, printed, takes_printing}
+use Rattle.lk_machine.proofs.Taking.{alone, comes_to, printed, takes_printing}
 use Rattle.lk_machine.specs.Going.{waiting}
-use Rattle.lk_machine.specs.Moves.{ActsAt, GoesWith, IsReady, Leads, Moves, performed, still, then_frames}
+use Rattle.lk_machine.specs.Moves.{ActsAt, GoesWith, Leads, Moves, performed, still, then_frames}
 use Rattle.lk_machine.specs.Typed.{AreFrames, Leaves}
 use Rattle.lk_machine.specs.declared.state.Next.{Next}
 use Rattle.lk_machine.specs.declared.state.Next.TheVariants as next
@@ -43,13 +43,6 @@ module _ (c : CodeTables) where
   -- and fits the result
   pub ends_well : AreSound c → (old : State) (v : Value) (f : Frame) → old.stack ≡ f ∷ [] → Moves c (Fits (IsFun c) v) old old (next.Ended v)
   ends_well sound old v f is t u fit frames = (subst (Fits (IsFun c) v) (comes_to c sound old f t u is frames) fit, refl)
-
-  pub goes_with : (old : State) (v : Value) → old.printed ≡ None → Leads c old (Goes v) (record old { now = now.Give v }) next.More
-  goes_with old v quiet = goes_next c old (now.Give v) (Goes v) quiet (λ r. refl)
-
-  -- elsewhere it is the next to hand on
-  pub goes_well : (old : State) (v : Value) → IsReady old → (old.place ≡ Client → (f : Frame) → old.stack ≡ f ∷ [] → ⊥) → Moves c (Fits (IsFun c) v) old (record old { now = now.Give v }) next.More
-  goes_well old v ready others t u fit frames = (((t, record { place = ready.0; next = fit; frames = frames }, tt), λ client back. others client back.1 back.3), refl)
 
   -- ---- behind a text that is printed
 

@@ -42,7 +42,7 @@ use Rattle.lk_code.specs.declared.tables.Home.{Home}
 use Rattle.lk_machine.proofs.Pushing.{comes_to, forward_part, pushed, stays_here, waits_for}
 use Rattle.lk_machine.proofs.Rounds.{waiting_pushed}
 use Rattle.lk_machine.proofs.Steady.{as_far, from_there, further_behind, keeps_at, matched_at, one_further, plain_at, point_at, split_at}
-use Rattle.lk_machine.proofs.Taking.{goes_next, moved}
+use Rattle.lk_machine.proofs.Taking.{moved}
 use Rattle.lk_machine.specs.Going.{forward, waiting}
 use Rattle.lk_machine.specs.Moves.{Leads, Moves}
 use Rattle.lk_machine.specs.Stepped.{IsReturning}
@@ -208,9 +208,6 @@ module _ (c : CodeTables) (whole : IsWhole c) (old : State) (h : Held) (part : �
   module _ (none : cont_at c (record { node = h.node; position = length h.done }) ≡ None) where
     pub next_plain : IsNextPlain c h
     next_plain = (part, next_is, plain_at c.forms next_is.0 next_is.0.parts (conts_at c.conts h.node) (whole.sound.named.each h.node next_is.0 next_is.1) (length h.done) part next_is.2 none)
-
-    pub hold_leads : old.printed ≡ None → Leads c old (resumed (language c) (under h.scope h.node) h.done old.place) (record old { now = now.Hold h }) next.More
-    hold_leads quiet = goes_next c old (now.Hold h) (resumed (language c) (under h.scope h.node) h.done old.place) quiet (λ r. refl)
 
     pub hold_kept : IsPlace old.place → Moves c (λ t. IsNodeOf c old.place t h) old (record old { now = now.Hold h }) next.More
     hold_kept is_place t u node frames = (((t, record { place = is_place; next = (node, next_plain); frames = frames }, tt), not_back), refl)

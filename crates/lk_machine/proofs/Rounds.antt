@@ -1,6 +1,6 @@
 -- Frames turned round: as the machine holds them, and as others see them.
 use Rattle.std.proofs.Common.{◌≡◌, refl, sym, ap, ap₂, subst, ◌∙◌, Bool, true, false, List, [], ◌∷◌, ◌++◌, length, map, Option, Some, None}
-use Rattle.std.proofs.lemmas.List.{append_assoc, append-nil, length-map, length-reverse, map-append, reverse-append, reverse-reverse}
+use Rattle.std.proofs.lemmas.List.{append_assoc, length-map, length-reverse, map-append, reverse-append, reverse-reverse}
 use Rattle.std.specs.Prelude.{if◌then◌else◌, reverse}
 use Rattle.lk_ast.specs.declared.value.Field.{Field}
 use Rattle.lk_ast.specs.declared.value.FunValue.{FunValue}
@@ -105,18 +105,7 @@ module _ (c : CodeTables) where
   pub waiting_popped : (old new : List Frame) (f : Frame) → old ≡ new ++ f ∷ [] → waiting c old ≡ forward c f ∷ waiting c new
   waiting_popped old new f is = ap (waiting c) is ∙ waiting_pushed new f
 
-  -- the frame that waits next is the last of the stack
-  pub waiting_next : (stack : List Frame) (f : Frame) (fs : List Frame) → waiting c stack ≡ f ∷ fs → stack ≡ waiting c fs ++ forward c f ∷ []
-  waiting_next stack f fs is =
-      sym (waiting_twice stack)
-      ∙ ap (waiting c) is
-      ∙ ap (map (forward c)) (reverse-append (f ∷ []) fs)
-      ∙ map-append (forward c) (reverse fs) (f ∷ [])
-
   -- ---- turning them one by one
 
   pub one_turned : (done old new : List Frame) (f : Frame) → old ≡ new ++ f ∷ [] → (done ++ forward c f ∷ []) ++ waiting c new ≡ done ++ waiting c old
   one_turned done old new f is = append_assoc done (forward c f ∷ []) (waiting c new) ∙ ap (λ fs. done ++ fs) (sym (waiting_popped old new f is))
-
-  pub all_turned : (done left : List Frame) → left ≡ [] → done ++ waiting c left ≡ done
-  all_turned done left none = ap (λ fs. done ++ waiting c fs) none ∙ append-nil done

@@ -28,7 +28,7 @@ use Rattle.lk_machine.proofs.Taking.{entered, handed}
 use Rattle.lk_machine.specs.Going.{doing, given, here, waiting}
 use Rattle.lk_machine.specs.Moves.{EntersTo, HandsTo, Leads, MayMove, Moves}
 use Rattle.lk_machine.specs.Stepped.{Stepped}
-use Rattle.lk_machine.specs.Typed.{AreFrames, IsHere, IsNodeOf, IsNow, IsUnderWay, Leaves, MaySteps}
+use Rattle.lk_machine.specs.Typed.{AreFrames, IsHere, IsNodeOf, IsNow, Leaves, MaySteps}
 use Rattle.lk_machine.specs.declared.state.Next.{Next}
 use Rattle.lk_machine.specs.declared.state.Next.TheVariants as next
 use Rattle.lk_machine.specs.declared.state.Now.{Now}
@@ -148,9 +148,3 @@ module _ (c : CodeTables) where
       )
 
   -- ---- no step
-
-  pub not_waiting : (old : State) → old.now ≡ now.Waits → (u : Ground) → MaySteps c old u → ⊥
-  not_waiting old is u may = subst (λ m. IsUnderWay c m) is may.2
-
-  pub not_over : (old : State) → old.now ≡ now.Over → (u : Ground) → MaySteps c old u → ⊥
-  not_over old is u may = subst (λ m. IsUnderWay c m) is may.2

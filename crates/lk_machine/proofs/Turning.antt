@@ -149,10 +149,6 @@ module _ (c : CodeTables) (whole : IsWhole c) (place : Loc) (node : ℕ) (form :
       let all : IsTurnOf (IsFun c) c.forms (told_by c) c.conts at.info.hole at.info.result (map (turn kept) left) made = goes t made left kept at in
       subst (Fits (IsFun c) (value.List made)) (sym all.result_is ∙ at.result) (list_fits (IsFun c) made all.of all.fit)
 
-  -- where no element is left, it is what the node comes to
-  pub turns_end : (made kept left : List Value) → left ≡ [] → (r : Run) → each (language c) (eval (language c)) form.at (map (turn kept) (reverse left)) place made r ≡ Goes (value.List made) r
-  turns_end made kept left no_more r = ap (λ values. each (language c) (eval (language c)) form.at (map (turn kept) (reverse values)) place made r) no_more
-
   -- ---- the next element
 
   module _ (made left kept init : List Value) (v : Value) (split : left ≡ init ++ v ∷ []) where
@@ -274,10 +270,6 @@ module _ (c : CodeTables) (whole : IsWhole c) (place : Loc) (turns : Turns) wher
   abbrev goes_over : List Point → List Value → Evaluation
   goes_over points made = each (language c) (eval (language c)) turns.at points place made
 
-  -- where no element is left, the list that was made is what it comes to
-  pub plain_end : turns.left ≡ [] → (r : Run) → goes_over (bodies turns) turns.made r ≡ Goes (value.List turns.made) r
-  plain_end no_more r = ap (λ values. goes_over (map plainly (reverse values)) turns.made r) no_more
-
   pub plain_fits : (t : Ground) → AreTurnsOf c t turns → Fits (IsFun c) (value.List turns.made) t
   plain_fits t at = subst (Fits (IsFun c) (value.List turns.made)) (sym at.result) (list_fits (IsFun c) turns.made at.of at.fit)
 
@@ -378,12 +370,6 @@ module _ (c : CodeTables) (whole : IsWhole c) (place : Loc) (t : Ground) (node :
       fit = subst (λ vs. AllFit (IsFun c) vs acts.0.0) (sym made_is) none;
       bodies = subst (λ vs. Each (IsPointOf (IsFun c) c.forms (told_by c) t) (map (λ v. under (bind x v names) body) vs)) (sym elements) acts.0.2;
     })
-
-    pub same_plainly : (scope : Env) → scope ≡ names → (r : Run) → begins r ≡ each (language c) (eval (language c)) form.at (bodies (plain_turns scope)) place made r
-    same_plainly scope same r =
-        ap (λ vs. each (language c) (eval (language c)) form.at (map (λ v. under (bind x v names) body) vs) place [] r) (sym elements)
-        ∙ ap (λ vs. each (language c) (eval (language c)) form.at (bodies (plain_turns names)) place vs r) (sym made_is)
-        ∙ ap (λ env. each (language c) (eval (language c)) form.at (bodies (plain_turns env)) place made r) (sym same)
 
     -- ---- else a frame waits behind it
 

@@ -1,7 +1,7 @@
 -- The first of some numbers whose type is too large.
-use Rattle.std.proofs.Common.{◌≡◌, ℕ, ◌+◌, ◌<◌, ◌≤◌, true, false, not, cond, List, ◌∷◌, length, map, drop, get_or, sym, ap, ◌∙◌}
+use Rattle.std.proofs.Common.{◌≡◌, ℕ, ◌+◌, ◌<◌, true, false, not, cond, List, ◌∷◌, length, map, drop, get_or, sym, ap, ◌∙◌}
 use native.Mathlib.Omega.{arith}
-use Rattle.std.proofs.lemmas.List.{drop_all, drop_more}
+use Rattle.std.proofs.lemmas.List.{drop_more}
 use Rattle.lk_ground_types.specs.Grounds.{at}
 use Rattle.lk_mono.specs.Instances.{fits}
 use Rattle.lk_mono.specs.Looks.{first_beyond}
@@ -17,18 +17,9 @@ module _ (ts : List Ground) where
   large : (n : ℕ) (ns : List ℕ) → not (fits (at ts n)) ≡ true → beyond (n ∷ ns) ≡ 0
   large n ns is = ap (λ b. cond (not b) (1 + beyond ns) 0) is
 
-  pub starts : (ns : List ℕ) → beyond ns ≡ 0 + beyond ns
-  starts ns = omega arith
-
   module _ (ns : List ℕ) (i n : ℕ) (below : i < length ns) (is : n ≡ get_or ns i 0) (so_far : beyond ns ≡ i + beyond (drop i ns)) where
     next : drop i ns ≡ n ∷ drop (i + 1) ns
     next = drop_more ns i 0 below ∙ ap (λ m. m ∷ drop (i + 1) ns) (sym is)
 
     pub goes_on : not (fits (at ts n)) ≡ false → beyond ns ≡ (i + 1) + beyond (drop (i + 1) ns)
     goes_on fit = let one : beyond (drop i ns) ≡ 1 + beyond (drop (i + 1) ns) = ap beyond next ∙ fitting n (drop (i + 1) ns) fit in omega (arith, so_far, one)
-
-    pub stops : not (fits (at ts n)) ≡ true → i ≡ beyond ns
-    stops is_large = let none : beyond (drop i ns) ≡ 0 = ap beyond next ∙ large n (drop (i + 1) ns) is_large in omega (arith, so_far, none)
-
-  pub ends : (ns : List ℕ) (i : ℕ) → length ns ≤ i → i ≤ length ns → beyond ns ≡ i + beyond (drop i ns) → length ns ≡ beyond ns
-  ends ns i end within so_far = let none : beyond (drop i ns) ≡ 0 = ap beyond (drop_all i ns end) in omega (arith, end, within, so_far, none)

@@ -5,7 +5,6 @@ use Rattle.std.proofs.lemmas.Option.{slice_get-map}
 use Rattle.std.specs.List.{slice_get}
 use Rattle.std.specs.Option.{option_map}
 use Rattle.lk_ast.specs.declared.place.Span.{Span}
-use Rattle.lk_ground_types.specs.Functions.{effects_in, effects_level}
 use Rattle.lk_ground_types.specs.Grounds.{at}
 use Rattle.lk_ground_types.specs.Least.{unit}
 use Rattle.lk_outline.specs.Outline.{Lambda}
@@ -15,9 +14,7 @@ use Rattle.lk_outline.specs.Typed.{effects_around, or_unit, type_at}
 use Rattle.lk_outline.specs.Typed.{effects_in as effects_at_level}
 use Rattle.lk_types.specs.Grounding.{Grounding, all_of, under}
 use Rattle.lk_types.specs.declared.ground.Ground.{Ground, out-Ground}
-use Rattle.lk_types.specs.declared.ground.Ground.TheOpen.{Ground-F}
 use Rattle.lk_types.specs.declared.ground.Ground.TheVariants as known
-use Rattle.lk_types.specs.declared.ground.GroundField.{GroundField}
 use Rattle.lk_types.specs.declared.ty.Effect.{Effect}
 use Rattle.lk_types.specs.declared.ty.Ty.{Ty}
 use Rattle.lk_typing.specs.Law.{Become}
@@ -32,16 +29,6 @@ become_all σ types ts become = ap all_of become ∙ all_there ts
     all_there [] = refl
     all_there (t ∷ ts) = ap (option_map (λ more. t ∷ more)) (all_there ts)
 
--- both definitions say the same
-pub level_same : (level : Ground-F Ground GroundField) → effects_level level ≡ effects_at_level level
-level_same Ground-F.Int = refl
-level_same Ground-F.Bool = refl
-level_same Ground-F.Text = refl
-level_same (Ground-F.List t) = refl
-level_same (Ground-F.Fields fields) = refl
-level_same (Ground-F.Tags tags) = refl
-level_same (Ground-F.Fun params es answer) = refl
-
 -- `()` is no function
 unit_effects : [] ≡ effects_at_level (out-Ground unit)
 unit_effects = simp known.outs-Fields
@@ -50,16 +37,8 @@ module _ (table : List Ground) (numbers : List ℕ) (ts : List Ground) (made : m
   there : (n : ℕ) (o : Option ℕ) → slice_get numbers n ≡ o → slice_get ts n ≡ option_map (at table) o
   there n o is = ap (λ ts. slice_get ts n) (sym made) ∙ slice_get-map (at table) numbers n ∙ ap (option_map (at table)) is
 
-  -- the type of a node
-  pub type_there : (n m : ℕ) → slice_get numbers n ≡ Some m → at table m ≡ type_at ts n
-  type_there n m is = sym (ap or_unit (there n (Some m) is))
-
   pub type_past : (n : ℕ) → slice_get numbers n ≡ None → unit ≡ type_at ts n
   type_past n is = sym (ap or_unit (there n None is))
-
-  -- the effects of a lambda are those that its type says
-  pub lambda_effects : (own es : List Effect) (n m : ℕ) → slice_get numbers n ≡ Some m → es ≡ effects_in (at table m) → es ≡ effects_around own ts (Lambda n)
-  lambda_effects own es n m is says = says ∙ level_same (out-Ground (at table m)) ∙ ap (λ t. effects_at_level (out-Ground t)) (type_there n m is)
 
   -- there are none behind all nodes
   pub effects_past : (own es : List Effect) (n : ℕ) → slice_get numbers n ≡ None → es ≡ [] → es ≡ effects_around own ts (Lambda n)

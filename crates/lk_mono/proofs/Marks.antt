@@ -2,7 +2,6 @@
 use Rattle.std.proofs.Common.{◌≡◌, ℕ, zero, suc, ◌+◌, ◌<◌, ◌≤◌, Bool, true, false, ◌||◌, List, [], ◌∷◌, ◌⊎◌, inl, inr, Option, Some, None, length, set, slice_get, refl, sym, ap, ◌∙◌, subst, arith}
 use Rattle.std.proofs.Math.Bool.{or-false, or-true}
 use Rattle.std.proofs.lemmas.List.{length-set}
-use Rattle.std.proofs.lemmas.Option.{slice_get_within}
 use Rattle.lk_mono.specs.Flatness.{AreSettled, IsLeft, IsMarking, IsOddAt, IsPass, calling, calls_marked, is_marked, unmarked}
 use Rattle.lk_types.specs.Each.{OneOf}
 
@@ -39,14 +38,6 @@ pub or_left_right : (a b : Bool) → (a || b) ≡ true → (a ≡ true) ⊎ (b �
 or_left_right true b e = inl refl
 or_left_right false b e = inr e
 
-pub or_false_left : (a b : Bool) → (a || b) ≡ false → a ≡ false
-or_false_left true b e = e
-or_false_left false b e = refl
-
-pub or_false_right : (a b : Bool) → (a || b) ≡ false → b ≡ false
-or_false_right true b e = let f : true ≡ false = e in cc
-or_false_right false b e = e
-
 -- one of these is marked
 pub some_marked : (marks : List Bool) (places : List ℕ) → calls_marked marks places ≡ true → (j : ℕ) × OneOf (λ place. place ≡ j) places × (is_marked marks j ≡ true)
 some_marked marks [] e = let f : false ≡ true = e in cc
@@ -54,17 +45,6 @@ some_marked marks (place ∷ places) e = elim (or_left_right (is_marked marks pl
   | inl here ↦ (place, inl refl, here)
   | inr there ↦ (let found = some_marked marks places there in (found.0, inr found.1, found.2))
 ]
-
--- before a pass
-pub no_pass : (calls : List (List ℕ)) (from : ℕ) (marks : List Bool) → length calls ≤ from → IsPass calls from marks marks false
-no_pass calls from marks h = record {
-  size = refl;
-  sound = λ own sound. sound;
-  kept = λ i e. e;
-  fewer = λ e. let f : false ≡ true = e in cc;
-  same = λ e. refl;
-  settled = λ e i places le below is marked. let within : i < length calls = slice_get_within calls i places is in absurd (omega arith);
-}
 
 either : (i j : ℕ) → i ≤ j → (j ≡ i) ⊎ (1 + i ≤ j)
 either i j h = grind arith

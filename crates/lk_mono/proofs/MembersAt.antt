@@ -1,5 +1,5 @@
 -- Which functions, schemes and types the members of a program have.
-use Rattle.std.proofs.Common.{arith, ◌≡◌, ℕ, zero, suc, ◌≤◌, Bool, true, false, List, [], ◌∷◌, Some, refl, ap, ap₂, sym, subst, ◌∙◌, bytes_eq, cond, drop, length, take}
+use Rattle.std.proofs.Common.{arith, ◌≡◌, ℕ, zero, suc, ◌≤◌, Bool, true, false, List, [], ◌∷◌, Some, refl, ap, sym, subst, ◌∙◌, bytes_eq, cond, drop, length, take}
 use Rattle.std.proofs.lemmas.Option.{same_Some}
 use Rattle.std.specs.List.{find, slice_get}
 use Rattle.lk_ast.specs.declared.declaration.FunDef.{FunDef}
@@ -33,17 +33,6 @@ member_at (f ∷ fs) (s ∷ ss) types zero m is = at_first (same_Some first m is
 member_at (f ∷ fs) (s ∷ ss) types (suc i) m is =
     let behind = member_at fs ss (drop (body_size f) types) i m is in
     record { function = behind.function; scheme = behind.scheme; own = behind.own; sites = behind.sites }
-
--- each function with a scheme has its member
-pub member_there : (fs : List FunDef) (ss : List Scheme) (types : List Ty) (i : ℕ) (f : FunDef) (scheme : Scheme) → slice_get fs i ≡ Some f → slice_get ss i ≡ Some scheme
-    → (own : List Ty) × (slice_get (shares fs types) i ≡ Some own) × (slice_get (members_of fs ss types) i ≡ Some (member_of f scheme own))
-member_there [] ss types i f scheme is has = cc
-member_there (g ∷ fs) [] types i f scheme is has = cc
-member_there (g ∷ fs) (s ∷ ss) types zero f scheme is has =
-    let function : g ≡ f = same_Some g f is in
-    let own : s ≡ scheme = same_Some s scheme has in
-    (take (body_size g) types, refl, ap₂ (λ f s. Some (member_of f s (take (body_size g) types))) function own)
-member_there (g ∷ fs) (s ∷ ss) types (suc i) f scheme is has = member_there fs ss (drop (body_size g) types) i f scheme is has
 
 -- The member is found whose function is the first of that name. It stands at the first number at which the function does.
 pub record IsNamedAt (fs : List FunDef) (ss : List Scheme) (types : List Ty) (name : Label) (f : FunDef) : Type 0 where

@@ -1,5 +1,5 @@
 -- Types that are found by numbers in a table that grows meanwhile.
-use Rattle.std.proofs.Common.{◌≡◌, ℕ, ◌+◌, ◌<◌, get_or, take, drop, List, [], ◌∷◌, ◌++◌, length, map, IfSome, Option, Some, None, refl, sym, ap, subst, ◌∙◌}
+use Rattle.std.proofs.Common.{◌≡◌, ℕ, ◌+◌, ◌<◌, get_or, take, drop, List, [], ◌∷◌, ◌++◌, length, map, IfSome, Option, Some, None, sym, ap, subst, ◌∙◌}
 use Rattle.std.proofs.lemmas.List.{append_assoc, drop_more, map-append, take_more}
 use Rattle.std.specs.List.{cons_option}
 use Rattle.std.specs.Option.{option_map}
@@ -26,13 +26,6 @@ each_last P (y ∷ xs) x all one = (all.0, each_last P xs x all.1 one)
 -- so many of the arguments have numbers
 abbrev pub AreParams : List Ground → List Ground → List ℕ → List ℕ → List ℕ → Type 0
 AreParams first ts numbers args params = (map (at ts) params ≡ map (type_at (map (at first) numbers)) args) × Each (λ n. n < length ts) params × Grows first ts
-
-pub no_params : (ts : List Ground) (numbers params : List ℕ) → params ≡ [] → AreParams ts ts numbers [] params
-no_params ts numbers params none = subst (AreParams ts ts numbers []) (sym none) (refl, tt, ([], sym (nothing ts)))
-  where
-    nothing : (ts : List Ground) → ts ++ [] ≡ ts
-    nothing [] = refl
-    nothing (t ∷ ts) = ap (λ ts. t ∷ ts) (nothing ts)
 
 pub one_more_param : (first ts us : List Ground) (numbers args params more_params : List ℕ) (i arg d n : ℕ) → Each (λ n. n < length first) numbers → AreParams first ts numbers (take i args) params
     → i < length args → arg ≡ get_or args i d → at us n ≡ type_at (map (at ts) numbers) arg → n < length us → Grows ts us → more_params ≡ params ++ n ∷ []

@@ -1,5 +1,5 @@
 -- A function has just one list of nodes at each type.
-use Rattle.std.proofs.Common.{◌≡◌, List, [], ◌∷◌, map, Some, slice_get, refl, sym, ap, ap₂, subst, ◌∙◌}
+use Rattle.std.proofs.Common.{◌≡◌, List, Some, slice_get, sym, ap, subst, ◌∙◌}
 use Rattle.lk_ast.specs.Functions.{functions_of}
 use Rattle.lk_ast.specs.declared.declaration.Program.{Program}
 use Rattle.lk_types.proofs.Parts.{same_some}
@@ -19,7 +19,7 @@ use Rattle.lk_sound.proofs.Apart.{functions_apart}
 use Rattle.lk_types.specs.Grounding.{under}
 use Rattle.lk_types.specs.Rows.{effects_of}
 use Rattle.lk_types.specs.Variables.{variables_of}
-use Rattle.lk_types.specs.declared.ground.Ground.{Ground, out-Ground}
+use Rattle.lk_types.specs.declared.ground.Ground.{out-Ground}
 use Rattle.lk_types.specs.declared.ground.Ground.TheVariants as known
 use Rattle.lk_types.specs.declared.scheme.Scheme.{Scheme}
 use Rattle.lk_types.specs.declared.ty.Ty.{Ty}
@@ -27,15 +27,6 @@ use Rattle.lk_typing.proofs.Operators.{become_same as become_one}
 use Rattle.lk_typing.specs.Law.{Become}
 use Rattle.lk_typing.specs.Names.{types_of}
 use Rattle.lk_ast.specs.Tables.{tables_of}
-
-all_some_same : (ts us : List Ground) → map (λ t. Some t) ts ≡ map (λ t. Some t) us → ts ≡ us
-all_some_same [] [] is = refl
-all_some_same [] (u ∷ us) is = cc
-all_some_same (t ∷ ts) [] is = cc
-all_some_same (t ∷ ts) (u ∷ us) is =
-    let first : t ≡ u = cc in
-    let rest : map (λ t. Some t) ts ≡ map (λ t. Some t) us = cc in
-    ap₂ (λ a more. a ∷ more) first (all_some_same ts us rest)
 
 module _ (outline_law : OutlineLaw) {p : Program} {schemes : List Scheme} {types : List Ty} where
   -- the nodes by the outline of the function and their types

@@ -14,7 +14,6 @@ use Rattle.lk_outline.specs.Outline.{Kind, Site}
 use Rattle.lk_outline.specs.Outline as outline
 use Rattle.lk_outline.specs.Typed.{node_at, type_at, typed_nodes, used}
 use Rattle.lk_typing.proofs.Levels.{map_after}
-use Rattle.lk_types.specs.Each.{Each}
 use Rattle.lk_types.specs.declared.ground.Ground.{Ground}
 use Rattle.lk_types.specs.declared.ty.Effect.{Effect}
 
@@ -40,10 +39,6 @@ all_before [] none = refl
 all_before (node ∷ nodes) none =
     let both = all_before_by (fits node.part.type) node nodes refl none in
     ap (λ b. if b then node ∷ before_large nodes else []) both.0 ∙ ap (λ rest. node ∷ rest) (all_before nodes both.1)
-
-pub all_fit_at : (nodes : List TypedNode) → first_large nodes ≡ None → Each (λ t. fits t ≡ true) (types_in nodes)
-all_fit_at [] none = tt
-all_fit_at (node ∷ nodes) none = let both = all_before_by (fits node.part.type) node nodes refl none in (both.0, all_fit_at nodes both.1)
 
 module _ (own : List Effect) (ts : List Ground) where
   abbrev type_of : Site → Ground

@@ -67,10 +67,6 @@ abbrev pub all : List In → In
 all [] = nothing
 all (part ∷ parts) = before part (all parts)
 
-abbrev pub some : Option In → In
-some None = nothing
-some (Some part) = part
-
 -- the numbers of the first nodes of parts one after another
 abbrev pub starts : List In → Context → ℕ → List ℕ
 starts [] c n = []

@@ -281,10 +281,6 @@ module _ (p : Program) (i : Instances) (apart : AreBlocksApart p) (closed : AreC
   times_is inner B [] = refl
   times_is inner B (v ∷ elements) = ap (λ m. B + m) (times_is inner B elements)
 
-  over_use : (at : Span) (x : Word) (body : Expr) (inner : Names) (F : ℕ) (o : Option (List Value)) → ((us : List Value) → o ≡ Some us → DoesUse p tables F (over at x.text (Some us) body inner)) → DoesUse p tables F (over at x.text o body inner)
-  over_use at x body inner F None some = λ r behind. tt
-  over_use at x body inner F (Some us) some = some us refl
-
   loop_enough : (locals : Named Ground) (names : Names) (e : Expr) (l : Layer) (x : Word) (a b : Ground) (d body : Expr) → layer e ≡ l → parts_of l ≡ d ∷ [] → ((inner : Names) (v : Value) → act p e.span l inner (v ∷ []) ≡ over e.span x.text (list_in v) body inner)
       → AreLocals p i locals names → is_query_type (known.List a) ≡ true → ((inner : Names) → AreLocals p i locals inner → Fits p i (give d inner) (known.List a)) → ((inner : Names) → AreLocals p i locals inner → NamesLike locals inner names → IsLike (give d inner) (give d names))
       → HasEnough locals names d → ((inner : Names) → AreLocals p i locals inner → Come inner d)

@@ -25,10 +25,6 @@ none_quietly (event.Leave ∷ more) count calm = none_quietly more count calm.1
 none_quietly (event.Read e ∷ more) count calm = absurd calm.0
 none_quietly (event.Write e ∷ more) count calm = absurd calm.0
 
--- at the beginning
-pub commits_first : (log : List Event) (count : ℕ) → log ≡ [] → count ≡ commits_after log count
-commits_first log count none = sym (ap (λ l. commits_after l count) none)
-
 -- `old` transactions were committed at first, and `count` behind these events
 module _ (old count : ℕ) where
   -- nothing of tables was done

@@ -1,5 +1,5 @@
 -- What the evaluator's loop keeps.
-use Rattle.std.proofs.Common.{◌≡◌, ℕ, ◌+◌, ◌-◌, List, [], ◌∷◌, ◌++◌, Option, Some, None, refl, sym, ◌∙◌, subst}
+use Rattle.std.proofs.Common.{◌≡◌, ℕ, ◌+◌, ◌-◌, List, [], ◌∷◌, ◌++◌, Option, Some, None, sym, ◌∙◌, subst}
 use Rattle.std.specs.Borrow.{Bor}
 use Rattle.std.specs.Prelude.{IfSome}
 use Rattle.lk_ast.specs.Tables.{Tables}
@@ -19,14 +19,14 @@ use Rattle.lk_ast.specs.Rows.{rows_value}
 use Rattle.lk_types.proofs.Members.{each_both}
 use Rattle.lk_types.specs.Each.{Each}
 use Rattle.lk_sem.specs.Frames.{returned}
-use Rattle.lk_sem.specs.Machine.{Leads, LeadsWhole, after_read, after_write, frame_rest, outcome}
+use Rattle.lk_sem.specs.Machine.{Leads, LeadsWhole, after_read, after_write, frame_rest}
 use Rattle.lk_sem.specs.Standing.{Stands}
 use Rattle.lk_sem.specs.Writings.{HasChanged}
 use Rattle.lk_sem.specs.declared.machine.Frame.{Frame as MachineFrame}
 use Rattle.lk_sem.specs.declared.machine.Machine.{Machine}
 use Rattle.lk_sem.specs.declared.machine.Next.{Next}
 use Rattle.lk_sem.specs.declared.machine.Next.TheVariants as now
-use Rattle.lk_sound.proofs.Legality.{no_past, past_quietly, past_followed}
+use Rattle.lk_sound.proofs.Legality.{past_quietly, past_followed}
 use Rattle.lk_sound.specs.Histories.{AreFit, GoesQuietly, HasAnswer, HasFollowed, HasPast, IsQuiet, KeepsOthers, read_event, write_event}
 use Rattle.lk_sem.proofs.Whole as whole
 
@@ -66,10 +66,6 @@ kept_on p site args (Some before) None after keeps changed x undeclared = subst 
 kept_on p site args (Some before) (Some tables) None keeps changed x undeclared = absurd changed
 kept_on p site args (Some before) (Some tables) (Some last) keeps changed x undeclared = changed.others x undeclared ∙ keeps x undeclared
 
-keeps_itself : (p : Program) (told : Option Tables) → KeepsOthers p told told
-keeps_itself p None x undeclared = tt
-keeps_itself p (Some tables) x undeclared = refl
-
 module _ (p : Program) (first : Machine) (o : Run → Out Value) (old told : Option Tables) where
   -- nothing of tables was done
   stands_quietly : (m new : Machine) (last next : Next) → LeadsWhole p first o new next → GoesQuietly m.log new.log → Stands p first o old told m last → Stands p first o old told new next
@@ -108,13 +104,3 @@ module _ (p : Program) (first : Machine) (o : Run → Out Value) (old told : Opt
     fit = fit_by p site args told after changed s.fit;
     others = kept_on p site args old told after s.others changed;
   }
-
--- at the beginning
-pub stands_first : (p : Program) (first : Machine) (next : Next) (told : Option Tables) → first.stack ≡ [] → first.log ≡ [] → AreFit p told → Stands p first (outcome p next) told told first next
-stands_first p first next told empty none fit = record {
-  leads = whole.goes_first p first (outcome p next) next empty none;
-  answered = subst (Each (HasAnswer p)) (sym none) tt;
-  past = subst (HasPast p told told) (sym none) (no_past p told);
-  fit = fit;
-  others = keeps_itself p told;
-}

@@ -23,7 +23,7 @@ use Rattle.lk_sem.specs.declared.machine.Frame.{Frame}
 use Rattle.lk_sem.specs.declared.machine.Machine.{Machine}
 use Rattle.lk_sem.specs.declared.machine.Next.{Next}
 use Rattle.lk_sem.specs.declared.machine.Next.TheVariants as now
-use Rattle.lk_sem.proofs.Leading.{too_early, wound-push}
+use Rattle.lk_sem.proofs.Leading.{wound-push}
 
 -- ---- the answers in a log
 
@@ -65,13 +65,6 @@ longer log more after out is e = record { last = e.last; spent = e.spent; more =
 -- ---- moves
 
 module _ (p : Program) (first : Machine) (o : Run → Out Value) where
-  -- nothing was done yet
-  pub goes_first : (next : Next) → first.stack ≡ [] → first.log ≡ [] → LeadsWhole p first (outcome p next) first next
-  goes_first next empty none = record {
-    runs = λ less r later few h is. (r, h, is ∙ ap (λ l. answers_in l ++ later) none, ap (λ fs. wound p fs (outcome p next r)) (sym empty));
-    early = λ less r later much h is. too_early first less r _ _ much h;
-    fuel = omega arith;
-  }
 
   -- What comes next is done by a machine with the same fuel, over what is left of the answers, and that machine makes a move.
   module _ (old mid new : Machine) (last next : Next) (rest : Run → Out Value) (g : LeadsWhole p first o old last) (l : Leads p mid rest new next) (same : mid.fuel ≡ old.fuel)

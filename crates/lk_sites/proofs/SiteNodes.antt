@@ -13,7 +13,7 @@ use Rattle.lk_ground.specs.declared.program.GroundProgram.{GroundProgram}
 use Rattle.lk_ground.proofs.PlacedLevels.{operator_insides}
 use Rattle.lk_mono.specs.Instanced.{AreInstancesOf, HasInstances, IsInstanceOf, nodes_in}
 use Rattle.lk_sites.proofs.Passing.{Passes, PassesFirst, first_other, first_called, passes_all, passes_block, passes_first, passes_split}
-use Rattle.lk_sites.proofs.SiteTyping.{behind_other, cases_visited, entered_left, expr_visited, exprs_visited, form_blocks, left, operator_open, takes_none, takes_use, uses_function}
+use Rattle.lk_sites.proofs.SiteTyping.{behind_other, cases_visited, entered_left, expr_visited, form_blocks, left, operator_open, takes_none, takes_use, uses_function}
 use Rattle.lk_sites.proofs.SitesFound.{all_keeps, at_itself, behind_has, instances_keep, keeps}
 use Rattle.lk_sites.proofs.Touring.{by_parts}
 use Rattle.lk_sites.proofs.Visiting.{front_and}
@@ -99,10 +99,6 @@ module _ (p : Program) (i : Instances) (fun : ℕ) (node : TypedNode) (outside :
     rest_of : {effects : EffectSet} {locals : Named Ground} {e : Expr} {a : Ground} {inside : List Ground} (d : HasType functions (tables_of p) locals effects e a inside) → Fine (nodes_of false d) → AreBlocksOf p e
         → (t : Tour) (q : Pending) → Taken (nodes_of false d) (left t) q → left (visit fun e false t) ≡ q
     rest_of d fine blocks t q passes = (expr_visited p i fun any_site (λ e t block text. tt) functions false d fine blocks t q passes).rest
-
-    rest_of_all : {effects : EffectSet} {locals : Named Ground} {es : List Expr} {ts inside : List Ground} (d : HaveTypes functions (tables_of p) locals effects es ts inside) → Fine (each_nodes false d) → Each (AreBlocksOf p) es
-        → (t : Tour) (q : Pending) → Taken (each_nodes false d) (left t) q → left (all (map (visit fun) es) false t) ≡ q
-    rest_of_all d fine blocks t q passes = (exprs_visited p i fun any_site (λ e t block text. tt) functions false d fine blocks t q passes).rest
 
     rest_of_cases : {effects : EffectSet} {locals : Named Ground} {cases : List Case} {ts : List Ground} {tags : Named Ground} {inside : List Ground} (d : HaveCases functions (tables_of p) locals effects cases ts tags inside) → Fine (case_nodes false d) → Each (AreBlocksOf p) (bodies_of cases)
         → (t : Tour) (q : Pending) → Taken (case_nodes false d) (left t) q → left (all (map (visit fun) (bodies_of cases)) false t) ≡ q

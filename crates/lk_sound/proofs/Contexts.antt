@@ -6,7 +6,7 @@ use Rattle.std.proofs.lemmas.Bool.Decides.{nat_tests}
 use Rattle.std.proofs.lemmas.List.{length-map}
 use Rattle.std.proofs.lemmas.Option.{none-some}
 use Rattle.std.proofs.lemmas.Slice.Eq.{bytes_eq-Decides}
-use Rattle.lk_ast.specs.Functions.{functions_in, functions_of, function_named, is_named, is_main}
+use Rattle.lk_ast.specs.Functions.{functions_in, functions_of, is_named, is_main}
 use Rattle.lk_ast.specs.declared.declaration.Decl.{Decl}
 use Rattle.lk_ast.specs.declared.declaration.FunDef.{FunDef}
 use Rattle.lk_ast.specs.declared.declaration.Program.{Program}
@@ -14,27 +14,21 @@ use Rattle.lk_ast.specs.declared.declaration.TableDecl.{TableDecl}
 use Rattle.lk_types.proofs.Parts.{same_some}
 use Rattle.lk_types.specs.Each.{Each, OneOf}
 use Rattle.lk_types.specs.Grounding.{Grounding}
-use Rattle.lk_types.specs.Rows.{Label}
 use Rattle.lk_types.specs.Schemes.{IsInstance}
 use Rattle.lk_types.specs.declared.ground.Ground.{Ground}
 use Rattle.lk_types.specs.declared.ground.Ground.TheVariants as known
 use Rattle.lk_types.specs.declared.scheme.Scheme.{Scheme}
 use Rattle.lk_typing.proofs.SchemeCounts.{as_many_schemes}
 use Rattle.lk_typing.specs.Groups.{IsFunction, AreFunctions, IsGroup, is_mutual, own_entries, scheme_entries}
-use Rattle.lk_typing.specs.Names.{Named, named, types_of, Entry, One, Many, IsUse, MayBe}
+use Rattle.lk_typing.specs.Names.{Named, types_of, Entry}
 use Rattle.lk_typing.specs.Programs.{AreInstances, Hold, HaveSchemes, entries}
 use Rattle.lk_ast.specs.Tables.{tables_of}
 use Rattle.lk_typing.specs.Types.{function_of}
 use Rattle.lk_types.proofs.Members.{one_in_front, one_in_back, one_of_both, one_at}
-use Rattle.lk_sound.proofs.Beside.{IsBeside, paired, own_pairs, scheme_pairs, earlier_named}
 use Rattle.lk_sound.proofs.Names.{IsAmong, AreDistinct}
 use Rattle.lk_sound.specs.Functions.{AreSeen, IsContext, HasFunctionType}
 use Rattle.lk_sound.specs.Law.{MainLaw, InstanceLaw}
 use Rattle.lk_sound.specs.Within.{IsFunctionOf}
-
--- a function of this name has the type
-abbrev HasNamed : Program → Label → Ground → Type 0
-HasNamed p g t = (f : FunDef) × (f.name.text ≡ g) × HasFunctionType p f t
 
 -- ---- functions of a group
 
@@ -98,53 +92,7 @@ module _ (p : Program) where
         type_there (own_entries (functions_in decl) some.0 ++ scheme_entries earlier) (tables_of p) (is_mutual decl) (functions_in decl) some.0 group.0 group.1 i f is in
         (found.0, group_typed some.0 group.0 group.1 i f found.0 is found.1)
 
-  -- ---- what a name stands for
-
-  -- each instance of a scheme is a type of a function of that name
-  abbrev AreRight : Named Scheme → Type 0
-  AreRight earlier = (g : Label) (scheme : Scheme) (σ : Grounding) (t : Ground) → named g earlier ≡ Some scheme → IsInstance σ scheme t → HasNamed p g t
-
-  others_right : (earlier : Named Scheme) (decl : Decl) (decls : List Decl) → AreLast earlier (decl ∷ decls) → (schemes : List Scheme) → Hold earlier (tables_of p) decl schemes
-      → AreRight earlier → AreRight (entries (functions_in decl) schemes ++ earlier)
-  others_right earlier decl decls last schemes hold right g scheme σ t is its =
-      by_side (paired (λ s. s) (functions_in decl) schemes earlier g scheme (subst (λ own. named g (own ++ earlier) ≡ Some scheme) (scheme_pairs (functions_in decl) schemes) is))
-    where
-      by_side : IsBeside (λ s. s) (functions_in decl) schemes g scheme ⊎ (named g earlier ≡ Some scheme) → HasNamed p g t
-      by_side (inl own) = (
-        own.function,
-        own.name,
-        scheme_typed earlier decl decls last schemes hold own.place own.function scheme σ t own.declared (own.beside ∙ ap (λ s. Some s) own.is) its,
-      )
-      by_side (inr before) = right g scheme σ t before its
-
-  use_here : (earlier : Named Scheme) (decl : Decl) (decls : List Decl) → AreLast earlier (decl ∷ decls) → AreRight earlier
-      → (ts nodes : List Ground) → IsGroup earlier (tables_of p) decl ts nodes
-      → (g : Label) (t : Ground) (entry : Entry Ground) → IsUse entry t → IsBeside One (functions_in decl) ts g entry ⊎ (named g (scheme_entries earlier) ≡ Some entry) → HasNamed p g t
-  use_here earlier decl decls last right ts nodes group g t _ IsUse.one (inl own) =
-      let same : own.thing ≡ t = cc in
-      (own.function, own.name, group_typed earlier decl decls last ts nodes group own.place own.function t own.declared (own.beside ∙ ap (λ s. Some s) same))
-  use_here earlier decl decls last right ts nodes group g t _ IsUse.one (inr before) =
-      let found : (scheme : Scheme) × (named g earlier ≡ Some scheme) × (Many scheme ≡ One t) = earlier_named earlier g (One t) before in
-      let wrong : Many found.0 ≡ One t = found.2 in
-      cc
-  use_here earlier decl decls last right ts nodes group g t _ (IsUse.instance {τ = τ} {scheme = scheme} its) (inl own) =
-      let wrong : One own.thing ≡ Many scheme = own.is in
-      cc
-  use_here earlier decl decls last right ts nodes group g t _ (IsUse.instance {τ = τ} {scheme = scheme} its) (inr before) =
-      let found : (s : Scheme) × (named g earlier ≡ Some s) × (Many s ≡ Many scheme) = earlier_named earlier g (Many scheme) before in
-      let many : ◌≡◌ {A = Entry Ground} (Many found.0) (Many scheme) = found.2 in
-      let same : found.0 ≡ scheme = cc in
-      right g scheme τ t (found.1 ∙ ap (λ s. Some s) same) its
-
-  use_in : (earlier : Named Scheme) (decls : List Decl) (functions : Named (Entry Ground)) → AreSeen (tables_of p) earlier decls functions
-      → AreLast earlier decls → AreRight earlier → (g : Label) (t : Ground) (entry : Entry Ground) → named g functions ≡ Some entry → IsUse entry t → HasNamed p g t
-  use_in earlier _ _ (AreSeen.here {decl = decl} {decls = decls} ts nodes group) last right g t entry is uses =
-      use_here earlier decl decls last right ts nodes group g t entry uses
-      (paired One (functions_in decl) ts (scheme_entries earlier) g entry (subst (λ own. named g (own ++ scheme_entries earlier) ≡ Some entry) (own_pairs (functions_in decl) ts) is))
-  use_in earlier _ functions (AreSeen.later {decl = decl} {decls = decls} schemes hold seen) last right g t entry is uses =
-      use_in (entries (functions_in decl) schemes ++ earlier) decls functions seen (others_last earlier decl decls last schemes hold) (others_right earlier decl decls last schemes hold right) g t entry is uses
-
--- ---- the function of a name
+  -- ---- the function of a name
 
 named_there : (fs : List FunDef) (f : FunDef) → OneOf (λ other. other ≡ f) fs → IsAmong f.name.text (map (λ (f : FunDef). f.name.text) fs)
 named_there [] f there = there
@@ -163,12 +111,6 @@ found_named (other ∷ fs) f distinct (inr later) = by_test (bytes_eq other.name
         let is : other.name.text ≡ f.name.text = (bytes_eq-Decides other.name.text f.name.text).0 same in
         absurd (distinct.0 (subst (λ x. IsAmong x (map (λ (f : FunDef). f.name.text) fs)) (sym is) (named_there fs f later)))
     by_test false differs found = found
-
-pub context_use : (p : Program) (functions : Named (Entry Ground)) (g : Label) (t : Ground) → AreDistinct (map (λ (f : FunDef). f.name.text) (functions_of p)) → IsContext p functions → MayBe functions g t
-    → (f : FunDef) × (function_named p g ≡ Some f) × HasFunctionType p f t
-context_use p functions g t distinct seen maybe =
-    let found : HasNamed p g t = use_in p [] p.decls functions seen (all_last p) (λ g scheme σ t is its. absurd (none-some scheme is)) g t maybe.0 maybe.1 maybe.2 in
-    (found.0, subst (λ x. function_named p x ≡ Some found.0) found.1 (found_named (functions_of p) found.0 distinct found.2.declared), found.2)
 
 -- ---- instances of schemes
 

@@ -51,9 +51,6 @@ pub record SeesTables (p : Program) (e : Expr) : Type 0 where
 
 -- ---- the bodies of functions
 
-abbrev name_text : TableDecl → Label
-name_text table = table.name.text
-
 -- one more table
 one_more : (p : Program) (tables : Names) (x : Word) → IsDeclared p x.text → AreDeclared p tables → AreDeclared p (bind x tables)
 one_more p tables x here are y is = by_test (eq_by_cmp (slice_cmp nat_cmp) y x.text) refl (sym (set.contains-insert nat_list_cmp_total tables x.text y) ∙ is)
