@@ -1,7 +1,8 @@
 -- What a store has once the declared tables are loaded, where no two have one name.
-use Rattle.std.proofs.Common.{◌≡◌, ◌∙◌, refl, sym, ap, subst, true≢false, Bool, true, false, ◌&&◌, ◌||◌, not, ℕ, List, [], ◌∷◌, map, find, bytes_eq, if◌then◌else◌}
+use Rattle.std.proofs.Common.{◌≡◌, ◌∙◌, refl, sym, ap, subst, true≢false, Bool, true, false, not, ℕ, List, [], ◌∷◌, map, find, bytes_eq, if◌then◌else◌}
 use Rattle.std.specs.Prelude.{Option, Some, None, option_map, IfSome, IsSome}
 use Rattle.std.specs.List.{AllZip, list_any}
+use Rattle.std.proofs.lemmas.Bool.{and_parts, or_parts, not-true}
 use Rattle.lk_ast.specs.Tables.{Tables, all_fit, rows_of, table_defs}
 use Rattle.lk_ast.specs.declared.declaration.Program.{Program}
 use Rattle.lk_ast.specs.declared.table.Row.{Row}
@@ -9,9 +10,11 @@ use Rattle.lk_ast.specs.declared.table.TableDef.{TableDef}
 use Rattle.lk_ast.specs.declared.table.TableRows.{TableRows}
 use Rattle.lk_bag.specs.Change.{with_rows}
 use Rattle.lk_sound.specs.Tables.{AreTables}
+use Rattle.lk_sound.proofs.Bindings.{same_bytes}
 use Rattle.lk_tables.specs.Law.{are_distinct}
+use Rattle.lk_tables.proofs.Puts.{itself}
 use Rattle.lk_types.specs.Each.{Each}
-use Rattle.lk_cli.proofs.Putting.{itself, name_of, same_name, turned}
+use Rattle.lk_cli.proofs.Putting.{name_of, turned}
 use Rattle.lk_cli.specs.Loading.{IsOfTable, all_put, loaded_over, rows_if}
 
 abbrev pub AreDistinct : List TableDef → Type 0
@@ -21,33 +24,19 @@ AreDistinct defs = are_distinct (map name_of defs) ≡ true
 abbrev found : List TableDef → List ℕ → Option TableDef
 found defs x = find (λ (def : TableDef). bytes_eq def.name x) defs
 
-both : (a b : Bool) → (a && b) ≡ true → (a ≡ true) × (b ≡ true)
-both true true is = (refl, refl)
-both true false is = absurd cc
-both false b is = absurd cc
-
-neither : (a b : Bool) → (a || b) ≡ false → (a ≡ false) × (b ≡ false)
-neither false false is = (refl, refl)
-neither false true is = absurd cc
-neither true b is = absurd cc
-
-denied : (b : Bool) → not b ≡ true → b ≡ false
-denied false is = refl
-denied true is = absurd cc
-
 -- none of these has that name
 abbrev IsNew : List ℕ → List TableDef → Type 0
 IsNew x defs = list_any (bytes_eq x) (map name_of defs) ≡ false
 
 split : (def : TableDef) (defs : List TableDef) → AreDistinct (def ∷ defs) → IsNew def.name defs × AreDistinct defs
 split def defs apart =
-    let halves = both (not (list_any (bytes_eq def.name) (map name_of defs))) (are_distinct (map name_of defs)) apart in
-    (denied (list_any (bytes_eq def.name) (map name_of defs)) halves.0, halves.1)
+    let halves = and_parts (not (list_any (bytes_eq def.name) (map name_of defs))) (are_distinct (map name_of defs)) apart in
+    (not-true (list_any (bytes_eq def.name) (map name_of defs)) halves.0, halves.1)
 
 unfound : (x : List ℕ) (defs : List TableDef) → IsNew x defs → found defs x ≡ None
 unfound x [] new = refl
 unfound x (def ∷ defs) new =
-    let halves = neither (bytes_eq x def.name) (list_any (bytes_eq x) (map name_of defs)) new in
+    let halves = or_parts (bytes_eq x def.name) (list_any (bytes_eq x) (map name_of defs)) new in
     ap (λ b. if b then Some def else found defs x) (turned def.name x ∙ halves.0) ∙ unfound x defs halves.1
 
 -- ---- the tables
@@ -57,7 +46,7 @@ module _ (def : TableDef) (defs : List TableDef) (table : TableRows) (tables : L
       → rows_if (found defs x) (rows_of tables x) (with_rows table.name table.rows old x)
       ≡ rows_if (if b then Some def else found defs x) (if b then table.rows else rows_of tables x) (old x)
   one_more x true is =
-      ap (λ o. rows_if o (rows_of tables x) (with_rows table.name table.rows old x)) (subst (λ y. found defs y ≡ None) (same_name def.name x is) (unfound def.name defs new))
+      ap (λ o. rows_if o (rows_of tables x) (with_rows table.name table.rows old x)) (subst (λ y. found defs y ≡ None) (same_bytes def.name x is) (unfound def.name defs new))
       ∙ ap (λ b. if b then table.rows else old x) (ap (λ y. bytes_eq y x) same ∙ is)
   one_more x false is = ap (λ b. rows_if (found defs x) (rows_of tables x) (if b then table.rows else old x)) (ap (λ y. bytes_eq y x) same ∙ is)
 
@@ -95,7 +84,7 @@ HasFit tables def = all_fit def (rows_of tables def.name) ≡ true
 behind : (table : TableRows) (tables : List TableRows) (x : List ℕ) (defs : List TableDef) → table.name ≡ x → IsNew x defs → Each (HasFit tables) defs → Each (HasFit (table ∷ tables)) defs
 behind table tables x [] same new each = tt
 behind table tables x (def ∷ defs) same new each =
-    let halves = neither (bytes_eq x def.name) (list_any (bytes_eq x) (map name_of defs)) new in
+    let halves = or_parts (bytes_eq x def.name) (list_any (bytes_eq x) (map name_of defs)) new in
     let other : bytes_eq def.name table.name ≡ false = turned def.name table.name ∙ ap (λ y. bytes_eq y def.name) same ∙ halves.0 in
     (ap (λ b. all_fit def (if b then table.rows else rows_of tables def.name)) other ∙ each.0, behind table tables x defs same halves.1 each.1)
 

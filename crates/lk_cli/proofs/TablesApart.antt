@@ -1,12 +1,15 @@
 -- In a program whose names are bound the tables have names of their own.
-use Rattle.std.proofs.Common.{◌≡◌, ◌∙◌, refl, sym, ap, ap₂, Bool, true, false, ◌&&◌, ◌||◌, not, ℕ, List, [], ◌∷◌, map, flat_map, bytes_eq, if◌then◌else◌}
-use Rattle.std.specs.Prelude.{Some, None}
+use Rattle.std.proofs.Common.{◌≡◌, ◌∙◌, refl, sym, ap, ap₂, true, false, ◌&&◌, ◌||◌, not, ℕ, List, [], ◌∷◌, map, flat_map, bytes_eq}
+use Rattle.std.specs.Prelude.{None}
 use Rattle.std.specs.List.{list_any}
 use Rattle.std.specs.FinSet as set
 use Rattle.std.specs.Ordering.{nat_cmp, eq_by_cmp}
 use Rattle.std.specs.Cmp.Lexicographic.{slice_cmp}
 use Rattle.std.proofs.lemmas.Cmp.{nat_list_cmp_total}
 use Rattle.std.proofs.lemmas.Map.Text.{is_eq-slice_cmp}
+use Rattle.std.proofs.lemmas.Bool.{or_parts}
+use Rattle.lk_sound.proofs.Faultless.{neither as both_none}
+use Rattle.lk_sound.proofs.NewNames.{once}
 use Rattle.lk_ast.specs.Functions.{main_of}
 use Rattle.lk_ast.specs.Tables.{table_def, table_defs, tables_in, tables_of}
 use Rattle.lk_ast.specs.declared.declaration.Decl.{Decl}
@@ -14,10 +17,8 @@ use Rattle.lk_ast.specs.declared.declaration.Decl.TheVariants.{Table, Fun, Mutua
 use Rattle.lk_ast.specs.declared.declaration.Program.{Program}
 use Rattle.lk_ast.specs.declared.declaration.TableDecl.{TableDecl}
 use Rattle.lk_ast.specs.declared.place.Word.{Word}
-use Rattle.lk_names.specs.Faults.{Fault, first_of}
 use Rattle.lk_names.specs.Programs.{IsBound, decl_fault, decls_fault, main_fault, names_fault, names_of, no_globals, with_decl}
 use Rattle.lk_names.specs.Repeats.{columns_fault, twice_fault}
-use Rattle.lk_names.specs.declared.error.NameError.TheVariants.{Twice}
 use Rattle.lk_names.specs.declared.globals.Globals.{Globals}
 use Rattle.lk_scope.specs.Names.{Names, no_names, is_local, bind, bind_all}
 use Rattle.lk_tables.specs.Law.{are_distinct}
@@ -29,18 +30,10 @@ use Rattle.lk_cli.proofs.Putting.{name_of, turned}
 abbrev AreUnmet : Names → List (List ℕ) → Type 0
 AreUnmet met xs = Each (λ x. is_local met x ≡ false) xs
 
-both_none : (a b : Fault) → first_of a b ≡ None → (a ≡ None) × (b ≡ None)
-both_none None b none = (refl, none)
-both_none (Some why) b none = absurd cc
-
-both_false : (a b : Bool) → (a || b) ≡ false → (a ≡ false) × (b ≡ false)
-both_false false b is = (refl, is)
-both_false true b is = absurd cc
-
 -- what isn't met behind a name isn't that name, and wasn't met before it
 unmet : (met : Names) (y x : List ℕ) → is_local (set.insert met y) x ≡ false → (bytes_eq x y ≡ false) × (is_local met x ≡ false)
 unmet met y x is =
-    let halves = both_false (eq_by_cmp (slice_cmp nat_cmp) x y) (is_local met x) (sym (set.contains-insert nat_list_cmp_total met y x) ∙ is) in
+    let halves = or_parts (eq_by_cmp (slice_cmp nat_cmp) x y) (is_local met x) (sym (set.contains-insert nat_list_cmp_total met y x) ∙ is) in
     (sym (is_eq-slice_cmp x y) ∙ halves.0, halves.1)
 
 -- and neither was any of these
@@ -55,13 +48,6 @@ before_all (word ∷ words) met xs are = before met word.text xs (before_all wor
 others : (met : Names) (y : List ℕ) (xs : List (List ℕ)) → AreUnmet (set.insert met y) xs → list_any (bytes_eq y) xs ≡ false
 others met y [] are = refl
 others met y (x ∷ xs) are = ap₂ (λ a b. a || b) (turned y x ∙ (unmet met y x are.0).0) (others met y xs are.1)
-
-once : (met : Names) (x : Word) → twice_fault met x ≡ None → is_local met x.text ≡ false
-once met x none = by_test (is_local met x.text) none
-  where
-    by_test : (b : Bool) → (if b then Some (Twice x.at) else None) ≡ None → b ≡ false
-    by_test true wrong = absurd cc
-    by_test false none = refl
 
 -- ---- declarations
 

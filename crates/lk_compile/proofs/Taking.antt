@@ -59,7 +59,6 @@ get_last [] x = refl
 get_last (y ∷ xs) x = get_last xs x
 
 module _ (touched : List Touched) (defs : List TableDef) (queries : List Translated) (funs : List FunInfo) where
-
   pub one_more_run : (n : ℕ) (blocks grown : List (Option BlockCode)) (left less : List Translated) (i : FunInfo) (found : Option BlockCode) → AreRunSoFar touched defs queries funs n blocks left → slice_get funs n ≡ Some i
       → OfAll left (λ all. Runs touched defs all n i.kind found) → Takes left less → grown ≡ blocks ++ found ∷ [] → AreRunSoFar touched defs queries funs (n + 1) grown less
   one_more_run n blocks grown left less i found so_far at runs (taken, took) is =

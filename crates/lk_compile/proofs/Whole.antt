@@ -1,6 +1,7 @@
 -- The table of a typed program's ground program, with its continuations, can be numbered.
-use Rattle.std.proofs.Common.{◌≡◌, refl, sym, ap, subst, ◌∙◌, ℕ, Bool, true, false, ◌&&◌, ◌==◌, codes, List, [], ◌∷◌, Option, Some, None, length, slice_get}
+use Rattle.std.proofs.Common.{◌≡◌, refl, sym, ap, subst, ◌∙◌, ℕ, true, false, ◌&&◌, ◌==◌, codes, List, [], ◌∷◌, Option, Some, None, length, slice_get}
 use Rattle.std.proofs.lemmas.Option.{none-some}
+use Rattle.std.specs.Cmp.{second_so}
 use Rattle.lk_ast.specs.Functions.{functions_of, is_client, is_main, is_named, main_of}
 use Rattle.lk_ast.specs.declared.declaration.FunDef.{FunDef}
 use Rattle.lk_ast.specs.declared.declaration.Program.{Program}
@@ -48,17 +49,13 @@ use Rattle.lk_compile.specs.Accepted.{IsGround, IsTyped}
 
 -- ---- where sessions begin
 
-both_last : (a b : Bool) → (a && b) ≡ true → b ≡ true
-both_last true b is = is
-both_last false b is = absurd (let wrong : false ≡ true = is in cc)
-
 of_client : (place : Loc) → is_client place ≡ true → place ≡ Client
 of_client Client is = refl
 of_client Server is = absurd (let wrong : false ≡ true = is in cc)
 of_client Any is = absurd (let wrong : false ≡ true = is in cc)
 
 main_place : (f : FunDef) → is_main f ≡ true → f.place ≡ Client
-main_place f is = of_client f.place (both_last (is_named (codes "main") f && (length f.params == 1)) (is_client f.place) is)
+main_place f is = of_client f.place (second_so (is_named (codes "main") f && (length f.params == 1)) (is_client f.place) is)
 
 -- the first instance has a type whose answer has no function in it
 plain_first : (p : Program) (mains helpers : List Use) (funs : List GroundFun) (bodies : List Body) → Are p mains helpers false funs bodies → (body : Body) (others : List Body) → bodies ≡ body ∷ others → answers_function body.use_of.type ≡ false

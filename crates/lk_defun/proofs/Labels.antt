@@ -2,6 +2,7 @@
 use Rattle.std.proofs.Common.{◌≡◌, refl, sym, ap, subst, ◌∙◌, ℕ, zero, suc, ◌+◌, true, false, List, [], ◌∷◌, Option, Some, None, map, slice_get, arith}
 use Rattle.std.specs.Option.{option_and_then, option_map}
 use Rattle.std.specs.Prelude.{IsSome}
+use Rattle.std.proofs.lemmas.Option.{slice_get-map}
 use Rattle.lk_ast.specs.declared.place.Loc.TheVariants.{Server}
 use Rattle.lk_ir.specs.Tables.{body_at, body_of, form_at, label_at}
 use Rattle.lk_ir.specs.declared.ir.CpsProgram.{CpsProgram}
@@ -21,7 +22,7 @@ use Rattle.lk_code.specs.Told.{env_of, of_block, of_node, taken, told}
 use Rattle.lk_code.specs.declared.infos.FunInfo.{FunInfo}
 use Rattle.lk_code.specs.declared.infos.FunKind.{FunKind}
 use Rattle.lk_code.specs.declared.infos.FunKind.TheVariants as fun
-use Rattle.lk_defun.proofs.Lists.{get_map, nowhere, some_same}
+use Rattle.lk_defun.proofs.Lists.{nowhere, some_same}
 use Rattle.lk_defun.specs.Numbers.{fun_at, fun_by, funs_from, kind_by, kind_in, name_in, place_in}
 use Rattle.lk_defun.specs.Words.{Word}
 
@@ -149,7 +150,7 @@ module _ (p : CpsProgram) (funs : List FunInfo) (funs_are : map Some funs ≡ fu
   pub both : (label : ℕ) → option_map Some (slice_get funs label) ≡ option_map (fun_at p label) (label_at p.forms label)
   both label =
       let none : 0 + label ≡ label = omega arith in
-      sym (get_map Some funs label) ∙ ap (λ os. slice_get os label) funs_are ∙ funs_at p 0 p.forms.labels label ∙ ap (λ m. option_map (fun_at p m) (label_at p.forms label)) none
+      sym (slice_get-map Some funs label) ∙ ap (λ os. slice_get os label) funs_are ∙ funs_at p 0 p.forms.labels label ∙ ap (λ m. option_map (fun_at p m) (label_at p.forms label)) none
 
   pub record HasLabel (label : ℕ) (i : FunInfo) : Type 0 where
     pub l : LabelForm

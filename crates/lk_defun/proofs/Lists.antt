@@ -3,6 +3,7 @@ use Rattle.std.proofs.Common.{◌≡◌, refl, sym, ap, ◌∙◌, ◌⊎◌, in
 use Rattle.std.proofs.lemmas.Bool.Decides.{nat_tests}
 use Rattle.std.specs.Option.{option_flatten, option_map}
 use Rattle.std.specs.Prelude.{nat_lt}
+use Rattle.std.proofs.lemmas.Option.{slice_get-map}
 
 -- ---- what is there
 
@@ -48,14 +49,9 @@ behind xs ys k count o long over is =
 
 -- ---- lists of what is there
 
-pub get_map : {A B : Type 0} (f : A → B) (xs : List A) (k : ℕ) → slice_get (map f xs) k ≡ option_map f (slice_get xs k)
-get_map f [] k = refl
-get_map f (x ∷ xs) zero = refl
-get_map f (x ∷ xs) (suc k) = get_map f xs k
-
 -- one of a list that is there as it was asked for
 pub get_there : {A : Type 0} (xs : List A) (os : List (Option A)) → map Some xs ≡ os → (k : ℕ) (o : Option A) → slice_get os k ≡ Some o → (x : A) × (slice_get xs k ≡ Some x) × (o ≡ Some x)
-get_there {A = A} xs os is k o at = by_place (slice_get xs k) refl (sym (get_map Some xs k) ∙ ap (λ ps. slice_get ps k) is ∙ at)
+get_there {A = A} xs os is k o at = by_place (slice_get xs k) refl (sym (slice_get-map Some xs k) ∙ ap (λ ps. slice_get ps k) is ∙ at)
   where
     by_place : (found : Option A) → slice_get xs k ≡ found → option_map Some found ≡ Some o → (x : A) × (slice_get xs k ≡ Some x) × (o ≡ Some x)
     by_place None at same = absurd (nowhere same)

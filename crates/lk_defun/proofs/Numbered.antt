@@ -2,6 +2,7 @@
 use Rattle.std.proofs.Common.{◌≡◌, refl, sym, ap, subst, ◌∙◌, ◌⊎◌, inl, inr, ℕ, ◌+◌, ◌≤◌, true, List, [], ◌∷◌, ◌++◌, Option, Some, None, length, map, slice_get, arith}
 use Rattle.std.specs.Option.{option_and_then, option_flatten, option_map}
 use Rattle.std.specs.Prelude.{IsSome, if◌then◌else◌, ◌-◌}
+use Rattle.std.proofs.lemmas.Option.{slice_get-map}
 use Rattle.lk_ast.specs.declared.place.Loc.TheVariants.{Server}
 use Rattle.lk_ground_types.specs.Shapes.{has_function}
 use Rattle.lk_ir.specs.Continuing.{conts_at}
@@ -28,7 +29,7 @@ use Rattle.lk_code.specs.declared.tables.Home.{Home}
 use Rattle.lk_defun.proofs.Framed.{frame_shown, return_shown, returns_at, returns_long}
 use Rattle.lk_defun.proofs.InOrder.{home_counted, home_found}
 use Rattle.lk_defun.proofs.Labels.{IsShown, at_server, both, form_keeps, informed, labelled, prints, with_body}
-use Rattle.lk_defun.proofs.Lists.{flat, get_back, get_front, get_map, get_there, gone, not_before, nowhere, some_same}
+use Rattle.lk_defun.proofs.Lists.{flat, get_back, get_front, get_there, gone, not_before, nowhere, some_same}
 use Rattle.lk_defun.specs.Numbers.{AreTables, cont_in, fun_at, frame_at, frame_in, funs_from, homes_from, kind_by, kind_in, place_in, return_at, returns_from}
 use Rattle.lk_defun.specs.Whole.{IsFirst, IsWhole}
 
@@ -165,7 +166,7 @@ module _ (p : CpsProgram) (funs : List FunInfo) (frames : List FrameInfo) (homes
       let asked : slice_get (returns_from p.forms 0 funs ++ map (frame_at p funs) homes) (length funs + cont.order) ≡ Some (frame_at p funs h)
       = ap (λ m. slice_get (returns_from p.forms 0 funs ++ map (frame_at p funs) homes) (m + cont.order)) long
       ∙ get_back (returns_from p.forms 0 funs) (map (frame_at p funs) homes) cont.order
-      ∙ get_map (frame_at p funs) homes cont.order
+      ∙ slice_get-map (frame_at p funs) homes cont.order
       ∙ ap (option_map (frame_at p funs)) at in
       let found = get_there frames _ frames_are (length funs + cont.order) (frame_at p funs h) asked in
       let shows = frame_shown p funs h form cont found.0 there has found.2 in
@@ -188,9 +189,9 @@ module _ (p : CpsProgram) (funs : List FunInfo) (frames : List FrameInfo) (homes
       = sym (get_back (returns_from p.forms 0 funs) (map (frame_at p funs) homes) (number - length funs))
       ∙ sym (ap (slice_get (returns_from p.forms 0 funs ++ map (frame_at p funs) homes)) behind)
       ∙ sym (ap (λ os. slice_get os number) frames_are)
-      ∙ get_map Some frames number
+      ∙ slice_get-map Some frames number
       ∙ ap (option_map Some) at in
-      by_home (slice_get homes (number - length funs)) refl (sym (get_map (frame_at p funs) homes (number - length funs)) ∙ asked)
+      by_home (slice_get homes (number - length funs)) refl (sym (slice_get-map (frame_at p funs) homes (number - length funs)) ∙ asked)
     where
       by_form : (h : Home) → slice_get homes (number - length funs) ≡ Some h → (form : Option Form) → form_at p.forms h.node ≡ form
           → option_and_then (λ form. option_and_then (frame_in p.forms funs form h.position) (cont_in p.conts h)) form ≡ Some i → IsNumbered c number

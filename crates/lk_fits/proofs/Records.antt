@@ -22,9 +22,10 @@ use Rattle.lk_typing.specs.Names.{Named, named}
 use Rattle.lk_typing.specs.Types.{record_of, variant_of, with_fields, labelled}
 use Rattle.lk_typing.specs.Typing.{label_of}
 use Rattle.lk_sound.proofs.FieldRows.{Grows, grows_to, grows_on, grows_itself, grown_length, as_fields, get_with, get_first, among_get, get_among, no_entries}
+use Rattle.lk_sound.proofs.Shapes.{fields_shown, tag_shown}
 use Rattle.lk_fits.proofs.Fitting.{as_many_fields}
 use Rattle.lk_fits.proofs.FieldValues.{fields_fit_both, empty_fits, all_fit, UnderLabel, found_under, AreLabelled, labelled_fit}
-use Rattle.lk_fits.proofs.Shapes.{IsRecord, fits_fields, IsTagged, fits_tags, fields_shown, tag_shown}
+use Rattle.lk_fits.proofs.Shapes.{IsRecord, fits_fields, IsTagged, fits_tags}
 use Rattle.lk_fits.proofs.Results.{IsResult}
 use Rattle.lk_fits.specs.Values.{Fits, FitEach, none_left, one_more, FieldsFit}
 

@@ -1,12 +1,11 @@
 -- Values by their types: what a value of a type is, and values that have one.
-use Rattle.std.proofs.Common.{◌≡◌, refl, sym, ap, subst, ◌∙◌, ℕ, ℤ, Bool, true, List, [], ◌∷◌, Option, Some}
+use Rattle.std.proofs.Common.{◌≡◌, refl, sym, ap, subst, ◌∙◌, ℕ, ℤ, Bool, true, List, [], ◌∷◌, Some}
 use Rattle.lk_ast.specs.declared.value.Field.{Field}
 use Rattle.lk_ast.specs.declared.value.FunValue.{FunValue}
 use Rattle.lk_ast.specs.declared.value.Value.{Value}
 use Rattle.lk_ast.specs.declared.value.Value.TheVariants as value
-use Rattle.lk_operators.specs.Values.{int as number, truth, text as words, list as items, fields as record_value, tagged, is_unit, int_in, bool_in, text_in, list_in, fields_in, tag_in, unit as unit_value}
+use Rattle.lk_operators.specs.Values.{int as number, truth, text as words, list as items, fields as record_value, tagged, is_unit, int_in, bool_in, text_in, list_in, unit as unit_value}
 use Rattle.lk_types.specs.Each.{OneOf}
-use Rattle.lk_types.specs.Rows.{Label}
 use Rattle.lk_types.specs.declared.ty.Effect.{Effect}
 use Rattle.lk_types.specs.declared.ground.Ground.{Ground, out-Ground}
 use Rattle.lk_types.specs.declared.ground.Ground.TheOpen.{Ground-F}
@@ -121,9 +120,3 @@ module _ (IsFun : ℕ → Ground → List Ground → Type 0) where
   unit_fits = Fits.fields [] [] refl no_field unit_is
 
 -- ---- what a record or a tag shows of itself
-
-pub fields_shown : (fs : List Field) → fields_in (record_value fs) ≡ Some fs
-fields_shown fs = simp (value.outs-Fields)
-
-pub tag_shown : (l : Label) (v : Value) → ◌≡◌ {A = Option (Label × Value)} (tag_in (tagged l v)) (Some (l, v))
-tag_shown l v = simp (value.outs-Tag)

@@ -1,5 +1,6 @@
 -- What a walk makes of each operator of a query, by its rule.
 use Rattle.std.proofs.Common.{◌≡◌, ℕ, ◌<◌, Bool, true, false, not, ◌&&◌, ℤ, ◌||◌, List, [], ◌∷◌, ◌++◌, length, map, Option, Some, None, refl, sym, ◌∙◌, ap, ap₂, subst, arith, if◌then◌else◌}
+use Rattle.std.proofs.lemmas.Bool.{both_ways}
 use Rattle.lk_ast.specs.Layers.{Layer, layer}
 use Rattle.lk_ast.specs.Tables.{Tables, tables_of}
 use Rattle.lk_ast.specs.declared.declaration.Program.{Program}
@@ -35,7 +36,6 @@ use Rattle.lk_query.specs.declared.part.Part.{Part}
 use Rattle.lk_query.specs.declared.part.Part.TheVariants as part
 use Rattle.lk_sites.specs.Pending.{Pending}
 use Rattle.lk_sound.proofs.FlatTypes.{unit_not_flat}
-use Rattle.lk_sound.proofs.QueryValues.{never_both}
 use Rattle.lk_sound.specs.Instances.{Instances}
 use Rattle.lk_sound.specs.Points.{AreLocals}
 use Rattle.lk_sound.specs.Tables.{AreTables}

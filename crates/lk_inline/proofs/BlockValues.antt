@@ -6,6 +6,7 @@ use Rattle.std.specs.FinMap as finite
 use Rattle.std.specs.List.{list_all}
 use Rattle.std.specs.Option.{option_or}
 use Rattle.std.specs.Ordering.{nat_cmp}
+use Rattle.std.specs.Cmp.{first_so, second_so}
 use Rattle.lk_ast.specs.Rows.{row_value}
 use Rattle.lk_ast.specs.Tables.{cells_fit, is_of_kind}
 use Rattle.lk_ast.specs.declared.declaration.Program.{Program}
@@ -35,7 +36,7 @@ use Rattle.lk_query.specs.Order as order
 use Rattle.lk_query.specs.declared.query.Captured.TheVariants as captured
 use Rattle.lk_query.specs.declared.query.Captured.{Captured}
 use Rattle.lk_sound.proofs.Bindings.{lookup_bound, same_bytes}
-use Rattle.lk_sound.proofs.FlatTypes.{IsFlatRow, base_is, first_holds, flat_row_is, second_holds}
+use Rattle.lk_sound.proofs.FlatTypes.{IsFlatRow, base_is, flat_row_is}
 use Rattle.lk_sound.proofs.Names as names
 use Rattle.lk_sound.proofs.Names.{IsAmong}
 use Rattle.lk_sound.proofs.TableRows.{base_fits, cell_fields}
@@ -74,8 +75,8 @@ fit_labels [] [] fit = refl
 fit_labels [] (cell ∷ cells) fit = absurd cc
 fit_labels (c ∷ columns) [] fit = absurd cc
 fit_labels (c ∷ columns) (cell ∷ cells) fit =
-    let first : (bytes_eq c.label cell.label && is_of_kind c.kind cell.value) ≡ true = first_holds (bytes_eq c.label cell.label && is_of_kind c.kind cell.value) _ fit in
-    ap₂ (λ l ls. l ∷ ls) (sym (same_bytes c.label cell.label (first_holds _ _ first))) (fit_labels columns cells (second_holds (bytes_eq c.label cell.label && is_of_kind c.kind cell.value) _ fit))
+    let first : (bytes_eq c.label cell.label && is_of_kind c.kind cell.value) ≡ true = first_so (bytes_eq c.label cell.label && is_of_kind c.kind cell.value) _ fit in
+    ap₂ (λ l ls. l ∷ ls) (sym (same_bytes c.label cell.label (first_so _ _ first))) (fit_labels columns cells (second_so (bytes_eq c.label cell.label && is_of_kind c.kind cell.value) _ fit))
 
 cells_at : (cells : List Cell) (before rest : List Base) (k : ℕ) → k ≡ length before + 1 → cells_from (before ++ (cell_values cells ++ rest)) k (map (λ (cell : Cell). cell.label) cells) ≡ cells
 cells_at [] before rest k is = refl
@@ -252,10 +253,10 @@ module _ (p : Program) (i : Instances) where
   cells_fit_fields [] (cell ∷ cells) flat fit = absurd cc
   cells_fit_fields (g ∷ gs) [] flat fit = absurd cc
   cells_fit_fields (g ∷ gs) (cell ∷ cells) flat fit =
-      let first : (bytes_eq g.label cell.label && is_of_kind (kind_of g.ty) cell.value) ≡ true = first_holds (bytes_eq g.label cell.label && is_of_kind (kind_of g.ty) cell.value) _ fit in
-      field (sym (same_bytes g.label cell.label (first_holds _ _ first)))
-      (base_fits_type g.ty (value.Base cell.value) cell.value (first_holds (is_base g.ty) _ flat) refl (second_holds (bytes_eq g.label cell.label) _ first))
-      (cells_fit_fields gs cells (second_holds (is_base g.ty) _ flat) (second_holds (bytes_eq g.label cell.label && is_of_kind (kind_of g.ty) cell.value) _ fit))
+      let first : (bytes_eq g.label cell.label && is_of_kind (kind_of g.ty) cell.value) ≡ true = first_so (bytes_eq g.label cell.label && is_of_kind (kind_of g.ty) cell.value) _ fit in
+      field (sym (same_bytes g.label cell.label (first_so _ _ first)))
+      (base_fits_type g.ty (value.Base cell.value) cell.value (first_so (is_base g.ty) _ flat) refl (second_so (bytes_eq g.label cell.label) _ first))
+      (cells_fit_fields gs cells (second_so (is_base g.ty) _ flat) (second_so (bytes_eq g.label cell.label && is_of_kind (kind_of g.ty) cell.value) _ fit))
 
   row_fits_type : (t : Ground) (v : Value) (row : Row) → is_flat_row t ≡ true → v ≡ row_value row → cells_fit (columns_of t) row.cells ≡ true → Fits p i v t
   row_fits_type t v row is same fit =

@@ -2,6 +2,7 @@
 use Rattle.std.proofs.Common.{◌≡◌, inl, inr, refl, sym, ap, ap₂, ◌∙◌, subst, Bool, true, false, ◌&&◌, ◌||◌, List, [], ◌∷◌, map, Some, bytes_eq, if◌then◌else◌}
 use Rattle.std.specs.Cmp.Lexicographic.{bytes_decides}
 use Rattle.std.specs.List.{list_all}
+use Rattle.std.specs.Cmp.{first_so, second_so}
 use Rattle.lk_ast.specs.Tables.{cells_fit, is_of_kind}
 use Rattle.lk_ast.specs.declared.declaration.Program.{Program}
 use Rattle.lk_ast.specs.declared.table.BaseKind.{BaseKind}
@@ -17,7 +18,7 @@ use Rattle.lk_locals.specs.Names.{Names, lookup, lookup_all, with_value}
 use Rattle.lk_query.specs.Captured.{AreCaptured, IsCaptured}
 use Rattle.lk_query.specs.Given.{cell_with, row_with}
 use Rattle.lk_query.specs.declared.query.Captured.TheVariants as captured
-use Rattle.lk_sound.proofs.FlatTypes.{IsFlatRow, base_is, first_holds, flat_row_is, second_holds}
+use Rattle.lk_sound.proofs.FlatTypes.{IsFlatRow, base_is, flat_row_is}
 use Rattle.lk_sound.proofs.Names.{IsAmong}
 use Rattle.lk_sound.proofs.Shapes.{IsRecord, fits_fields}
 use Rattle.lk_sound.proofs.TableRows.{IsBaseOf, base_of_fits, cell_fields}
@@ -58,8 +59,8 @@ module _ (p : Program) (i : Instances) where
   fields_captured [] flat (f ∷ fs) fits = elim fits [ ]
   fields_captured (g ∷ gs) flat [] fits = elim fits [ ]
   fields_captured (g ∷ gs) flat (f ∷ fs) (field same fit fits) =
-      let one : IsCaptured (captured.Base (kind_of g.ty)) f.value = base_captured g.ty f.value (first_holds (is_base g.ty) _ flat) fit in
-      let rest : AreCells gs fs = fields_captured gs (second_holds (is_base g.ty) _ flat) fs fits in
+      let one : IsCaptured (captured.Base (kind_of g.ty)) f.value = base_captured g.ty f.value (first_so (is_base g.ty) _ flat) fit in
+      let rest : AreCells gs fs = fields_captured gs (second_so (is_base g.ty) _ flat) fs fits in
       record {
         cells = cell_with g.label one.0 ∷ rest.cells;
         are = λ j. record { label = same j; value = one.1 j } ∷ rest.are j;

@@ -3,6 +3,7 @@ use Rattle.std.proofs.Common.{◌≡◌, refl, sym, ap, ap₂, subst, ◌∙◌,
 use Rattle.std.specs.Bool.{⊤}
 use Rattle.std.specs.List.{list_all}
 use Rattle.std.specs.Ordering.{is_eq}
+use Rattle.std.specs.Cmp.{first_so, second_so}
 use Rattle.lk_ast.specs.BaseOrder.{base_cmp}
 use Rattle.lk_ast.specs.Rows.{row_value}
 use Rattle.lk_ast.specs.declared.declaration.Program.{Program}
@@ -28,7 +29,7 @@ use Rattle.lk_operators.specs.Operators.{operated}
 use Rattle.lk_operators.specs.Order.{all_pass, in_order, same, same_fields}
 use Rattle.lk_operators.specs.Values.{base_in, fields_in, list_in, tag_in}
 use Rattle.lk_query.specs.Given.{Given, equal_from, equal_rows, of_base}
-use Rattle.lk_sound.proofs.FlatTypes.{IsFlatRow, first_holds, flat_row_is, second_holds}
+use Rattle.lk_sound.proofs.FlatTypes.{IsFlatRow, flat_row_is}
 use Rattle.lk_sound.proofs.Shapes.{fields_shown}
 use Rattle.lk_sound.proofs.TableRows.{cell_fields, bytes_itself}
 use Rattle.lk_sound.specs.Instances.{Instances}
@@ -86,9 +87,9 @@ module _ (p : Program) (i : Instances) where
   fields_equal (g ∷ gs) flat (c ∷ cs) [] one other = elim other [ ]
   fields_equal (g ∷ gs) flat (c ∷ cs) (d ∷ ds) (field first fits one) (field second also other) =
       let labelled : bytes_eq c.label d.label ≡ true = ap (bytes_eq c.label) (second ∙ sym first) ∙ bytes_itself c.label in
-      let held_same : same (value.Base c.value) (value.Base d.value) ≡ is_eq (base_cmp c.value d.value) = same_bases p i g.ty (first_holds (is_base g.ty) _ flat) _ _ c.value d.value fits also refl refl in
+      let held_same : same (value.Base c.value) (value.Base d.value) ≡ is_eq (base_cmp c.value d.value) = same_bases p i g.ty (first_so (is_base g.ty) _ flat) _ _ c.value d.value fits also refl refl in
       ap₂ (λ x y. (x && y) && all_pass (map same_fields (cell_fields cs)) (cell_fields ds)) labelled held_same
-      ∙ ap (λ x. is_eq (base_cmp c.value d.value) && x) (fields_equal gs (second_holds (is_base g.ty) _ flat) cs ds one other)
+      ∙ ap (λ x. is_eq (base_cmp c.value d.value) && x) (fields_equal gs (second_so (is_base g.ty) _ flat) cs ds one other)
 
 -- ---- equal at each label
 

@@ -1,5 +1,6 @@
 -- What a walk makes of an expression of a query, by its typing: parts that stand for what it gives.
 use Rattle.std.proofs.Common.{◌≡◌, ℕ, Bool, true, false, List, [], ◌∷◌, ◌++◌, drop, length, map, Some, None, refl, sym, ◌∙◌, ap, subst}
+use Rattle.std.proofs.lemmas.Bool.{both_ways}
 use Rattle.lk_ast.specs.Layers.{Layer, layer}
 use Rattle.lk_ast.specs.Tables.{Tables, tables_of}
 use Rattle.lk_ast.specs.declared.declaration.Program.{Program}
@@ -30,7 +31,7 @@ use Rattle.lk_sound.proofs.Bags.{parts_fit, value_fits}
 use Rattle.lk_sound.proofs.FlatTypes.{function_not_flat, unit_not_flat}
 use Rattle.lk_types.proofs.Members.{each_in, each_front, each_back}
 use Rattle.lk_sound.proofs.QueryParts.{AreQueryNodes, IsEarly, IsQueryNode, node_type, part_types}
-use Rattle.lk_sound.proofs.QueryValues.{CallsFit, never_both}
+use Rattle.lk_sound.proofs.QueryValues.{CallsFit}
 use Rattle.lk_sound.specs.Instances.{AreClosed, HasBody, Instances, IsHelperNode}
 use Rattle.lk_sound.specs.Nodes.{TypedNode, Use, compared_by, each_nodes, nodes_of, used_by}
 use Rattle.lk_sound.specs.Points.{AreLocals}
@@ -178,7 +179,7 @@ module _ (p : Program) (i : Instances) (closed : AreClosed p i) (tables : Tables
                 (subst (λ l. AreMade p i tables calls makes locals numbers ts (λ names. all_given tables calls names (parts label_of expr_of l)) inner q (all (map (walk makes) (parts label_of expr_of l)) numbers inner)) found.is (parts_made inner q ordered numbered rest))
                 (λ names fit. subst (λ l. FitEach p i (all_given tables calls names (parts label_of expr_of l)) ts) found.is (fits names fit))
                 (calls_made u (nodes.0.calls u used) hn at ts effects t (ap (λ (u : Use). u.type) use_is) own traps)
-    expr_made {effects = effects} flag (lambda l params own_effects a is named moves body local) own traps nodes numbers s q ordered numbered takes = absurd (never_both (effects effect.Local) own local)
+    expr_made {effects = effects} flag (lambda l params own_effects a is named moves body local) own traps nodes numbers s q ordered numbered takes = absurd (both_ways (effects effect.Local) own local)
     expr_made {effects = effects} {locals = locals} {e = e} {t = t} flag (var x d rest a first last is one next) own traps nodes numbers s q ordered numbered takes =
         let behind = taken_behind _ (nodes_of flag one ++ nodes_of flag next) s q refl (takes_first i.helpers _ (nodes_of flag one ++ nodes_of flag next) (left s) q takes) in
         let split = takes_split i.helpers (nodes_of flag one) (nodes_of flag next) (left (behind_type s)) q behind in
@@ -190,8 +191,8 @@ module _ (p : Program) (i : Instances) (closed : AreClosed p i) (tables : Tables
         (expr_made flag next own traps (back_nodes (nodes_of flag one) (nodes_of flag next) nodes.1) ((x.text, m.part) ∷ numbers) m.state q first_made.ordered
         (number_bound x.text a m.part locals numbers m.state.parts first_made.within (numbers_grow locals numbers s.parts m.state.parts first_made.grows numbered))
         (subst (λ l. Takes i.helpers (nodes_of flag next) l q) (sym first_made.left) split.2))
-    expr_made {effects = effects} flag (switch d cases row tags ts first bodies is one have same made local) own traps nodes numbers s q ordered numbered takes = absurd (never_both (effects effect.Local) own local)
-    expr_made {effects = effects} flag (switch_open d cases last rest row tags ts first bodies inside is one have same next made local) own traps nodes numbers s q ordered numbered takes = absurd (never_both (effects effect.Local) own local)
+    expr_made {effects = effects} flag (switch d cases row tags ts first bodies is one have same made local) own traps nodes numbers s q ordered numbered takes = absurd (both_ways (effects effect.Local) own local)
+    expr_made {effects = effects} flag (switch_open d cases last rest row tags ts first bodies inside is one have same next made local) own traps nodes numbers s q ordered numbered takes = absurd (both_ways (effects effect.Local) own local)
     expr_made {locals = locals} {e = e} flag (for_list x d body a b first inside is one next) own traps nodes numbers s q ordered numbered takes =
         let behind = taken_behind _ (nodes_of flag one ++ nodes_of flag next) s q refl (takes_first i.helpers _ (nodes_of flag one ++ nodes_of flag next) (left s) q takes) in
         let split = takes_split i.helpers (nodes_of flag one) (nodes_of flag next) (left (behind_type s)) q behind in

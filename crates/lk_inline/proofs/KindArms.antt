@@ -1,5 +1,6 @@
 -- The kinds of what a walk makes of operators: of bases, choices, lists, projections and tables.
 use Rattle.std.proofs.Common.{◌≡◌, ℕ, Bool, true, List, [], ◌∷◌, refl, ◌∙◌, ap, ap₂, if◌then◌else◌}
+use Rattle.std.proofs.lemmas.Bool.{both_ways}
 use Rattle.lk_ast.specs.Layers.{layer}
 use Rattle.lk_ast.specs.declared.declaration.TableDecl.{TableDecl}
 use Rattle.lk_ast.specs.declared.expression.Expr.{Expr}
@@ -24,7 +25,6 @@ use Rattle.lk_query.specs.declared.part.Part.{Part}
 use Rattle.lk_query.specs.declared.part.Part.TheVariants as part
 use Rattle.lk_sites.specs.Pending.{Pending}
 use Rattle.lk_sound.proofs.FieldRows.{get_among, get_first}
-use Rattle.lk_sound.proofs.QueryValues.{never_both}
 use Rattle.lk_sql.specs.Good.{operand_count}
 use Rattle.lk_sql.specs.declared.tree.SqlOp.{SqlOp}
 use Rattle.lk_sql.specs.declared.tree.SqlOp.TheVariants as op
@@ -140,7 +140,7 @@ module _ (functions : Named (Entry Ground)) (tables : List TableDecl) (locals : 
       let t : Ground = known_type.List (record_of row) in
       leaf_kinded scope scans makes e numbers known s q t (part.Table x.text (labels (element_columns t)))
       (walk_form makes e (Node-F.Table x) is numbers s ∙ ap (λ types. add (table types x.text) (behind_type s)) own) are (λ n. tt) (λ seen n. rows_kind t (list_rows (record_of row) flat)) (type_columns t flat order)
-      (λ off. absurd (never_both (effects effect.Scan) off may))
+      (λ off. absurd (both_ways (effects effect.Scan) off may))
 
   -- a choice, by the type of what is chosen; the node's own type is the next one
   pub if_arm : (c a b : Expr) (ts : List Ground) (t : Ground) (others : List Ground) → layer e ≡ Node-F.If c a b → By operator.If ts t → s.types ≡ t ∷ others → is_query_type t ≡ true → IsInOrder t → Parts ts (c ∷ a ∷ b ∷ []) → Makes t

@@ -1,5 +1,6 @@
 -- The kinds of what a walk makes of an expression of a query, by its typing.
 use Rattle.std.proofs.Common.{◌≡◌, ℕ, Bool, true, false, List, ◌∷◌, ◌++◌, drop, map, Some, None, refl, sym, ◌∙◌, ap, subst}
+use Rattle.std.proofs.lemmas.Bool.{both_ways}
 use Rattle.lk_ast.specs.Layers.{layer}
 use Rattle.lk_ast.specs.Tables.{tables_of}
 use Rattle.lk_ast.specs.declared.declaration.Program.{Program}
@@ -28,7 +29,6 @@ use Rattle.lk_sites.specs.Takes.{Takes}
 use Rattle.lk_sound.proofs.FlatTypes.{function_not_flat, unit_not_flat}
 use Rattle.lk_types.proofs.Members.{each_in, each_front, each_back}
 use Rattle.lk_sound.proofs.QueryParts.{AreQueryNodes, IsEarly, IsQueryNode, node_type, part_types}
-use Rattle.lk_sound.proofs.QueryValues.{never_both}
 use Rattle.lk_sound.specs.Instances.{AreClosed, HasBody, Instances, IsHelperNode}
 use Rattle.lk_sound.specs.Nodes.{TypedNode, Use, compared_by, each_nodes, nodes_of, used_by}
 use Rattle.lk_types.specs.Each.{Each}
@@ -64,7 +64,7 @@ module _ (scope : Scope) (scans : Bool) (makes : Calls) (e : Expr) (numbers : Na
         ordered = is.has.adds.ordered;
         same = is.has.adds.same;
         typed = is.has.adds.typed;
-        quiet = λ off none. absurd (never_both scans off may);
+        quiet = λ off none. absurd (both_ways scans off may);
       };
       within = is.has.within;
       is = is.has.is;
@@ -139,7 +139,7 @@ module _ (p : Program) (i : Instances) (closed : AreClosed p i) (makes : Calls) 
                 call_kinded scope (effects effect.Scan) makes e found.word found.args ts t numbers known s q hn later found.is calls_are
                 (subst (λ l. AreKinded scope (effects effect.Scan) ts known inner q (all (map (walk makes) (parts label_of expr_of l)) numbers inner)) found.is (parts_kinded inner q ordered typed have_known rest))
                 (calls_kinded u (nodes.0.calls u used) hn at ts effects t (ap (λ (u : Use). u.type) use_is) own traps)
-    expr_kinded {effects = effects} flag (lambda l params own_effects a is named moves body local) own traps nodes order scope known numbers s q ordered typed have_known takes = absurd (never_both (effects effect.Local) own local)
+    expr_kinded {effects = effects} flag (lambda l params own_effects a is named moves body local) own traps nodes order scope known numbers s q ordered typed have_known takes = absurd (both_ways (effects effect.Local) own local)
     expr_kinded {effects = effects} {locals = locals} {e = e} {t = t} flag (var x d rest a first last is one next) own traps nodes order scope known numbers s q ordered typed have_known takes =
         let behind = taken_behind _ (nodes_of flag one ++ nodes_of flag next) s q refl (takes_first i.helpers _ (nodes_of flag one ++ nodes_of flag next) (left s) q takes) in
         let split = takes_split i.helpers (nodes_of flag one) (nodes_of flag next) (left (behind_type s)) q behind in
@@ -152,8 +152,8 @@ module _ (p : Program) (i : Instances) (closed : AreClosed p i) (makes : Calls) 
         (known_bound x.text a m.part scope first_kinded.has.later locals numbers m.state.parts first_kinded.has.within first_kinded.has.is
         (known_later scope known first_kinded.has.later locals numbers s.parts m.state.parts (effects effect.Scan) first_kinded.has.adds have_known))
         (subst (λ l. Takes i.helpers (nodes_of flag next) l q) (sym first_kinded.left) split.2))
-    expr_kinded {effects = effects} flag (switch d cases row tags ts first bodies is one have same made local) own traps nodes order scope known numbers s q ordered typed have_known takes = absurd (never_both (effects effect.Local) own local)
-    expr_kinded {effects = effects} flag (switch_open d cases last rest row tags ts first bodies inside is one have same next made local) own traps nodes order scope known numbers s q ordered typed have_known takes = absurd (never_both (effects effect.Local) own local)
+    expr_kinded {effects = effects} flag (switch d cases row tags ts first bodies is one have same made local) own traps nodes order scope known numbers s q ordered typed have_known takes = absurd (both_ways (effects effect.Local) own local)
+    expr_kinded {effects = effects} flag (switch_open d cases last rest row tags ts first bodies inside is one have same next made local) own traps nodes order scope known numbers s q ordered typed have_known takes = absurd (both_ways (effects effect.Local) own local)
     expr_kinded {effects = effects} {locals = locals} {e = e} flag (for_list x d body a b first inside is one next) own traps nodes order scope known numbers s q ordered typed have_known takes =
         let behind = taken_behind _ (nodes_of flag one ++ nodes_of flag next) s q refl (takes_first i.helpers _ (nodes_of flag one ++ nodes_of flag next) (left s) q takes) in
         let split = takes_split i.helpers (nodes_of flag one) (nodes_of flag next) (left (behind_type s)) q behind in

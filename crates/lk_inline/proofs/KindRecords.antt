@@ -1,5 +1,6 @@
 -- The kinds of what a walk makes of records and lists of records.
 use Rattle.std.proofs.Common.{◌≡◌, ℕ, ◌<◌, Bool, true, List, [], ◌∷◌, ◌++◌, append-nil, length, map, refl, sym, ◌∙◌, ap, ap₂, subst}
+use Rattle.std.proofs.lemmas.List.{map_push}
 use Rattle.lk_ast.specs.Layers.{layer}
 use Rattle.lk_ast.specs.declared.declaration.TableDecl.{TableDecl}
 use Rattle.lk_ast.specs.declared.expression.Expr.{Expr}
@@ -18,7 +19,7 @@ use Rattle.lk_inline.proofs.KindSteps.{adds_both, adds_one, all_seen_later, fini
 use Rattle.lk_inline.proofs.KindsMade.{Adds, AreKinded, AreSeen, Descriptions, IsKinded, IsSeen, Scope, kinds_of, scopes_of}
 use Rattle.lk_inline.proofs.Making.{within_grows}
 use Rattle.lk_inline.proofs.QueryTypes.{list_rows, record_row, rows_flat}
-use Rattle.lk_inline.proofs.RecordArms.{all_below, all_labelled, all_last, below_front, last_map, rest_each, walks_of_fields}
+use Rattle.lk_inline.proofs.RecordArms.{all_below, all_labelled, all_last, below_front, rest_each, walks_of_fields}
 use Rattle.lk_inline.proofs.RecordRules.{bases_in, flat_bases, labelled_types}
 use Rattle.lk_inline.specs.KindsOfTypes.{IsInOrder, kind_of_type}
 use Rattle.lk_query.specs.Kinds.{AllHave, AreBases, Kind, OfBase, OfRecord}
@@ -144,7 +145,7 @@ module _ (functions : Named (Entry Ground)) (tables : List TableDecl) (locals : 
       let x : Part = part.Extend (labels (columns_of t)) (labelled ls m.numbers) rest.part in
       let both : Several = record { numbers = m.numbers ++ rest.part ∷ []; state = rest.state } in
       let both_is : all (map (walk makes) (es ++ d ∷ [])) numbers (behind_type s) ≡ both =
-      ap (λ walks. all walks numbers (behind_type s)) (last_map (walk makes) es d) ∙ all_last (map (walk makes) es) (walk makes d) numbers (behind_type s) in
+      ap (λ walks. all walks numbers (behind_type s)) (map_push (walk makes) es d) ∙ all_last (map (walk makes) es) (walk makes d) numbers (behind_type s) in
       let made_so : AreKinded scope scans ts known (behind_type s) q both = subst (λ m. AreKinded scope scans ts known (behind_type s) q m) both_is are in
       let below : AllBelow n m.numbers × (rest.part < n) = below_front n m.numbers rest.part (all_below ts both.numbers rest.state.parts made_so.within) in
       let other_row : is_flat_row (record_of other) ≡ true = record_row other (rest_each (λ u. is_query_type u ≡ true) (map label_of items) ts found (record_of other ∷ []) known_fields flats).0 in

@@ -1,6 +1,6 @@
 -- Which operators an expression of a query may have, by their rules: none that uses a function, that needs its own side or may trap, and none of whose type a query can't be.
 use Rattle.std.proofs.Common.{◌≡◌, Bool, true, false, not, List, [], ◌∷◌, Some, None, sym, ◌∙◌, ap, subst}
-use Rattle.std.proofs.lemmas.Bool.{not-true}
+use Rattle.std.proofs.lemmas.Bool.{not-true, both_ways}
 use Rattle.lk_ast.specs.Layers.{Layer, layer}
 use Rattle.lk_ast.specs.declared.declaration.TableDecl.{TableDecl}
 use Rattle.lk_ast.specs.declared.expression.Expr.{Expr}
@@ -8,7 +8,6 @@ use Rattle.lk_ast.specs.declared.expression.Node.TheOpen.{Node-F}
 use Rattle.lk_ground_types.specs.Shapes.{is_base, is_list, is_query_type}
 use Rattle.lk_inline.proofs.QueryTypes.{variant_not_flat}
 use Rattle.lk_sound.proofs.FlatTypes.{unit_not_flat}
-use Rattle.lk_sound.proofs.QueryValues.{never_both}
 use Rattle.lk_sound.specs.Nodes.{Equality, Order, compared_by, comparison, may_compare, used_by}
 use Rattle.lk_types.specs.Each.{Each}
 use Rattle.lk_types.specs.Rows.{EffectSet, Label}
@@ -80,25 +79,25 @@ module _ (functions : Named (Entry Ground)) (tables : List TableDecl) (locals : 
         by us u (rule.call may) is = cc
 
     no_apply : (ts : List Ground) (t : Ground) → By operator.Apply ts t → ⊥
-    no_apply ts t (rule.apply local) = never_both (effects effect.Local) own local
+    no_apply ts t (rule.apply local) = both_ways (effects effect.Local) own local
 
     no_seq : (ts : List Ground) (t : Ground) → By operator.Seq ts t → Each (λ u. is_query_type u ≡ true) ts → ⊥
     no_seq _ t rule.seq flat = unit_not_flat flat.0
 
     no_cons : (ts : List Ground) (t : Ground) → By operator.Cons ts t → ⊥
-    no_cons ts t (rule.cons local) = never_both (effects effect.Local) own local
+    no_cons ts t (rule.cons local) = both_ways (effects effect.Local) own local
 
     no_division : (ts : List Ground) (t : Ground) → By operator.Division ts t → ⊥
-    no_division ts t (rule.division may) = never_both (effects effect.Trap) traps may
+    no_division ts t (rule.division may) = both_ways (effects effect.Trap) traps may
 
     no_first : (ts : List Ground) (t : Ground) → By operator.First ts t → ⊥
-    no_first ts t (rule.first may local) = never_both (effects effect.Trap) traps may
+    no_first ts t (rule.first may local) = both_ways (effects effect.Trap) traps may
 
     no_rest : (ts : List Ground) (t : Ground) → By operator.Rest ts t → ⊥
-    no_rest ts t (rule.rest a may local) = never_both (effects effect.Trap) traps may
+    no_rest ts t (rule.rest a may local) = both_ways (effects effect.Trap) traps may
 
     no_text_of : (ts : List Ground) (t : Ground) → By operator.IntToString ts t → ⊥
-    no_text_of ts t (rule.int_to_string local) = never_both (effects effect.Local) own local
+    no_text_of ts t (rule.int_to_string local) = both_ways (effects effect.Local) own local
 
     no_print : (ts : List Ground) (t : Ground) → By operator.Print ts t → is_query_type t ≡ true → ⊥
     no_print ts _ (rule.print prints) flat = unit_not_flat flat

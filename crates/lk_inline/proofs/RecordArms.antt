@@ -1,6 +1,8 @@
 -- What a walk makes of records and lists of records.
 use Rattle.std.proofs.Common.{◌≡◌, ℕ, ◌<◌, Bool, true, false, List, [], ◌∷◌, ◌++◌, length, map, Option, Some, None, refl, sym, ◌∙◌, ap, ap₂, subst}
 use Rattle.std.specs.Option.{option_map}
+use Rattle.std.proofs.lemmas.List.{map_push}
+use Rattle.lk_mono.proofs.Reaching.{none_at as none_some}
 use Rattle.lk_ast.specs.Layers.{Layer, layer}
 use Rattle.lk_ast.specs.Tables.{Tables, tables_of}
 use Rattle.lk_ast.specs.declared.declaration.Program.{Program}
@@ -48,9 +50,6 @@ use Rattle.lk_typing.specs.Types as types
 use Rattle.lk_typing.specs.Types.{record_of}
 use Rattle.lk_typing.specs.Typing.{expr_of, label_of}
 
-none_some : {A : Type 0} {y : A} → None ≡ Some y → ⊥
-none_some is = cc
-
 -- ---- numbers of several parts
 
 pub all_below : (ts : List Ground) (numbers : List ℕ) (parts : List Part) → AreWithin ts numbers parts → AllBelow (length parts) numbers
@@ -80,10 +79,6 @@ all_last (v ∷ walks) w names s =
     all_more v (walks ++ w ∷ []) names s
     ∙ ap (λ (n : Several). record { numbers = m.part ∷ n.numbers; state = n.state }) (all_last walks w names m.state)
     ∙ ap (λ (n : Several). record { numbers = n.numbers ++ (w names n.state).part ∷ []; state = (w names n.state).state }) (sym (all_more v walks names s))
-
-pub last_map : {A B : Type 0} (f : A → B) (xs : List A) (y : A) → map f (xs ++ y ∷ []) ≡ map f xs ++ f y ∷ []
-last_map f [] y = refl
-last_map f (x ∷ xs) y = ap (λ rest. f x ∷ rest) (last_map f xs y)
 
 pub below_front : (n : ℕ) (numbers : List ℕ) (k : ℕ) → AllBelow n (numbers ++ k ∷ []) → AllBelow n numbers × (k < n)
 below_front n [] k below = (tt, below.0)
@@ -168,7 +163,7 @@ module _ (p : Program) (i : Instances) (tables : Tables) (calls : List ℕ → L
       let x : Part = part.Extend (labels (columns_of t)) (labelled ls m.numbers) rest.part in
       let both : Several = record { numbers = m.numbers ++ rest.part ∷ []; state = rest.state } in
       let both_is : all (map (walk makes) (es ++ d ∷ [])) numbers (behind_type s) ≡ both =
-      ap (λ walks. all walks numbers (behind_type s)) (last_map (walk makes) es d) ∙ all_last (map (walk makes) es) (walk makes d) numbers (behind_type s) in
+      ap (λ walks. all walks numbers (behind_type s)) (map_push (walk makes) es d) ∙ all_last (map (walk makes) es) (walk makes d) numbers (behind_type s) in
       let made_so : AreMade p i tables calls makes locals numbers ts (λ names. give_all names (es ++ d ∷ [])) (behind_type s) q both =
       subst (λ m. AreMade p i tables calls makes locals numbers ts (λ names. give_all names (es ++ d ∷ [])) (behind_type s) q m) both_is are in
       let below : AllBelow (length rest.state.parts) m.numbers × (rest.part < length rest.state.parts) = below_front (length rest.state.parts) m.numbers rest.part (all_below ts both.numbers rest.state.parts made_so.within) in
@@ -183,8 +178,8 @@ module _ (p : Program) (i : Instances) (tables : Tables) (calls : List ℕ → L
       (all_labelled ls (length rest.state.parts) m.numbers below.0, below.1)
       (λ values names fit each.
       let own_parts : ℕ → Gives = gives tables rest.state.parts in
-      let values_are : give_all names (es ++ d ∷ []) ≡ give_all names es ++ given tables calls d names ∷ [] = last_map (λ (e : Expr). given tables calls e names) es d in
-      let given_are : map (λ k. own_parts k values) (m.numbers ++ rest.part ∷ []) ≡ map (λ k. own_parts k values) m.numbers ++ own_parts rest.part values ∷ [] = last_map (λ k. own_parts k values) m.numbers rest.part in
+      let values_are : give_all names (es ++ d ∷ []) ≡ give_all names es ++ given tables calls d names ∷ [] = map_push (λ (e : Expr). given tables calls e names) es d in
+      let given_are : map (λ k. own_parts k values) (m.numbers ++ rest.part ∷ []) ≡ map (λ k. own_parts k values) m.numbers ++ own_parts rest.part values ∷ [] = map_push (λ k. own_parts k values) m.numbers rest.part in
       subst (λ v. Stands t v (given_level tables own_parts (length rest.state.parts) x values))
       (sym (given_operation tables calls e (Node-F.Extend items d) names is refl ∙ ap (λ ds. value_of (operated (Node-F.Extend items d) (give_all names ds))) (operands_are (Node-F.Extend items d) refl)
       ∙ ap (λ vs. value_of (operated (Node-F.Extend items d) vs)) values_are))

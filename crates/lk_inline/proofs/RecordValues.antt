@@ -4,6 +4,7 @@ use Rattle.std.proofs.lemmas.Slice.Eq.{bytes_eq-Decides}
 use Rattle.std.specs.FinMap as fin
 use Rattle.std.specs.List.{list_all}
 use Rattle.std.specs.Option.{option_map}
+use Rattle.std.specs.Cmp.{first_so, second_so}
 use Rattle.lk_ast.specs.Rows.{row_value, rows_value}
 use Rattle.lk_ast.specs.Tables.{Tables, tables_of}
 use Rattle.lk_ast.specs.declared.declaration.Program.{Program}
@@ -30,7 +31,6 @@ use Rattle.lk_operators.specs.Values.{fields_in}
 use Rattle.lk_operators.specs.declared.outcome.Outcome.TheVariants as outcome
 use Rattle.lk_query.specs.Given.{Given, at_labels, of_base, of_list}
 use Rattle.lk_sound.proofs.FieldRows.{get_among, get_first}
-use Rattle.lk_sound.proofs.FlatTypes.{first_holds, second_holds}
 use Rattle.lk_sound.proofs.Shapes.{fields_shown}
 use Rattle.lk_sound.proofs.TableRows.{cell_fields, rows_of_table}
 use Rattle.lk_sound.specs.Instances.{Instances}
@@ -69,12 +69,12 @@ label_among l t (g ∷ gs) (inr one) = inr (label_among l t gs one)
 -- a field of a flat record is a base
 pub base_among : (l : Label) (t : Ground) (gs : List GroundField) → list_all (λ (f : GroundField). is_base f.ty) gs ≡ true → OneOf (λ other. other ≡ record { label = l; ty = t }) gs → is_base t ≡ true
 base_among l t [] flat one = absurd one
-base_among l t (g ∷ gs) flat (inl is) = ap (λ (g : GroundField). is_base g.ty) (sym is) ∙ first_holds (is_base g.ty) _ flat
-base_among l t (g ∷ gs) flat (inr one) = base_among l t gs (second_holds (is_base g.ty) _ flat) one
+base_among l t (g ∷ gs) flat (inl is) = ap (λ (g : GroundField). is_base g.ty) (sym is) ∙ first_so (is_base g.ty) _ flat
+base_among l t (g ∷ gs) flat (inr one) = base_among l t gs (second_so (is_base g.ty) _ flat) one
 
 -- each field of a flat record is a base
 pub flat_fields : (gs : List GroundField) → is_flat_row (known.Fields gs) ≡ true → list_all (λ (f : GroundField). is_base f.ty) gs ≡ true
-flat_fields gs flat = second_holds (is_there gs) _ (sym (ap row_level (known.outs-Fields gs)) ∙ flat)
+flat_fields gs flat = second_so (is_there gs) _ (sym (ap row_level (known.outs-Fields gs)) ∙ flat)
 
 module _ (p : Program) (i : Instances) where
   pub field_stands : (e : Expr) (l : Word) (b : Ground) (gs : List GroundField) → is_flat_row (known.Fields gs) ≡ true → OneOf (λ other. other ≡ record { label = l.text; ty = b }) gs

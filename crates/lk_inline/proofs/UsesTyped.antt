@@ -1,5 +1,6 @@
 -- The types of captured names: what a query or a change uses of a name from outside has the type that the name has there.
 use Rattle.std.proofs.Common.{◌≡◌, ℕ, refl, sym, ap, ◌∙◌, subst, Bool, true, false, List, [], ◌∷◌, ◌++◌, drop, map, Some}
+use Rattle.std.proofs.lemmas.Bool.{both_ways}
 use Rattle.lk_ast.specs.Children.{exprs_of}
 use Rattle.lk_ast.specs.Tables.{tables_of}
 use Rattle.lk_ast.specs.declared.declaration.Program.{Program}
@@ -26,7 +27,6 @@ use Rattle.lk_sound.proofs.FreeLevels.{change_level, free_all, free_for_list, fr
 use Rattle.lk_types.proofs.Members.{each_weaker, each_front, each_back}
 use Rattle.lk_sound.proofs.Names.{IsAmong}
 use Rattle.lk_sound.proofs.QueryParts.{AreQueryNodes, IsQueryNode}
-use Rattle.lk_sound.proofs.QueryValues.{never_both}
 use Rattle.lk_sound.specs.Nodes.{TypedNode, Use, change_nodes, each_nodes, nodes_of}
 use Rattle.lk_types.specs.Each.{Each}
 use Rattle.lk_types.specs.Rows.{Label, EffectSet}
@@ -64,12 +64,12 @@ takes_node helpers node nodes _ q (takes.called {types = types} {calls = calls} 
 module _ (functions : Named (Entry Ground)) (tables : List TableDecl) where
   -- by its rule an operator may stand in a query
   stands : (locals : Named Ground) (effects : EffectSet) (h : Head) (ts : List Ground) (t : Ground) → effects effect.Local ≡ false → effects effect.Trap ≡ false → is_query_type t ≡ true → Rule functions tables locals effects h ts t → may_stand (Some h) ≡ true
-  stands locals effects _ _ t own traps flat (rule.apply local) = absurd (never_both (effects effect.Local) own local)
-  stands locals effects _ _ _ own traps flat (rule.cons local) = absurd (never_both (effects effect.Local) own local)
-  stands locals effects _ _ _ own traps flat (rule.division may) = absurd (never_both (effects effect.Trap) traps may)
-  stands locals effects _ _ t own traps flat (rule.first may local) = absurd (never_both (effects effect.Trap) traps may)
-  stands locals effects _ _ _ own traps flat (rule.rest a may local) = absurd (never_both (effects effect.Trap) traps may)
-  stands locals effects _ _ _ own traps flat (rule.int_to_string local) = absurd (never_both (effects effect.Local) own local)
+  stands locals effects _ _ t own traps flat (rule.apply local) = absurd (both_ways (effects effect.Local) own local)
+  stands locals effects _ _ _ own traps flat (rule.cons local) = absurd (both_ways (effects effect.Local) own local)
+  stands locals effects _ _ _ own traps flat (rule.division may) = absurd (both_ways (effects effect.Trap) traps may)
+  stands locals effects _ _ t own traps flat (rule.first may local) = absurd (both_ways (effects effect.Trap) traps may)
+  stands locals effects _ _ _ own traps flat (rule.rest a may local) = absurd (both_ways (effects effect.Trap) traps may)
+  stands locals effects _ _ _ own traps flat (rule.int_to_string local) = absurd (both_ways (effects effect.Local) own local)
   stands locals effects _ _ _ own traps flat (rule.print prints) = absurd (unit_not_flat flat)
   stands locals effects _ _ _ own traps flat (rule.tag other row made) = absurd (variant_not_flat row flat)
   stands locals effects _ _ _ own traps flat (rule.insert row has writes) = absurd (unit_not_flat flat)
@@ -127,13 +127,13 @@ module _ (functions : Named (Entry Ground)) (tables : List TableDecl) where
           let v : Used = own_use (Some h) u.types bound (behind_type u) in
           these_found (free_plain e h names is) (plain_uses e h is (stands locals effects h ts t own traps flat.0 by) bound u) (behind_first _ (each_nodes flag have) _ u _ calls q takes
           (λ later takes. both_found own_is (exprs_found flag have own traps flat.1 bound names are v later q (subst (λ ts. Takes helpers (each_nodes flag have) (pending ts later) q) (sym own_is.types_left) takes))))
-      expr_found {effects = effects} flag (lambda l params own_effects a is named moves body local) own traps flat bound names are u calls q takes = absurd (never_both (effects effect.Local) own local)
+      expr_found {effects = effects} flag (lambda l params own_effects a is named moves body local) own traps flat bound names are u calls q takes = absurd (both_ways (effects effect.Local) own local)
       expr_found {e = e} flag (var x d rest a first last is one next) own traps flat bound names are u calls q takes =
           these_found (free_var e x d rest names is) (uses_form e (Node-F.Var x d rest) is bound u) (binder_found _ (nodes_of flag one) (nodes_of flag next) x a d rest names u calls q takes
           (λ later r takes. expr_found flag one own traps (front_nodes (nodes_of flag one) (nodes_of flag next) flat.1) bound names are (behind_type u) later r takes)
           (λ v later takes. expr_found flag next own traps (back_nodes (nodes_of flag one) (nodes_of flag next) flat.1) (x.text ∷ bound) (bind x names) (one_bound x names bound are) v later q takes))
-      expr_found {effects = effects} flag (switch d cases row tags ts first bodies is one have same made local) own traps flat bound names are u calls q takes = absurd (never_both (effects effect.Local) own local)
-      expr_found {effects = effects} flag (switch_open d cases last rest row tags ts first bodies inside is one have same next made local) own traps flat bound names are u calls q takes = absurd (never_both (effects effect.Local) own local)
+      expr_found {effects = effects} flag (switch d cases row tags ts first bodies is one have same made local) own traps flat bound names are u calls q takes = absurd (both_ways (effects effect.Local) own local)
+      expr_found {effects = effects} flag (switch_open d cases last rest row tags ts first bodies inside is one have same next made local) own traps flat bound names are u calls q takes = absurd (both_ways (effects effect.Local) own local)
       expr_found {e = e} flag (for_list x d body a b first inside is one next) own traps flat bound names are u calls q takes =
           these_found (free_for_list e x d body names is) (uses_form e (Node-F.ForList x d body) is bound u) (binder_found _ (nodes_of flag one) (nodes_of flag next) x a d body names u calls q takes
           (λ later r takes. expr_found flag one own traps (front_nodes (nodes_of flag one) (nodes_of flag next) flat.1) bound names are (behind_type u) later r takes)

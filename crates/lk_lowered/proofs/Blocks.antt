@@ -1,10 +1,11 @@
 -- Queries, updates and deletions: what they capture has the types that the names around tell, and behind them nothing is left of
 -- what stands in them.
-use Rattle.std.proofs.Common.{◌≡◌, refl, sym, ap, subst, ◌∙◌, ℕ, suc, ◌+◌, true, false, List, [], ◌∷◌, ◌++◌, drop, length, Option, Some, None, inl, inr, slice_get, if◌then◌else◌, arith}
+use Rattle.std.proofs.Common.{◌≡◌, refl, sym, ap, subst, ◌∙◌, ℕ, true, false, List, [], ◌∷◌, ◌++◌, drop, length, Option, Some, None, inl, inr, slice_get, if◌then◌else◌}
 use Rattle.std.proofs.lemmas.Option.{none-some}
 use Rattle.std.specs.Cmp.Lexicographic.{slice_cmp}
 use Rattle.std.specs.List.Sorted.{IsStrictlySortedBy}
 use Rattle.std.specs.Ordering.{nat_cmp}
+use Rattle.std.proofs.Math.Numerals.{one-add}
 use Rattle.lk_ast.specs.Functions.{functions_of}
 use Rattle.lk_ast.specs.Layers.{Layer, layer}
 use Rattle.lk_ast.specs.Tables.{tables_of}
@@ -141,9 +142,6 @@ no_block (Node-F.Update change) h is acts = none-some h is
 no_block (Node-F.Delete change) h is acts = none-some h is
 no_block other h is acts = let wrong : false ≡ true = acts in cc
 
-one_more : (n : ℕ) → 1 + n ≡ suc n
-one_more n = omega arith
-
 drop_front : (xs ys : List Ground) → drop (length xs) (xs ++ ys) ≡ ys
 drop_front [] ys = refl
 drop_front (x ∷ xs) ys = drop_front xs ys
@@ -164,7 +162,7 @@ module _ (f : Forms) (rise : IsStrictlySortedBy (slice_cmp nat_cmp) f.locals) (i
       let many : placed nodes ≡ uses_in e = sym (ap (λ us. us ++ placed nodes) (ap (use_placed node.part.span.start) unused)) ∙ sym (ap placed nodes_are) ∙ uses_placed false d in
       let left : after.calls ≡ all.left = gone.calls ∙ ap (λ us. drop (length us) before.calls) (sym many) ∙ sym all.gone in
       record {
-        types_are = gone.types ∙ ap (λ k. drop k before.types) (as_many d ∙ one_more (length inside)) ∙ ap (drop (length (t ∷ inside))) types_are ∙ drop_front (t ∷ inside) types;
+        types_are = gone.types ∙ ap (λ k. drop k before.types) (as_many d ∙ one-add (length inside)) ∙ ap (drop (length (t ∷ inside))) types_are ∙ drop_front (t ∷ inside) types;
         calls = subst (AreCalled i.mains i.helpers false rest) (sym left) all.others;
       }
 

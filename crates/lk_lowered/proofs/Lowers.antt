@@ -42,7 +42,7 @@ use Rattle.lk_ir.specs.Tables.{body_at, body_of, form_at, label_at}
 use Rattle.lk_ir.specs.declared.nodes.Body.{Body}
 use Rattle.lk_ir.specs.declared.nodes.Forms.{Forms}
 use Rattle.lk_ir.specs.declared.nodes.Kind.{Kind}
-use Rattle.lk_lower.proofs.Counted.{takes, counted, lowered_both}
+use Rattle.lk_lower.proofs.Counted.{takes, counted, lowered_both, more_none}
 use Rattle.lk_lower.specs.Lowering as low
 use Rattle.lk_lower.specs.Lowering.{Pending, Shell, IsLowered, AreLowered, AreFuns, AreForms, tails_of, op_of, text_of}
 use Rattle.lk_lowered.proofs.Acts.{closure_acts, acts_of, label_is, labelled_acts}
@@ -76,11 +76,8 @@ module _ (g : GroundProgram) (f : Forms) (of : AreForms g f) (apart : AreApartTh
     labels_long : length f.labels ≡ label + length (labelled_from i funs)
     wholes_long : length f.wholes ≡ i + length funs
 
-  plus_none : (n : ℕ) → n ≡ n + 0
-  plus_none n = omega arith
-
   funs_come : (i : ℕ) (funs : List GroundFun) (label next : ℕ) → AreFuns f i funs label next → IsRest g i funs label → Comes i funs label
-  funs_come i _ label next (low.no_fun wholes named all nodes) rest = record { described = tt; labels_long = all ∙ plus_none label; wholes_long = wholes ∙ plus_none i }
+  funs_come i _ label next (low.no_fun wholes named all nodes) rest = record { described = tt; labels_long = all ∙ more_none label; wholes_long = wholes ∙ more_none i }
   funs_come i _ label next (low.one_fun {fun = fun} {funs = funs} body after ty whole named type has lowered others) rest =
       let sites = labelled_in (function_of fun).body in
       let before : Pending = record { types = fun.types; calls = fun.calls; label = label + 1; next = next } in

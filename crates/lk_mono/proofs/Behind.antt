@@ -1,20 +1,11 @@
 -- What stands behind a node.
-use Rattle.std.proofs.Common.{◌≡◌, ℕ, zero, suc, ◌+◌, Bool, ◌||◌, List, [], ◌∷◌, drop, map, take, refl, ap, ◌∙◌}
+use Rattle.std.proofs.Common.{◌≡◌, ℕ, ◌+◌, Bool, ◌||◌, List, [], ◌∷◌, drop, map, take, refl, ap, ◌∙◌}
 use Rattle.std.specs.List.{list_any}
+use Rattle.std.proofs.lemmas.List.{drop-map, take-map}
 use Rattle.lk_mono.specs.Flatness.{behind}
 
-drop_map : {A B : Type 0} → (f : A → B) (n : ℕ) (xs : List A) → drop n (map f xs) ≡ map f (drop n xs)
-drop_map f zero xs = refl
-drop_map f (suc n) [] = refl
-drop_map f (suc n) (x ∷ xs) = drop_map f n xs
-
-take_map : {A B : Type 0} → (f : A → B) (n : ℕ) (xs : List A) → take n (map f xs) ≡ map f (take n xs)
-take_map f zero xs = refl
-take_map f (suc n) [] = refl
-take_map f (suc n) (x ∷ xs) = ap (λ ys. f x ∷ ys) (take_map f n xs)
-
 pub behind_map : {A B : Type 0} → (f : A → B) (number nodes : ℕ) (xs : List A) → behind number nodes (map f xs) ≡ map f (behind number nodes xs)
-behind_map f number nodes xs = ap (take nodes) (drop_map f (1 + number) xs) ∙ take_map f nodes (drop (1 + number) xs)
+behind_map f number nodes xs = ap (take nodes) (drop-map f (1 + number) xs) ∙ take-map f nodes (drop (1 + number) xs)
 
 pub any_map : {A B : Type 0} → (test : B → Bool) (f : A → B) (xs : List A) → list_any test (map f xs) ≡ list_any (λ x. test (f x)) xs
 any_map test f [] = refl

@@ -1,8 +1,10 @@
 -- The instances of a ground program are a closed set: what they use is among them, their queries are flat, and helpers call only
 -- what stands before them.
 use Rattle.std.proofs.Common.{◌≡◌, inl, inr, ℕ, zero, suc, ◌+◌, ◌<◌, Bool, true, false, ◌||◌, List, [], ◌∷◌, ◌++◌, Some, find, slice_get, if◌then◌else◌, bytes_eq, cond, refl, sym, ap, ap₂, subst, ◌∙◌, append_assoc, append-nil}
-use native.Mathlib.Omega.{arith}
 use Rattle.std.proofs.lemmas.Option.{none-some}
+use Rattle.std.proofs.lemmas.Bool.{true_from_ne_false}
+use Rattle.std.specs.Cmp.{second_so}
+use Rattle.std.proofs.Math.Numerals.{one-add}
 use Rattle.lk_ast.specs.Functions.{functions_in, functions_of, is_main, is_named}
 use Rattle.lk_ast.specs.Tables.{tables_of}
 use Rattle.lk_ast.specs.declared.declaration.Decl.{Decl}
@@ -38,7 +40,6 @@ use Rattle.lk_principal.proofs.Standing.{both_parts}
 use Rattle.lk_principal.specs.Bodies.{IsSeenBy}
 use Rattle.lk_principal.specs.Law.{UseLaw}
 use Rattle.lk_sound.proofs.Apart.{functions_apart}
-use Rattle.lk_sound.proofs.FlatTypes.{second_holds}
 use Rattle.lk_types.proofs.Members.{found_in, one_in_back, one_in_front}
 use Rattle.lk_sound.specs.Functions.{AreSeen, HasFunctionType}
 use Rattle.lk_sound.specs.Instances.{AreClosed, HasBody, Instances, IsFine, IsFlatBlock, IsFlatPart, IsHelperNode, IsListed, IsShaped, number_in, number_of}
@@ -69,9 +70,6 @@ module _ (tables : List TableDecl) (decl : Decl) where
 
 -- ---- numbers of functions
 
-one_more : (n : ℕ) → 1 + n ≡ suc n
-one_more n = omega arith
-
 -- the first of a name has the number that the name has
 numbered : (fs : List FunDef) (g : Label) (f : FunDef) → find (is_named g) fs ≡ Some f → slice_get fs (number_in fs g) ≡ Some f
 numbered [] g f is = absurd (none-some f is)
@@ -80,7 +78,7 @@ numbered (other ∷ fs) g f is = by_test (bytes_eq other.name.text g) is (number
     by_test : (b : Bool) → cond b (Some other) (find (is_named g) fs) ≡ Some f → (find (is_named g) fs ≡ Some f → slice_get fs (number_in fs g) ≡ Some f)
         → slice_get (other ∷ fs) (if b then 0 else 1 + number_in fs g) ≡ Some f
     by_test true is later = is
-    by_test false is later = ap (slice_get (other ∷ fs)) (one_more (number_in fs g)) ∙ later is
+    by_test false is later = ap (slice_get (other ∷ fs)) (one-add (number_in fs g)) ∙ later is
 
 module _ {p : Program} {schemes : List Scheme} {types : List Ty} {u : Use} {nodes : List TypedNode} (bound : IsBound p) (body : IsBody p schemes types u nodes) where
   its_number : number_of p u.name ≡ body.number
@@ -129,17 +127,13 @@ module _ (mains helpers : List Use) where
 
 -- ---- flat blocks
 
-holds_or_not : (b : Bool) → (b ≡ false → ⊥) → b ≡ true
-holds_or_not true isnt = refl
-holds_or_not false isnt = absurd (isnt refl)
-
 all_hold : {A : Type 0} (test : A → Bool) (xs : List A) → (OneOf (λ x. test x ≡ false) xs → ⊥) → Each (λ x. test x ≡ true) xs
 all_hold test [] isnt = tt
-all_hold test (x ∷ xs) isnt = (holds_or_not (test x) (λ fails. isnt (inl fails)), all_hold test xs (λ one. isnt (inr one)))
+all_hold test (x ∷ xs) isnt = (true_from_ne_false (test x) (λ fails. isnt (inl fails)), all_hold test xs (λ one. isnt (inr one)))
 
 flat_parts : (helpers : List Use) (parts : List Part) → Each IsFlat parts → Each (PartUses (IsListed helpers)) parts → Each (IsFlatPart helpers) parts
 flat_parts helpers [] flat uses = tt
-flat_parts helpers (part ∷ parts) flat uses = (record { type = flat_type part.type _ flat.0; compares = second_holds (is_query_type part.type) _ flat.0; calls = uses.0 }, flat_parts helpers parts flat.1 uses.1)
+flat_parts helpers (part ∷ parts) flat uses = (record { type = flat_type part.type _ flat.0; compares = second_so (is_query_type part.type) _ flat.0; calls = uses.0 }, flat_parts helpers parts flat.1 uses.1)
 
 -- those of the one list are some of the other
 abbrev AreAmong : List TypedNode → List TypedNode → Type 0
@@ -237,7 +231,7 @@ module _ (use_law : UseLaw) (p : Program) (schemes : List Scheme) (types : List 
   helper_nodes body loopless have [] among flat uses = tt
   helper_nodes body loopless have (node ∷ nodes) among flat uses = (
     record {
-      flat = record { type = flat_type node.part.type _ flat.0; compares = second_holds (is_query_type node.part.type) _ flat.0; calls = uses.0 };
+      flat = record { type = flat_type node.part.type _ flat.0; compares = second_so (is_query_type node.part.type) _ flat.0; calls = uses.0 };
       before = λ w is. before body loopless w (among w (inl is)) helpers have (uses.0 w is);
     },
     helper_nodes body loopless have nodes (λ w one. among w (inr one)) flat.1 uses.1,

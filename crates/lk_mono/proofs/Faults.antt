@@ -1,13 +1,12 @@
 -- The first fault: what the code finds is what the definition says.
 use Rattle.std.proofs.Common.{◌≡◌, ℕ, ◌⊎◌, inl, inr, Bool, true, false, not, ◌&&◌, ◌||◌, List, [], ◌∷◌, Option, Some, None, map, refl, sym, ap, ◌∙◌, subst, nat_le, if◌then◌else◌}
-use Rattle.std.proofs.lemmas.Bool.{not-true}
+use Rattle.std.proofs.lemmas.Bool.{not-true, or_cases}
 use Rattle.std.specs.Option.{option_or}
 use Rattle.lk_ast.specs.declared.place.Span.{Span}
 use Rattle.lk_ground_types.specs.Shapes.{has_function, is_base, is_flat}
 use Rattle.lk_mono.proofs.Flags.{AreFlags, AreRight, flag_plain, flags_behind, is_flagged, main_flags, not_flat}
 use Rattle.lk_mono.proofs.Flags as flags
 use Rattle.lk_mono.proofs.Inside.{HasWithin, IsWhole, IsWithin, whole_nodes}
-use Rattle.lk_mono.proofs.Marks.{or_left_right}
 use Rattle.lk_mono.specs.Flatness.{Answers, behind, block_fault, body_fault, captured_odd, captures_odd, fault_of, first_fault, first_of, is_odd, is_odd_name, odd_nodes, placed, some_odd}
 use Rattle.lk_mono.specs.Grounded.{AreAllCalled, AreCalled}
 use Rattle.lk_mono.specs.Grounded as called
@@ -67,7 +66,7 @@ module _ (own : List Effect) (types : List Ground) (n : ℕ) where
 
   captures : (sites : List Site) → captures_odd types n sites ≡ true → OneOf IsOddType (captured_in own types n sites)
   captures [] e = let f : false ≡ true = e in cc
-  captures (s ∷ sites) e = elim (or_left_right (is_odd_name types n s s.kind) (captures_odd types n sites) e) [
+  captures (s ∷ sites) e = elim (or_cases (is_odd_name types n s s.kind) (captures_odd types n sites) e) [
     | inl here ↦ one_in_front IsOddType (captured_at own types n s s.kind) (captured_in own types n sites) (captured_here s s.kind here)
     | inr there ↦ one_in_back IsOddType (captured_at own types n s s.kind) (captured_in own types n sites) (captures sites there)
   ]

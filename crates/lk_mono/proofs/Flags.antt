@@ -2,9 +2,9 @@
 use Rattle.std.proofs.Common.{◌≡◌, ℕ, zero, suc, ◌+◌, ◌⊎◌, inl, inr, Bool, true, false, ◌||◌, List, [], ◌∷◌, Some, None, drop, map, slice_get, take, refl, sym, ap, ◌∙◌, subst, if◌then◌else◌}
 use Rattle.std.specs.List.{list_any}
 use Rattle.std.proofs.Math.Bool.{or-false, or-true}
+use Rattle.std.proofs.lemmas.Bool.{or_cases}
 use Rattle.lk_mono.proofs.Behind.{behind_map}
 use Rattle.lk_mono.proofs.Inside.{IsWithin}
-use Rattle.lk_mono.proofs.Marks.{or_left_right}
 use Rattle.lk_mono.proofs.Reaching.{IsOddUse, none_at, odd_part, odd_site}
 use Rattle.lk_mono.specs.Flatness.{behind, first_marked, is_marked, is_odd, is_use, odd_nodes, other_calls}
 use Rattle.lk_mono.specs.Grounded.{AreCalled}
@@ -56,7 +56,7 @@ module _ (helpers : List Body) where
 
   one_bad : {parts : List Part} {flags : List Bool} → AreFlags parts flags → Each IsWithin parts → list_any (λ one. one) flags ≡ true → OneOf IsBad parts
   one_bad none within e = let f : false ≡ true = e in cc
-  one_bad (more {flag} {flags} first rest) within e = elim (or_left_right flag (list_any (λ one. one) flags) e) [
+  one_bad (more {flag} {flags} first rest) within e = elim (or_cases flag (list_any (λ one. one) flags) e) [
     | inl here ↦ inl (first.sound within.0 here)
     | inr there ↦ inr (one_bad rest within.1 there)
   ]
@@ -129,7 +129,7 @@ module _ (helpers : List Body) (own : List Effect) (types : List Ground) where
     flag_use : (s : Site) (place : ℕ) (u : Use) → used own types s s.kind ≡ Some u → slice_get (if false || s.inside then uses_of helpers else ms) place ≡ Some u
         → IsFlag helpers (part_at own types s) (is_odd types s || is_marked marks place)
     flag_use s place u is at = record {
-      sound = λ within e. elim (or_left_right (is_odd types s) (is_marked marks place) e) [
+      sound = λ within e. elim (or_cases (is_odd types s) (is_marked marks place) e) [
         | inl odd ↦ inl (odd_part own types s odd)
         | inr marked ↦ inr (u, is, right.sound place u (among within) marked)
       ];

@@ -1,6 +1,6 @@
 -- Functions of a ground program, made of instances one after another.
 use Rattle.std.proofs.Common.{◌≡◌, ℕ, suc, ◌+◌, ◌⊎◌, inl, inr, length, Bool, List, [], ◌∷◌, ◌++◌, Some, append_assoc, refl, sym, ap, subst, ◌∙◌}
-use Rattle.std.proofs.lemmas.List.{append-nil}
+use Rattle.std.proofs.lemmas.List.{append-nil, nil_from_length}
 use native.Mathlib.Omega.{arith}
 use Rattle.lk_ground.specs.Language.{function_of}
 use Rattle.lk_ground.specs.declared.program.GroundFun.{GroundFun}
@@ -74,17 +74,13 @@ module _ (source : Source) (mains helpers : List Use) (in_helper : Bool) where
   no_calls [] are = refl
   no_calls (body ∷ left) are = elim are [ ]
 
-  none_at : {A : Type 0} (xs : List A) → length xs ≡ 0 → xs ≡ []
-  none_at [] is = refl
-  none_at (x ∷ xs) is = absurd (omega (arith, is))
-
   pub ends : (held : List Body) (funs : List GroundFun) (us : List TheUse) (bs : List TheBody) (cs : List (List ℕ)) → (length us ≡ 0) ⊎ ((length bs ≡ 0) ⊎ (length cs ≡ 0)) → AreOn held funs us bs cs
       → Are source.program.now mains helpers in_helper funs held
   ends held funs us bs cs none on = subst (λ fs. Are source.program.now mains helpers in_helper fs held) (append-nil funs) (on.whole [] (none_more on.left (by_end none))) where
     by_end : (length us ≡ 0) ⊎ ((length bs ≡ 0) ⊎ (length cs ≡ 0)) → on.left ≡ []
-    by_end (inl ended) = no_uses on.left (on.are_uses ∙ ap as_list (none_at us ended))
-    by_end (inr (inl ended)) = no_bodies on.left (subst (λ xs. AreHeld source xs on.left) (none_at bs ended) on.are_held)
-    by_end (inr (inr ended)) = no_calls on.left (subst (AreAllCalled mains helpers in_helper on.left) (none_at cs ended) on.called)
+    by_end (inl ended) = no_uses on.left (on.are_uses ∙ ap as_list (nil_from_length us ended))
+    by_end (inr (inl ended)) = no_bodies on.left (subst (λ xs. AreHeld source xs on.left) (nil_from_length bs ended) on.are_held)
+    by_end (inr (inr ended)) = no_calls on.left (subst (AreAllCalled mains helpers in_helper on.left) (nil_from_length cs ended) on.called)
 
   pub starts : (held : List Body) (funs : List GroundFun) (us uses : List TheUse) (bs bodies : List TheBody) (cs calls : List (List ℕ)) → funs ≡ [] → us ≡ uses → bs ≡ bodies → cs ≡ calls
       → AreHeld source bodies held → uses_of held ≡ as_list uses → AreAllCalled mains helpers in_helper held calls → AreOn held funs us bs cs

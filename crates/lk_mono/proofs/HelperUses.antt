@@ -1,6 +1,7 @@
 -- No helper has the type of a function that may call itself, and all parts of the bodies of helpers may stand in a query.
 use Rattle.std.proofs.Common.{◌≡◌, inl, inr, ℕ, zero, suc, Bool, true, false, List, [], ◌∷◌, ◌++◌, Option, Some, None, slice_get, append_assoc, append-nil, refl, sym, ap, subst, ◌∙◌}
 use Rattle.std.proofs.lemmas.Option.{none-some}
+use Rattle.std.proofs.lemmas.Bool.{true_from_ne_false}
 use Rattle.lk_ast.specs.declared.declaration.Program.{Program}
 use Rattle.lk_mono.proofs.BlockUses.{HasGoodBlock, IsFlatPart, IsGoodBlock, UsesSuch, block_uses, each_of_parts}
 use Rattle.lk_mono.proofs.FlatUses.{UsesLoopless, flat_uses}
@@ -26,13 +27,9 @@ use Rattle.lk_typing.specs.Names.{types_of}
 
 -- ---- parts
 
-flat_or_odd : (b : Bool) → (b ≡ false → ⊥) → b ≡ true
-flat_or_odd true isnt = refl
-flat_or_odd false isnt = absurd (isnt refl)
-
 none_odd : (parts : List Part) → (OneOf IsOdd parts → ⊥) → Each IsFlatPart parts
 none_odd [] isnt = tt
-none_odd (part ∷ parts) isnt = (flat_or_odd (is_flat_part part) (λ odd. isnt (inl odd)), none_odd parts (λ odd. isnt (inr odd)))
+none_odd (part ∷ parts) isnt = (true_from_ne_false (is_flat_part part) (λ odd. isnt (inl odd)), none_odd parts (λ odd. isnt (inr odd)))
 
 each_used : (R : Use → Type 0) (parts : List Part) → ((u : Use) → OneOf (IsUsedBy u) parts → R u) → Each (UsesSuch R) parts
 each_used R [] all = tt

@@ -2,7 +2,7 @@
 use Rattle.std.proofs.Common.{◌≡◌, ℕ, suc, ◌+◌, ◌-◌, ◌<◌, ◌≤◌, Bool, true, false, ◌&&◌, ◌==◌, not, cond, List, [], ◌∷◌, ◌++◌, get_or, length, take, Option, Some, None, Bor, find, bytes_eq, refl, sym, ap, ap₂, ◌∙◌}
 use native.Mathlib.Omega.{arith}
 use Rattle.std.proofs.Math.Seq.{take-suc}
-use Rattle.std.proofs.lemmas.Bool.{eqb-true, false≢true}
+use Rattle.std.proofs.lemmas.Bool.{eqb-true, false≢true, and_parts}
 use Rattle.std.proofs.lemmas.Bool.Decides.{nat_tests}
 use Rattle.std.proofs.lemmas.Map.Text.{btree_map_updates_str, is_eq-slice_cmp}
 use Rattle.std.proofs.lemmas.Option.{cond_some, slice_get_read}
@@ -72,10 +72,6 @@ is_at_use : (key q : Key) (u : Use) → key.0.now ≡ u.name.now → key.1 ≡ u
 is_at_use key q u named numbered =
     both_equal (slice_cmp nat_cmp key.0.now q.0.now) (nat_cmp key.1 q.1)
     ∙ ap₂ (λ b c. b && c) (is_eq-slice_cmp key.0.now q.0.now ∙ ap (λ n. bytes_eq n q.0.now) named) (unsigned_tied key.1 q.1 ∙ ap (λ n. n == q.1) numbered)
-
-and_parts : (b c : Bool) → (b && c) ≡ true → (b ≡ true) × (c ≡ true)
-and_parts true c is = (refl, is)
-and_parts false c is = absurd (false≢true is)
 
 -- no other key is looked up for it
 pub same_key : (name : Label) (number : ℕ) (u : Use) → is_use name number u ≡ true → (name ≡ u.name.now) × (number ≡ u.number)

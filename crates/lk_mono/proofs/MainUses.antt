@@ -1,15 +1,15 @@
 -- The first instance: `main` at its least type.
-use Rattle.std.proofs.Common.{◌≡◌, ℕ, Bool, true, false, ◌&&◌, ◌==◌, codes, List, [], ◌∷◌, Some, None, length, slice_get, refl, sym, ap, subst, ◌∙◌}
+use Rattle.std.proofs.Common.{◌≡◌, ℕ, Bool, true, ◌&&◌, ◌==◌, codes, List, [], ◌∷◌, Some, None, length, slice_get, sym, ap, subst, ◌∙◌}
 use Rattle.std.proofs.lemmas.Bool.{eqb-true}
 use Rattle.std.proofs.lemmas.List.{length-map}
 use Rattle.std.proofs.lemmas.Option.{none-some}
+use Rattle.std.specs.Cmp.{first_so, second_so}
 use native.Mathlib.Omega.{arith}
 use Rattle.lk_ast.specs.Functions.{functions_of, function_named, is_client, is_main, is_named, main_of}
 use Rattle.lk_ast.specs.declared.declaration.FunDef.{FunDef}
 use Rattle.lk_ast.specs.declared.declaration.Program.{Program}
 use Rattle.lk_ast.specs.declared.declaration.TableDecl.{TableDecl}
 use Rattle.lk_types.proofs.Parts.{same_some}
-use Rattle.lk_ground_types.proofs.Variables.{true_false}
 use Rattle.lk_ground_types.specs.Least.{least}
 use Rattle.lk_infer.specs.Inferred.{HasTypes}
 use Rattle.lk_mono.proofs.MembersAt.{IsMemberAt, IsNamedAt, member_at, named_at}
@@ -33,14 +33,6 @@ use Rattle.lk_typing.specs.Groups.{IsFunction}
 use Rattle.lk_typing.specs.Names.{Named, Entry, types_of}
 use Rattle.lk_typing.specs.Types.{function_of}
 
-and_left : (a b : Bool) → (a && b) ≡ true → a ≡ true
-and_left true b is = refl
-and_left false b is = is
-
-and_right : (a b : Bool) → (a && b) ≡ true → b ≡ true
-and_right true b is = is
-and_right false b is = absurd (true_false (sym is))
-
 module _ (p : Program) (schemes : List Scheme) (types : List Ty) where
   -- what there is of `main`
   pub record IsFirst (main : FunDef) (member : TheMember) : Type 0 where
@@ -62,7 +54,7 @@ module _ (p : Program) (schemes : List Scheme) (types : List Ty) where
   one_text (t ∷ u ∷ ts) one are = absurd (omega (arith, one))
 
   one_parameter : (f : FunDef) → is_main f ≡ true → length f.params ≡ 1
-  one_parameter f is = eqb-true (length f.params) 1 (and_right (is_named (codes "main") f) (length f.params == 1) (and_left (is_named (codes "main") f && (length f.params == 1)) (is_client f.place) is))
+  one_parameter f is = eqb-true (length f.params) 1 (second_so (is_named (codes "main") f) (length f.params == 1) (first_so (is_named (codes "main") f && (length f.params == 1)) (is_client f.place) is))
 
   pub is_of_text : {functions : Named (Entry Ground)} {tables : List TableDecl} {in_mutual : Bool} {f : FunDef} {t : Ground} {nodes : List Ground} → is_main f ≡ true
       → IsFunction functions tables in_mutual f t nodes → (effects : EffectSet) × (answer : Ground) × (t ≡ function_of (known.Text ∷ []) effects answer)

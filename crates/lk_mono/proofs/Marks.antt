@@ -2,6 +2,7 @@
 use Rattle.std.proofs.Common.{◌≡◌, ℕ, zero, suc, ◌+◌, ◌<◌, ◌≤◌, Bool, true, false, ◌||◌, List, [], ◌∷◌, ◌⊎◌, inl, inr, Option, Some, None, length, set, slice_get, refl, sym, ap, ◌∙◌, subst, arith}
 use Rattle.std.proofs.Math.Bool.{or-false, or-true}
 use Rattle.std.proofs.lemmas.List.{length-set}
+use Rattle.std.proofs.lemmas.Bool.{or_cases}
 use Rattle.lk_mono.specs.Flatness.{AreSettled, IsLeft, IsMarking, IsOddAt, IsPass, calling, calls_marked, is_marked, unmarked}
 use Rattle.lk_types.specs.Each.{OneOf}
 
@@ -34,14 +35,10 @@ marked_before (m ∷ ms) (suc i) (suc j) e = elim (marked_before ms i j e) [
   | inr same ↦ inr (ap suc same)
 ]
 
-pub or_left_right : (a b : Bool) → (a || b) ≡ true → (a ≡ true) ⊎ (b ≡ true)
-or_left_right true b e = inl refl
-or_left_right false b e = inr e
-
 -- one of these is marked
 pub some_marked : (marks : List Bool) (places : List ℕ) → calls_marked marks places ≡ true → (j : ℕ) × OneOf (λ place. place ≡ j) places × (is_marked marks j ≡ true)
 some_marked marks [] e = let f : false ≡ true = e in cc
-some_marked marks (place ∷ places) e = elim (or_left_right (is_marked marks place) (calls_marked marks places) e) [
+some_marked marks (place ∷ places) e = elim (or_cases (is_marked marks place) (calls_marked marks places) e) [
   | inl here ↦ (place, inl refl, here)
   | inr there ↦ (let found = some_marked marks places there in (found.0, inr found.1, found.2))
 ]

@@ -2,6 +2,7 @@
 use Rattle.std.proofs.Common.{arith, ◌≡◌, ℕ, zero, suc, ◌≤◌, Bool, true, false, List, [], ◌∷◌, Some, refl, ap, sym, subst, ◌∙◌, bytes_eq, cond, drop, length, take}
 use Rattle.std.proofs.lemmas.Option.{same_Some}
 use Rattle.std.specs.List.{find, slice_get}
+use Rattle.lk_ground_types.proofs.Variables.{true_false}
 use Rattle.lk_ast.specs.declared.declaration.FunDef.{FunDef}
 use Rattle.lk_outline.specs.Outline.{body_outline}
 use Rattle.lk_principal.specs.Bodies.{body_size, shares}
@@ -9,9 +10,6 @@ use Rattle.lk_types.specs.Rows.{Label}
 use Rattle.lk_types.specs.declared.scheme.Scheme.{Scheme}
 use Rattle.lk_types.specs.declared.ty.Ty.{Ty}
 use Rattle.lk_mono.specs.Members.{TheMember, member_of, members_of, named_member}
-
-true_false : true ≡ false → ⊥
-true_false e = cc
 
 -- it is the member of the function of that number
 pub record IsMemberAt (functions : List FunDef) (schemes : List Scheme) (types : List Ty) (i : ℕ) (m : TheMember) : Type 0 where

@@ -3,6 +3,7 @@ use Rattle.std.proofs.Common.{◌≡◌, refl, sym, ap, subst, ◌∙◌, arith,
 use Rattle.std.proofs.lemmas.Bool.Decides.{nat_tests}
 use Rattle.std.proofs.lemmas.Bool.{eqb-true}
 use Rattle.std.proofs.lemmas.Option.{none-some}
+use Rattle.lk_ground_types.proofs.Variables.{number_self}
 use Rattle.lk_ground.specs.Language.{at_place}
 use Rattle.lk_ground.specs.Sites.{PlacedUse, use_at}
 use Rattle.lk_index.specs.Places.{IsNone, AreApart}
@@ -15,9 +16,6 @@ use Rattle.lk_types.specs.Each.{Each}
 
 abbrev pub sites : List PlacedUse → List ℕ
 sites uses = map (λ u. u.site) uses
-
-number_itself : (n : ℕ) → (n == n) ≡ true
-number_itself n = grind (arith, nat_tests)
 
 other_number : (m n : ℕ) → (m ≡ n → ⊥) → (m == n) ≡ false
 other_number m n other = grind (arith, nat_tests)
@@ -38,7 +36,7 @@ found_behind u uses place places site n none found =
     ap (λ b. if b then Some place else at_place uses places site) (other_number u.site site (not_none uses places site n u.site found none)) ∙ found
 
 found_here : (u : PlacedUse) (uses : List PlacedUse) (place : ℕ) (places : List ℕ) → at_place (u ∷ uses) (place ∷ places) u.site ≡ Some place
-found_here u uses place places = ap (λ b. if b then Some place else at_place uses places u.site) (number_itself u.site)
+found_here u uses place places = ap (λ b. if b then Some place else at_place uses places u.site) (number_self u.site)
 
 module _ (mains helpers : List Use) (in_helper : Bool) where
   -- what a node uses is the instance at the place that is found where it begins, in the list in which it stands

@@ -1,10 +1,11 @@
 -- What adding uses to a list of instances does, to the code's list and to the definition's.
-use Rattle.std.proofs.Common.{◌≡◌, inl, inr, ℕ, zero, suc, ◌+◌, ◌-◌, ◌<◌, Bool, true, false, ◌&&◌, ◌==◌, cond, List, [], ◌∷◌, ◌++◌, length, Option, Some, None, slice_get, bytes_eq, refl, sym, ap, ap₂, subst, ◌∙◌}
+use Rattle.std.proofs.Common.{◌≡◌, inl, inr, ℕ, zero, suc, ◌+◌, ◌-◌, ◌<◌, Bool, true, false, ◌==◌, cond, List, [], ◌∷◌, ◌++◌, length, Option, Some, None, slice_get, bytes_eq, refl, sym, ap, ap₂, subst, ◌∙◌}
 use native.Mathlib.Omega.{arith}
-use Rattle.std.proofs.lemmas.Bool.{false≢true}
+use Rattle.std.proofs.lemmas.Bool.{false≢true, and_from}
 use Rattle.std.proofs.lemmas.Bool.Decides.{nat_tests}
 use Rattle.std.specs.Cmp.Lexicographic.{bytes_decides}
 use Rattle.lk_ground_types.specs.Grounds.{AreDistinct, at}
+use Rattle.lk_ground_types.proofs.LevelKeys.{at_there}
 use Rattle.std.specs.List.{position}
 use Rattle.std.specs.Option.{is_some, option_map}
 use Rattle.lk_mono.proofs.Lookups.{position-cons, same_key}
@@ -73,16 +74,8 @@ pub each_last : {A : Type 0} (P : A → Type 0) (xs : List A) (x : A) → Each P
 each_last P [] x all one = (one, tt)
 each_last P (y ∷ xs) x all one = (all.0, each_last P xs x all.1 one)
 
-there : (ts : List Ground) (n : ℕ) → n < length ts → slice_get ts n ≡ Some (at ts n)
-there [] n less = absurd (omega (arith, less))
-there (t ∷ ts) zero less = refl
-there (t ∷ ts) (suc n) less = there ts n (omega (arith, less))
-
 same_number : (ts : List Ground) → AreDistinct ts → (n m : ℕ) → n < length ts → m < length ts → at ts n ≡ at ts m → n ≡ m
-same_number ts distinct n m less small same = distinct n m (at ts m) (there ts n less ∙ ap Some same) (there ts m small)
-
-both_true : (b c : Bool) → b ≡ true → c ≡ true → (b && c) ≡ true
-both_true b c first second = ap₂ (λ b c. b && c) first second
+same_number ts distinct n m less small same = distinct n m (at ts m) (at_there ts n less ∙ ap Some same) (at_there ts m small)
 
 number_test : (n m : ℕ) → n ≡ m → (n == m) ≡ true
 number_test n m same = grind (arith, nat_tests, same)
@@ -102,7 +95,7 @@ module _ (ts : List Ground) (distinct : AreDistinct ts) (name : Label) (number :
       let names : x.name.now ≡ name = ap (λ (u : Use). u.name) same in
       let types : x.ty ≡ ty = ap (λ (u : Use). u.type) same in
       let numbers : x.number ≡ number = same_number ts distinct x.number number own.within is.within (own.is ∙ types ∙ sym is.is) in
-      false≢true (sym fails ∙ both_true (bytes_eq x.name.now name) (x.number == number) ((bytes_decides x.name.now name).1 names) (number_test x.number number numbers))
+      false≢true (sym fails ∙ and_from (bytes_eq x.name.now name) (x.number == number) ((bytes_decides x.name.now name).1 names) (number_test x.number number numbers))
 
   -- the place of the one that is listed is found
   pub listed_place : (xs : List TheUse) → AreUsesNumbered ts xs → IsIn (as_list xs) It → (n : ℕ) × (position (is_use name number) xs ≡ Some n) × (slice_get (as_list xs) n ≡ Some It)

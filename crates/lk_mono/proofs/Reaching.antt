@@ -1,12 +1,11 @@
 -- Marks of helpers: a helper is marked just where it reaches one that has something odd in it.
 use Rattle.std.proofs.Common.{◌≡◌, ℕ, zero, suc, ◌<◌, inl, inr, Bool, true, false, not, ◌||◌, List, [], ◌∷◌, Some, None, length, map, slice_get, refl, sym, ap, ◌∙◌, subst, arith}
-use Rattle.std.proofs.lemmas.Bool.{not-true}
+use Rattle.std.proofs.lemmas.Bool.{not-true, false_from_ne_true, or_cases}
 use Rattle.std.specs.List.{list_any}
 use Rattle.std.specs.Option.{option_map}
 use Rattle.std.proofs.lemmas.List.{length-map}
 use Rattle.std.proofs.lemmas.Option.{slice_get_within, slice_get-map}
 use Rattle.lk_mono.proofs.Behind.{any_map}
-use Rattle.lk_mono.proofs.Marks.{or_left_right}
 use Rattle.lk_mono.proofs.Ones.{at_one, one_at}
 use Rattle.lk_mono.specs.Flatness.{AreMarked, IsOddAt, calling, calls_marked, has_odd, is_marked, is_odd, itself as odd_itself}
 use Rattle.lk_mono.specs.Grounded.{AreAllCalled, AreCalled}
@@ -50,7 +49,7 @@ odd_site own types s odd = ap not (sym (flat_same own types s) ∙ odd)
 module _ (own : List Effect) (types : List Ground) (all : List Site) where
   odd_sites : (sites : List Site) → list_any (is_odd types) sites ≡ true → OneOf IsOdd (parts_of (map (node_at own types all) sites))
   odd_sites [] e = let no : false ≡ true = e in cc
-  odd_sites (s ∷ sites) e = elim (or_left_right (is_odd types s) (list_any (is_odd types) sites) e) [
+  odd_sites (s ∷ sites) e = elim (or_cases (is_odd types s) (list_any (is_odd types) sites) e) [
     | inl here ↦ inl (odd_part own types s here)
     | inr there ↦ inr (odd_sites sites there)
   ]
@@ -198,10 +197,6 @@ module _ (source : Source) (kepts : List TheBody) (helpers : List Body) (held : 
         or_true true = refl
         or_true false = refl
 
-    unless : (b : Bool) → (b ≡ true → ⊥) → b ≡ false
-    unless true isnt = absurd (isnt refl)
-    unless false isnt = refl
-
     both : {b : Bool} → b ≡ true → b ≡ false → ⊥
     both marked_so clear_so = let f : true ≡ false = sym marked_so ∙ clear_so in cc
 
@@ -214,7 +209,7 @@ module _ (source : Source) (kepts : List TheBody) (helpers : List Body) (held : 
         record {
           place = callee.0;
           at = callee.2;
-          clear = unless (is_marked marks callee.0) (λ e. both (marked.calling there.0 caller.0 (omega arith) (many there.0 _ there.1) caller.1 (any_marked caller.0 callee.0 callee.1 e)) there.2);
+          clear = false_from_ne_true (is_marked marks callee.0) (λ e. both (marked.calling there.0 caller.0 (omega arith) (many there.0 _ there.1) caller.1 (any_marked caller.0 callee.0 callee.1 e)) there.2);
         }
 
     -- a helper that reaches something odd is marked

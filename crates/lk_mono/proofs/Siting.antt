@@ -1,9 +1,9 @@
 -- What is found in an instance is what the nodes before the first whose type is too large use.
-use Rattle.std.proofs.Common.{◌≡◌, ℕ, suc, ◌+◌, Bool, true, false, not, cond, List, [], ◌∷◌, map, take, Some, None, slice_get, if◌then◌else◌, refl, sym, ap, subst, ◌∙◌}
-use native.Mathlib.Omega.{arith}
+use Rattle.std.proofs.Common.{◌≡◌, suc, ◌+◌, Bool, true, false, not, cond, List, [], ◌∷◌, map, take, Some, None, slice_get, if◌then◌else◌, refl, sym, ap, subst, ◌∙◌}
 use Rattle.std.proofs.lemmas.Option.{none-some}
 use Rattle.std.specs.List.{cons_option}
 use Rattle.std.specs.Option.{option_map}
+use Rattle.std.proofs.Math.Numerals.{one-add}
 use Rattle.lk_mono.specs.Held.{AreSited, types_in}
 use Rattle.lk_mono.specs.Held as held
 use Rattle.lk_mono.specs.Instances.{before_large, first_large, fits}
@@ -19,11 +19,8 @@ use Rattle.lk_types.specs.declared.ty.Effect.{Effect}
 
 -- ---- where the first too large one stands
 
-one_more : (n : ℕ) → 1 + n ≡ suc n
-one_more n = omega arith
-
 beyond_fitting : (t : Ground) (ts : List Ground) → fits t ≡ true → first_beyond (t ∷ ts) ≡ suc (first_beyond ts)
-beyond_fitting t ts fit = ap (λ b. cond (not (not b)) (1 + first_beyond ts) 0) fit ∙ one_more (first_beyond ts)
+beyond_fitting t ts fit = ap (λ b. cond (not (not b)) (1 + first_beyond ts) 0) fit ∙ one-add (first_beyond ts)
 
 beyond_large : (t : Ground) (ts : List Ground) → fits t ≡ false → first_beyond (t ∷ ts) ≡ 0
 beyond_large t ts large = ap (λ b. cond (not (not b)) (1 + first_beyond ts) 0) large

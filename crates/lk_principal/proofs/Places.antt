@@ -1,9 +1,7 @@
 -- Lists: what stands at a place of a list of two parts, or of a list made from another one.
 use Rattle.std.proofs.Common.{◌≡◌, ◌⊎◌, inl, inr, ℕ, zero, suc, ◌+◌, ◌<◌, List, [], ◌∷◌, ◌++◌, length, Some, slice_get, refl, sym, ap, ◌∙◌}
+use Rattle.std.proofs.Math.Nat.{suc-add}
 use native.Mathlib.Omega.{arith}
-
-one_behind : (n j : ℕ) → suc n + j ≡ suc (n + j)
-one_behind n j = omega arith
 
 none_before : (j : ℕ) → 0 + j ≡ j
 none_before j = omega arith
@@ -15,7 +13,7 @@ get_front (x ∷ xs) ys (suc i) within = get_front xs ys i (omega arith)
 
 pub get_back : {A : Type 0} (xs ys : List A) (j : ℕ) → slice_get (xs ++ ys) (length xs + j) ≡ slice_get ys j
 get_back [] ys j = ap (slice_get ys) (none_before j)
-get_back (x ∷ xs) ys j = ap (slice_get (x ∷ (xs ++ ys))) (one_behind (length xs) j) ∙ get_back xs ys j
+get_back (x ∷ xs) ys j = ap (slice_get (x ∷ (xs ++ ys))) (suc-add (length xs) j) ∙ get_back xs ys j
 
 -- a place of a list of two parts is one of the front or one of the back
 pub side : {A : Type 0} (xs ys : List A) (i : ℕ) (x : A) → slice_get (xs ++ ys) i ≡ Some x

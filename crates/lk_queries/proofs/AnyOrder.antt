@@ -1,6 +1,7 @@
 -- The same of helpers, and of whole programs: the laws of readings that are answered in any order.
 use Rattle.std.proofs.Common.{◌≡◌, arith, sym, ap, ◌∙◌, subst, ℕ, zero, suc, ◌<◌, ◌≤◌, true, false, List, [], ◌∷◌, ◌++◌, append-nil, length, Some}
 use Rattle.std.proofs.lemmas.List.Sorted.{IsPermutation-refl}
+use Rattle.std.proofs.lemmas.Bool.{both_ways}
 use Rattle.lk_ast.specs.Functions.{functions_of}
 use Rattle.lk_ast.specs.Layers.{layer}
 use Rattle.lk_ast.specs.Rows.{rows_value}
@@ -32,7 +33,7 @@ use Rattle.lk_sound.proofs.Calls.{length_names, length_texts, bound_all, no_loca
 use Rattle.lk_sound.proofs.Fitting.{as_many}
 use Rattle.lk_sound.proofs.Names.{AreDistinct}
 use Rattle.lk_sound.proofs.QueryParts.{AreQueryNodes}
-use Rattle.lk_sound.proofs.QueryValues.{CallsFit, never_both}
+use Rattle.lk_sound.proofs.QueryValues.{CallsFit}
 use Rattle.lk_sound.proofs.TextBlocks.{function_blocks, own_block, block_found}
 use Rattle.lk_sound.specs.Instances.{Instances, number_of, IsHelperNode, HasBody, AreClosed}
 use Rattle.lk_sound.specs.Nodes.{Use, nodes_of}
@@ -65,7 +66,7 @@ use Rattle.lk_queries.proofs.Ordered.{query_like, value_come}
 stays : (p : Program) (tables : Tables) (v : Value) (effects : EffectSet) (mark : Loc) (f : FunValue) (args : List Value) (body : Point) → effects effect.Move ≡ false → HasIf (is_marked mark) effects effect.Move
     → Comes p tables Value (λ w. IsLike w v) (eval (source p) body Server) → DoesLike p tables v (Goto mark f args body)
 stays p tables v effects Any f args body off moves come = come
-stays p tables v effects Client f args body off moves come = absurd (never_both (effects effect.Move) off moves)
+stays p tables v effects Client f args body off moves come = absurd (both_ways (effects effect.Move) off moves)
 stays p tables v effects Server f args body off moves come = come
 
 module _ (p : Program) (i : Instances) (bound : IsBound p) (apart : AreBlocksApart p) (closed : AreClosed p i) (tables : Tables) (rows : AreTables p tables) where

@@ -1,11 +1,11 @@
 -- What an expression that only scans has not, nor one that may stand in a query.
-use Rattle.std.proofs.Common.{◌≡◌, refl, subst, ℕ, Bool, true, false, List, Some}
+use Rattle.std.proofs.Common.{◌≡◌, refl, subst, ℕ, true, false, List, Some}
+use Rattle.std.proofs.lemmas.Bool.{false_from_ne_true, both_ways}
 use Rattle.lk_ast.specs.declared.declaration.Program.{Program}
 use Rattle.lk_ast.specs.declared.declaration.TableDecl.{TableDecl}
 use Rattle.lk_ground_types.specs.Shapes.{is_query_type}
 use Rattle.lk_sound.proofs.FlatTypes.{function_not_flat, unit_not_flat}
 use Rattle.lk_sound.proofs.QueryParts.{IsEarly}
-use Rattle.lk_sound.proofs.QueryValues.{never_both}
 use Rattle.lk_sound.specs.Instances.{Instances, IsHelperNode, HasBody, AreClosed}
 use Rattle.lk_sound.specs.Nodes.{Use, used_by}
 use Rattle.lk_types.proofs.Members.{each_in}
@@ -21,19 +21,15 @@ use Rattle.lk_queries.specs.Law.{AtMostScan}
 
 -- ---- effects that a query doesn't have
 
-is_off : (b : Bool) → (b ≡ true → ⊥) → b ≡ false
-is_off true never = absurd (never refl)
-is_off false never = refl
-
 module _ (effects : EffectSet) (only : AtMostScan effects) where
   pub no_local : effects effect.Local ≡ false
-  no_local = is_off (effects effect.Local) (λ on. let wrong : effect.Local ≡ effect.Scan = only effect.Local on in cc)
+  no_local = false_from_ne_true (effects effect.Local) (λ on. let wrong : effect.Local ≡ effect.Scan = only effect.Local on in cc)
 
   pub no_trap : effects effect.Trap ≡ false
-  no_trap = is_off (effects effect.Trap) (λ on. let wrong : effect.Trap ≡ effect.Scan = only effect.Trap on in cc)
+  no_trap = false_from_ne_true (effects effect.Trap) (λ on. let wrong : effect.Trap ≡ effect.Scan = only effect.Trap on in cc)
 
   pub no_move : effects effect.Move ≡ false
-  no_move = is_off (effects effect.Move) (λ on. let wrong : effect.Move ≡ effect.Scan = only effect.Move on in cc)
+  no_move = false_from_ne_true (effects effect.Move) (λ on. let wrong : effect.Move ≡ effect.Scan = only effect.Move on in cc)
 
 -- ---- operators that don't stand in queries
 
@@ -47,7 +43,7 @@ module _ {functions : Named (Entry Ground)} {tables : List TableDecl} {locals : 
       function_not_flat (types_of body.has.typed.params) body.has.typed.effects body.has.typed.answer (subst (λ u. is_query_type u ≡ true) body.has.typed.is flat)
 
   pub no_apply : AtMostScan effects → (ts : List Ground) (t : Ground) → Rule functions tables locals effects operator.Apply ts t → ⊥
-  no_apply only ts t (rule.apply local) = never_both (effects effect.Local) (no_local effects only) local
+  no_apply only ts t (rule.apply local) = both_ways (effects effect.Local) (no_local effects only) local
 
   pub no_seq : (ts : List Ground) (t : Ground) → Rule functions tables locals effects operator.Seq ts t → Each (λ u. is_query_type u ≡ true) ts → ⊥
   no_seq _ t rule.seq flat = unit_not_flat flat.0

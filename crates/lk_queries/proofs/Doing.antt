@@ -2,6 +2,7 @@
 -- otherwise.
 use Rattle.std.proofs.Common.{◌≡◌, refl, sym, ap, ◌∙◌, subst, ℕ, Bool, true, false, ◌&&◌, List, [], ◌∷◌, Some, IsPermutation}
 use Rattle.std.specs.List.{list_all}
+use Rattle.std.proofs.lemmas.Bool.{both_ways}
 use Rattle.lk_ast.specs.Functions.{function_named}
 use Rattle.lk_ast.specs.Tables.{Tables, table_defs, all_fit, row_fits}
 use Rattle.lk_ast.specs.declared.declaration.Program.{Program}
@@ -19,7 +20,6 @@ use Rattle.lk_operators.specs.Values.{bool_in}
 use Rattle.lk_operators.specs.declared.outcome.Outcome.{Outcome}
 use Rattle.lk_operators.specs.declared.outcome.Outcome.TheVariants as outcome
 use Rattle.lk_sound.proofs.QueryParts.{IsEarly}
-use Rattle.lk_sound.proofs.QueryValues.{never_both}
 use Rattle.lk_sound.proofs.Results.{IsResult}
 use Rattle.lk_sound.proofs.Shapes.{bool_of_fits, fits_list}
 use Rattle.lk_sound.specs.Instances.{Instances}
@@ -95,7 +95,7 @@ module _ (p : Program) (tables : Tables) where
 
   pub done_come : (i : Instances) (effects : EffectSet) (t : Ground) (o : Outcome) (at : Span) → effects effect.Trap ≡ false → IsResult p i effects t o → DoesLike (value_of o) (done at o)
   done_come i effects t (outcome.Value v) at traps result = gives_it v v (like_itself v)
-  done_come i effects t (outcome.Trap trap) at traps result = absurd (never_both (effects effect.Trap) traps result)
+  done_come i effects t (outcome.Trap trap) at traps result = absurd (both_ways (effects effect.Trap) traps result)
   done_come i effects t outcome.NoRule at traps result = absurd result
 
   pub choice_come : (i : Instances) (at : Span) (c v w : Value) (one other : Act Point) → Fits p i c known.Bool → DoesLike v one → DoesLike w other → DoesLike (chosen (bool_in c) v w) (choose at (bool_in c) one other)

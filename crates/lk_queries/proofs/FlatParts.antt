@@ -1,6 +1,7 @@
 -- The operators of a query whose parts are no lists, and what the two others come to.
 use Rattle.std.proofs.Common.{◌≡◌, refl, sym, ap, subst, ◌∙◌, Bool, true, false, not, ◌||◌, List, [], ◌∷◌, ◌++◌, append-nil, length, Option, Some, None, IsPermutation, arith}
 use Rattle.std.proofs.lemmas.List.Sorted.{length_permutation}
+use Rattle.std.proofs.lemmas.Bool.{both_ways}
 use Rattle.lk_ast.specs.Layers.{Layer, layer}
 use Rattle.lk_ast.specs.declared.declaration.TableDecl.{TableDecl}
 use Rattle.lk_ast.specs.declared.expression.Expr.{Expr}
@@ -12,7 +13,6 @@ use Rattle.lk_operators.specs.Operators.{operated}
 use Rattle.lk_operators.specs.Values.{list_in, truth}
 use Rattle.lk_operators.specs.declared.outcome.Outcome.TheVariants as outcome
 use Rattle.lk_inline.proofs.RecordRules.{flat_bases, bases_in, labelled_types, record_flat}
-use Rattle.lk_sound.proofs.QueryValues.{never_both}
 use Rattle.lk_sound.specs.Nodes.{comparison, compared_by, may_compare}
 use Rattle.lk_types.proofs.Members.{each_back, each_both}
 use Rattle.lk_types.specs.Each.{Each}
@@ -83,14 +83,14 @@ module _ (functions : Named (Entry Ground)) (tables : List TableDecl) (names : N
   flat_parts rule.logic mixed query queries = absurd cc
   flat_parts rule.concat mixed query queries = (text_flat, (text_flat, tt))
   flat_parts (rule.append a) mixed query queries = absurd cc
-  flat_parts (rule.cons local) mixed query queries = absurd (never_both (effects effect.Local) (no_local effects only) local)
+  flat_parts (rule.cons local) mixed query queries = absurd (both_ways (effects effect.Local) (no_local effects only) local)
   flat_parts rule.arithmetic mixed query queries = (int_flat, (int_flat, tt))
   flat_parts (rule.division traps) mixed query queries = (int_flat, (int_flat, tt))
   flat_parts rule.comparison mixed query queries = absurd cc
   flat_parts rule.negation mixed query queries = (int_flat, tt)
   flat_parts rule.not mixed query queries = (bool_flat, tt)
-  flat_parts (rule.first traps local) mixed query queries = absurd (never_both (effects effect.Local) (no_local effects only) local)
-  flat_parts (rule.rest a traps local) mixed query queries = absurd (never_both (effects effect.Local) (no_local effects only) local)
+  flat_parts (rule.first traps local) mixed query queries = absurd (both_ways (effects effect.Local) (no_local effects only) local)
+  flat_parts (rule.rest a traps local) mixed query queries = absurd (both_ways (effects effect.Local) (no_local effects only) local)
   flat_parts (rule.empty a) mixed query queries = absurd cc
   flat_parts (rule.int_to_string local) mixed query queries = (int_flat, tt)
   flat_parts (rule.print prints) mixed query queries = absurd cc

@@ -3,6 +3,7 @@
 use Rattle.std.proofs.Common.{◌≡◌, arith, refl, sym, ap, ◌∙◌, subst, ℕ, zero, suc, ◌≤◌, Bool, true, false, List, [], ◌∷◌, append-nil, length, Some, IsPermutation, ◌+◌, Option, None}
 use Rattle.std.proofs.lemmas.List.Sorted.{IsPermutation-refl, IsPermutation-sym}
 use Rattle.std.proofs.lemmas.Option.{none-some}
+use Rattle.std.proofs.lemmas.Bool.{both_ways}
 use Rattle.lk_ast.specs.Functions.{functions_of, function_named}
 use Rattle.lk_ast.specs.Layers.{Layer, layer}
 use Rattle.lk_ast.specs.Tables.{Tables, tables_of}
@@ -42,7 +43,7 @@ use Rattle.lk_sound.proofs.Fitting.{as_many}
 use Rattle.lk_sound.proofs.FlatTypes.{unit_not_flat}
 use Rattle.lk_sound.proofs.Names.{AreDistinct}
 use Rattle.lk_sound.proofs.QueryParts.{IsEarly, IsQueryNode, AreQueryNodes, node_type, part_types}
-use Rattle.lk_sound.proofs.QueryValues.{CallsFit, never_both, items_fit}
+use Rattle.lk_sound.proofs.QueryValues.{CallsFit, items_fit}
 use Rattle.lk_sound.proofs.TextBlocks.{insides_blocks, function_blocks}
 use Rattle.lk_sound.specs.Instances.{Instances, IsHelperNode, HasBody, AreClosed}
 use Rattle.lk_sound.specs.Nodes.{Use, used_by, nodes_of, each_nodes}
@@ -329,7 +330,7 @@ module _ (p : Program) (i : Instances) (apart : AreBlocksApart p) (closed : AreC
         (λ inner inner_fit likes. all_alike names inner (typing_parts e) (parts_like p i closed tables tables same_order rows rows calls calls n calls_fit calls_fit own_like functions flag have only all.1 inner names inner_fit fit likes))
         (parts_enough flag have only all.1 inside_blocks names fit)
         (λ inner inner_fit. comes flag have only all.1 inside_blocks inner inner_fit)
-    value_enough {effects = effects} flag (lambda l params own a is named moves body local) only all blocks names fit = absurd (never_both (effects effect.Local) (no_local effects only) local)
+    value_enough {effects = effects} flag (lambda l params own a is named moves body local) only all blocks names fit = absurd (both_ways (effects effect.Local) (no_local effects only) local)
     value_enough {effects = effects} {locals = locals} {e = e} flag (var x d rest a first last is one next) only all blocks names fit =
         let first_nodes = each_front (IsQueryNode p i.helpers n) (nodes_of flag one) (nodes_of flag next) all.1 in
         let next_nodes = each_back (IsQueryNode p i.helpers n) (nodes_of flag one) (nodes_of flag next) all.1 in
@@ -342,8 +343,8 @@ module _ (p : Program) (i : Instances) (apart : AreBlocksApart p) (closed : AreC
           bound_one p i x.text w a locals inner w_fits inner_fit,
           like_bound x.text w (give d names) a locals inner names (like_then w (give d inner) (give d names) like (renamed flag one only first_nodes inner names inner_fit fit likes)) likes,
         ))
-    value_enough {effects = effects} flag (switch d cases row tags ts first bodies is one have alike made local) only all blocks names fit = absurd (never_both (effects effect.Local) (no_local effects only) local)
-    value_enough {effects = effects} flag (switch_open d cases last rest row tags ts first bodies inside is one have alike next made local) only all blocks names fit = absurd (never_both (effects effect.Local) (no_local effects only) local)
+    value_enough {effects = effects} flag (switch d cases row tags ts first bodies is one have alike made local) only all blocks names fit = absurd (both_ways (effects effect.Local) (no_local effects only) local)
+    value_enough {effects = effects} flag (switch_open d cases last rest row tags ts first bodies inside is one have alike next made local) only all blocks names fit = absurd (both_ways (effects effect.Local) (no_local effects only) local)
     value_enough {effects = effects} {locals = locals} {e = e} flag (for_list x d body a b first inside is one next) only all blocks names fit =
         let first_nodes = each_front (IsQueryNode p i.helpers n) (nodes_of flag one) (nodes_of flag next) all.1 in
         let next_nodes = each_back (IsQueryNode p i.helpers n) (nodes_of flag one) (nodes_of flag next) all.1 in
@@ -381,7 +382,7 @@ module _ (p : Program) (i : Instances) (apart : AreBlocksApart p) (closed : AreC
 stays : (p : Program) (tables : Tables) (F : ℕ) (effects : EffectSet) (mark : Loc) (f : FunValue) (args : List Value) (body : Point) → effects effect.Move ≡ false → HasIf (is_marked mark) effects effect.Move
     → Uses p tables Value F (eval (source p) body Server) → DoesUse p tables F (Goto mark f args body)
 stays p tables F effects Any f args body off moves uses = uses
-stays p tables F effects Client f args body off moves uses = absurd (never_both (effects effect.Move) off moves)
+stays p tables F effects Client f args body off moves uses = absurd (both_ways (effects effect.Move) off moves)
 stays p tables F effects Server f args body off moves uses = uses
 
 module _ (p : Program) (i : Instances) (bound : IsBound p) (apart : AreBlocksApart p) (closed : AreClosed p i) (tables : Tables) (rows : AreTables p tables) where

@@ -2,6 +2,7 @@
 -- they give, and calls by the number of functions before the one that is called.
 use Rattle.std.proofs.Common.{◌≡◌, arith, refl, sym, ap, ◌∙◌, subst, ℕ, zero, suc, ◌<◌, ◌≤◌, Bool, true, false, List, [], ◌∷◌, append-nil, length, map, Some, None}
 use Rattle.std.proofs.lemmas.Option.{none-some}
+use Rattle.std.proofs.lemmas.Bool.{both_ways}
 use Rattle.lk_ast.specs.Functions.{functions_of}
 use Rattle.lk_ast.specs.Layers.{Layer, layer}
 use Rattle.lk_ast.specs.Rows.{row_value, rows_value}
@@ -41,7 +42,7 @@ use Rattle.lk_sound.proofs.Free.{known_in}
 use Rattle.lk_sound.proofs.Inside.{insides}
 use Rattle.lk_sound.proofs.Names.{AreDistinct}
 use Rattle.lk_sound.proofs.QueryParts.{IsQueryNode, AreQueryNodes, part_types}
-use Rattle.lk_sound.proofs.QueryValues.{CallsFit, never_both}
+use Rattle.lk_sound.proofs.QueryValues.{CallsFit}
 use Rattle.lk_sound.proofs.Retyped.{outermost, retyped, retyped_nodes}
 use Rattle.lk_sound.proofs.Shapes.{list_of_fits, fits_list}
 use Rattle.lk_sound.proofs.TableRows.{flat_rows}
@@ -228,15 +229,15 @@ module _ (p : Program) (i : Instances) (apart : AreBlocksApart p) (closed : AreC
         (part_types p i.helpers n flag have all.1)
         (parts_fit p i closed tables rows calls n calls_fit functions flag have (no_local effects only) (no_trap effects only) all.1 names fit)
         (parts_right flag have only all.1 (operator_insides (AreBlocksOf p) (layer e) h is (insides_blocks p e blocks)) names fit)
-    value_right {effects = effects} flag (lambda l params own a is named moves body local) only all blocks names fit = absurd (never_both (effects effect.Local) (no_local effects only) local)
+    value_right {effects = effects} flag (lambda l params own a is named moves body local) only all blocks names fit = absurd (both_ways (effects effect.Local) (no_local effects only) local)
     value_right {effects = effects} {locals = locals} {e = e} flag (var x d rest a first last is one next) only all blocks names fit =
         let first_nodes = each_front (IsQueryNode p i.helpers n) (nodes_of flag one) (nodes_of flag next) all.1 in
         let there = both_blocks p e d rest (Node-F.Var x d rest) is refl blocks in
         let v : Fits p i (give d names) a = value_fits p i closed tables rows calls n calls_fit functions flag one (no_local effects only) (no_trap effects only) first_nodes names fit in
         var_right (effects effect.Scan) e x d rest names is (value_right flag one only first_nodes there.0 names fit)
         (value_right flag next only (each_back (IsQueryNode p i.helpers n) (nodes_of flag one) (nodes_of flag next) all.1) there.1 (bind x.text (give d names) names) (bound_one p i x.text (give d names) a locals names v fit))
-    value_right {effects = effects} flag (switch d cases row tags ts first bodies is one have same made local) only all blocks names fit = absurd (never_both (effects effect.Local) (no_local effects only) local)
-    value_right {effects = effects} flag (switch_open d cases last rest row tags ts first bodies inside is one have same next made local) only all blocks names fit = absurd (never_both (effects effect.Local) (no_local effects only) local)
+    value_right {effects = effects} flag (switch d cases row tags ts first bodies is one have same made local) only all blocks names fit = absurd (both_ways (effects effect.Local) (no_local effects only) local)
+    value_right {effects = effects} flag (switch_open d cases last rest row tags ts first bodies inside is one have same next made local) only all blocks names fit = absurd (both_ways (effects effect.Local) (no_local effects only) local)
     value_right {effects = effects} {locals = locals} {e = e} flag (for_list x d body a b first inside is one next) only all blocks names fit =
         let first_nodes = each_front (IsQueryNode p i.helpers n) (nodes_of flag one) (nodes_of flag next) all.1 in
         let next_nodes = each_back (IsQueryNode p i.helpers n) (nodes_of flag one) (nodes_of flag next) all.1 in
@@ -277,7 +278,7 @@ module _ (p : Program) (tables : Tables) where
   stays : (scans : Bool) (v : Value) (effects : EffectSet) (mark : Loc) (f : FunValue) (args : List Value) (body : Point) → effects effect.Move ≡ false → HasIf (is_marked mark) effects effect.Move
       → Ends p tables scans Value v (eval (source p) body Server) → Does p tables scans v (Goto mark f args body)
   stays scans v effects Any f args body off moves right = right
-  stays scans v effects Client f args body off moves right = absurd (never_both (effects effect.Move) off moves)
+  stays scans v effects Client f args body off moves right = absurd (both_ways (effects effect.Move) off moves)
   stays scans v effects Server f args body off moves right = right
 
 module _ (p : Program) (i : Instances) (bound : IsBound p) (apart : AreBlocksApart p) (closed : AreClosed p i) (tables : Tables) (rows : AreTables p tables) where

@@ -4,6 +4,7 @@ use Rattle.std.proofs.Common.{◌≡◌, arith, refl, sym, ap, ◌∙◌, subst,
 use Rattle.std.proofs.lemmas.List.Sorted.{IsPermutation-map, IsPermutation-append}
 use Rattle.std.proofs.lemmas.Option.{none-some}
 use Rattle.std.specs.Str.{bytes_eq}
+use Rattle.std.proofs.lemmas.Bool.{both_ways}
 use Rattle.lk_ast.specs.Layers.{Layer, layer}
 use Rattle.lk_ast.specs.Rows.{row_value, rows_value}
 use Rattle.lk_ast.specs.Tables.{Tables, tables_of}
@@ -32,7 +33,7 @@ use Rattle.lk_sound.proofs.Fitting.{as_many}
 use Rattle.lk_sound.proofs.FlatTypes.{unit_not_flat}
 use Rattle.lk_sound.proofs.Names.{AreDistinct}
 use Rattle.lk_sound.proofs.QueryParts.{IsEarly, IsQueryNode, AreQueryNodes, part_types, operands_are}
-use Rattle.lk_sound.proofs.QueryValues.{CallsFit, never_both, items_fit}
+use Rattle.lk_sound.proofs.QueryValues.{CallsFit, items_fit}
 use Rattle.lk_sound.proofs.Shapes.{list_of_fits}
 use Rattle.lk_sound.specs.Instances.{Instances, number_of, IsHelperNode, HasBody, AreClosed}
 use Rattle.lk_sound.specs.Nodes.{Use, used_by, compared_by, comparison, may_compare, nodes_of, each_nodes}
@@ -276,7 +277,7 @@ module _ (p : Program) (i : Instances) (closed : AreClosed p i) (tables others :
         (parts_fit p i closed tables rows calls n calls_fit functions flag have (no_local effects only) (no_trap effects only) all.1 names fit)
         (parts_fit p i closed others other_rows other_calls n others_fit functions flag have (no_local effects only) (no_trap effects only) all.1 inner other_fit)
         (parts_like flag have only all.1 names inner fit other_fit likes)
-    given_like {effects = effects} flag (lambda l params own a is named moves body local) only all names inner fit other_fit likes = absurd (never_both (effects effect.Local) (no_local effects only) local)
+    given_like {effects = effects} flag (lambda l params own a is named moves body local) only all names inner fit other_fit likes = absurd (both_ways (effects effect.Local) (no_local effects only) local)
     given_like {locals = locals} {e = e} flag (var x d rest a first last is front next) only all names inner fit other_fit likes =
         let first_nodes = each_front (IsQueryNode p i.helpers n) (nodes_of flag front) (nodes_of flag next) all.1 in
         let next_nodes = each_back (IsQueryNode p i.helpers n) (nodes_of flag front) (nodes_of flag next) all.1 in
@@ -285,8 +286,8 @@ module _ (p : Program) (i : Instances) (closed : AreClosed p i) (tables others :
         (bound_one p i x.text (one d names) a locals names (FitsOne flag front only first_nodes names fit) fit)
         (bound_one p i x.text (other d inner) a locals inner (FitsOther flag front only first_nodes inner other_fit) other_fit)
         (like_bound x.text (one d names) (other d inner) a locals names inner (given_like flag front only first_nodes names inner fit other_fit likes) likes))
-    given_like {effects = effects} flag (switch d cases row tags ts first bodies is front have alike made local) only all names inner fit other_fit likes = absurd (never_both (effects effect.Local) (no_local effects only) local)
-    given_like {effects = effects} flag (switch_open d cases last rest row tags ts first bodies inside is front have alike next made local) only all names inner fit other_fit likes = absurd (never_both (effects effect.Local) (no_local effects only) local)
+    given_like {effects = effects} flag (switch d cases row tags ts first bodies is front have alike made local) only all names inner fit other_fit likes = absurd (both_ways (effects effect.Local) (no_local effects only) local)
+    given_like {effects = effects} flag (switch_open d cases last rest row tags ts first bodies inside is front have alike next made local) only all names inner fit other_fit likes = absurd (both_ways (effects effect.Local) (no_local effects only) local)
     given_like {locals = locals} {e = e} flag (for_list x d body a b first inside is front next) only all names inner fit other_fit likes =
         let first_nodes = each_front (IsQueryNode p i.helpers n) (nodes_of flag front) (nodes_of flag next) all.1 in
         let next_nodes = each_back (IsQueryNode p i.helpers n) (nodes_of flag front) (nodes_of flag next) all.1 in

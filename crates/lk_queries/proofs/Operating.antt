@@ -1,5 +1,6 @@
 -- What operators of a query are evaluated to, where their parts are evaluated to what they give.
 use Rattle.std.proofs.Common.{◌≡◌, refl, sym, ap, subst, ◌∙◌, ℕ, Bool, true, false, List, [], ◌∷◌, Some, unwrap_or}
+use Rattle.std.proofs.lemmas.Bool.{both_ways}
 use Rattle.lk_ast.specs.Functions.{function_named}
 use Rattle.lk_ast.specs.Layers.{Layer, layer}
 use Rattle.lk_ast.specs.Rows.{rows_value}
@@ -29,7 +30,6 @@ use Rattle.lk_operators.specs.declared.outcome.Outcome.{Outcome}
 use Rattle.lk_operators.specs.declared.outcome.Outcome.TheVariants as outcome
 use Rattle.lk_sound.proofs.Operators as operators
 use Rattle.lk_sound.proofs.QueryParts.{operands_are, IsEarly}
-use Rattle.lk_sound.proofs.QueryValues.{never_both}
 use Rattle.lk_sound.proofs.Results.{IsResult}
 use Rattle.lk_sound.proofs.Shapes.{bool_of_fits}
 use Rattle.lk_sound.proofs.TextBlocks.{own_block, block_found}
@@ -71,7 +71,7 @@ module _ (p : Program) (tables : Tables) where
     -- what an operation comes to
     done_right : (i : Instances) (effects : EffectSet) (t : Ground) (o : Outcome) (at : Span) → effects effect.Trap ≡ false → IsResult p i effects t o → Does scans (value_of o) (done at o)
     done_right i effects t (outcome.Value v) at traps result = gone p tables scans Value v
-    done_right i effects t (outcome.Trap trap) at traps result = absurd (never_both (effects effect.Trap) traps result)
+    done_right i effects t (outcome.Trap trap) at traps result = absurd (both_ways (effects effect.Trap) traps result)
     done_right i effects t outcome.NoRule at traps result = absurd result
 
     -- a choice by a truth value

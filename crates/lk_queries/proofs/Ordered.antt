@@ -2,6 +2,7 @@
 -- for order.
 use Rattle.std.proofs.Common.{◌≡◌, refl, sym, ap, ◌∙◌, subst, ℕ, Bool, true, false, List, [], ◌∷◌, ◌++◌, length, map, flat_map, Some, unwrap_or, IsPermutation}
 use Rattle.std.proofs.lemmas.List.Sorted.{IsPermutation-refl, IsPermutation-sym, IsPermutation-trans, IsPermutation-map, IsPermutation-append}
+use Rattle.std.proofs.lemmas.Bool.{both_ways}
 use Rattle.lk_ast.specs.Functions.{functions_of}
 use Rattle.lk_ast.specs.Layers.{Layer, layer}
 use Rattle.lk_ast.specs.Rows.{row_value, rows_value}
@@ -38,7 +39,7 @@ use Rattle.lk_sound.proofs.FlatTypes.{unit_not_flat}
 use Rattle.lk_sound.proofs.Free.{known_in}
 use Rattle.lk_sound.proofs.Operators as operators
 use Rattle.lk_sound.proofs.QueryParts.{IsEarly, IsQueryNode, AreQueryNodes, node_type, part_types, operands_are}
-use Rattle.lk_sound.proofs.QueryValues.{CallsFit, never_both, items_fit}
+use Rattle.lk_sound.proofs.QueryValues.{CallsFit, items_fit}
 use Rattle.lk_sound.proofs.Retyped.{outermost, retyped, retyped_nodes}
 use Rattle.lk_sound.proofs.TextBlocks.{insides_blocks, own_block, block_found}
 use Rattle.lk_sound.specs.Instances.{Instances, AreClosed}
@@ -358,7 +359,7 @@ module _ (p : Program) (i : Instances) (apart : AreBlocksApart p) (closed : AreC
         (part_types p i.helpers n flag have all.1)
         (parts_fit p i closed tables rows calls n calls_fit functions flag have (no_local effects only) (no_trap effects only) all.1 names fit)
         (parts_come flag have only all.1 (operator_insides (AreBlocksOf p) (layer e) h is (insides_blocks p e blocks)) names fit)
-    value_come {effects = effects} flag (lambda l params own a is named moves body local) only all blocks names fit = absurd (never_both (effects effect.Local) (no_local effects only) local)
+    value_come {effects = effects} flag (lambda l params own a is named moves body local) only all blocks names fit = absurd (both_ways (effects effect.Local) (no_local effects only) local)
     value_come {effects = effects} {locals = locals} {e = e} flag (var x d rest a first last is one next) only all blocks names fit =
         let first_nodes = each_front (IsQueryNode p i.helpers n) (nodes_of flag one) (nodes_of flag next) all.1 in
         let next_nodes = each_back (IsQueryNode p i.helpers n) (nodes_of flag one) (nodes_of flag next) all.1 in
@@ -372,8 +373,8 @@ module _ (p : Program) (i : Instances) (apart : AreBlocksApart p) (closed : AreC
           renamed flag next only next_nodes (bind x.text w names) (bind x.text (give d names) names) w_locals (bound_one p i x.text (give d names) a locals names v fit)
               (like_bound x.text w (give d names) a locals names names like (names_themselves p i locals names fit)),
         ))
-    value_come {effects = effects} flag (switch d cases row tags ts first bodies is one have alike made local) only all blocks names fit = absurd (never_both (effects effect.Local) (no_local effects only) local)
-    value_come {effects = effects} flag (switch_open d cases last rest row tags ts first bodies inside is one have alike next made local) only all blocks names fit = absurd (never_both (effects effect.Local) (no_local effects only) local)
+    value_come {effects = effects} flag (switch d cases row tags ts first bodies is one have alike made local) only all blocks names fit = absurd (both_ways (effects effect.Local) (no_local effects only) local)
+    value_come {effects = effects} flag (switch_open d cases last rest row tags ts first bodies inside is one have alike next made local) only all blocks names fit = absurd (both_ways (effects effect.Local) (no_local effects only) local)
     value_come {effects = effects} {locals = locals} {e = e} flag (for_list x d body a b first inside is one next) only all blocks names fit =
         let first_nodes = each_front (IsQueryNode p i.helpers n) (nodes_of flag one) (nodes_of flag next) all.1 in
         let next_nodes = each_back (IsQueryNode p i.helpers n) (nodes_of flag one) (nodes_of flag next) all.1 in

@@ -1,6 +1,7 @@
 -- The labels of what a visit finds: each is that of the place where the block begins, in its instance.
 use Rattle.std.proofs.Common.{◌≡◌, ℕ, ◌+◌, ◌==◌, true, false, List, [], ◌∷◌, ◌++◌, append_assoc, append-nil, flat_map, length, length-append, map, Some, if◌then◌else◌, refl, sym, ◌∙◌, ap, subst, arith}
 use Rattle.std.proofs.lemmas.Bool.Decides.{nat_tests}
+use Rattle.lk_typing.proofs.Levels.{map_joined}
 use Rattle.lk_ast.specs.Layers.{Layer, layer}
 use Rattle.lk_ast.specs.declared.expression.Expr.{Expr}
 use Rattle.lk_ast.specs.declared.expression.Node.TheOpen.{Node-F}
@@ -35,10 +36,6 @@ at_end n (l ∷ ls) x more =
     ∙ ap (λ b. if b then Some l else found_from (1 + n) ((ls ++ x ∷ []) ++ more) (n + (1 + length ls))) (less_apart n (length ls))
     ∙ ap (found_from (1 + n) ((ls ++ x ∷ []) ++ more)) next
     ∙ at_end (1 + n) ls x more
-
-map_append : {A B : Type 0} (f : A → B) (xs ys : List A) → map f (xs ++ ys) ≡ map f xs ++ map f ys
-map_append f [] ys = refl
-map_append f (x ∷ xs) ys = ap (λ more. f x ∷ more) (map_append f xs ys)
 
 -- ---- what is labelled so far, the first with label 1
 
@@ -104,7 +101,7 @@ module _ (fun : ℕ) where
   all_labels [] label ls t are = subst (λ all. AreLabelled all t) (sym (append-nil ls)) are
   all_labels (e ∷ es) label ls t are =
       subst (λ more. AreLabelled more (all (map (visit fun) es) false (visit fun e false t)))
-      (append_assoc ls (map (language.Site fun) (labelled_in e)) (map (language.Site fun) (flat_map labelled_in es)) ∙ ap (λ more. ls ++ more) (sym (map_append (language.Site fun) (labelled_in e) (flat_map labelled_in es))))
+      (append_assoc ls (map (language.Site fun) (labelled_in e)) (map (language.Site fun) (flat_map labelled_in es)) ∙ ap (λ more. ls ++ more) (sym (map_joined (language.Site fun) (labelled_in e) (flat_map labelled_in es))))
       (all_labels es label.1 (ls ++ map (language.Site fun) (labelled_in e)) (visit fun e false t) (label.0 ls t are))
 
   closed_labels : (es : List Expr) (ls : List Labelled) (t : Tour) → AreLabelled ls t → AreLabelled (ls ++ []) (all (map (visit fun) es) true t)
@@ -124,7 +121,7 @@ module _ (fun : ℕ) where
       let site = language.Site fun in
       let own = own_label (layer e) e.span.start in
       let inner = flat_map labelled_in (outer (layer e)) in
-      subst (λ all. AreLabelled (ls ++ all) (visit fun e false t)) (sym (ap (map (language.Site fun)) (labelled_level e) ∙ map_append (language.Site fun) own inner))
+      subst (λ all. AreLabelled (ls ++ all) (visit fun e false t)) (sym (ap (map (language.Site fun)) (labelled_level e) ∙ map_joined (language.Site fun) own inner))
       (subst (AreLabelled (ls ++ (map (language.Site fun) own ++ map (language.Site fun) inner))) (sym (by_parts fun e false t))
       (subst (λ all_labels. AreLabelled all_labels (all (map (visit fun) (insides (layer e))) (is_closed (layer e)) (entered fun (layer e) e false t))) (append_assoc ls (map (language.Site fun) own) (map (language.Site fun) inner))
       (inner_labels (layer e) label (ls ++ map (language.Site fun) own) (entered fun (layer e) e false t) (entered_labelled (layer e) e ls t are)))))

@@ -1,6 +1,7 @@
 -- What a typed, flat query gives over tables whose rows fit has the query's type: by its typing, where calls give what they
 -- should, and these by the number of functions before the one that is called.
 use Rattle.std.proofs.Common.{◌≡◌, refl, sym, ap, subst, ◌∙◌, arith, ℕ, zero, suc, ◌+◌, ◌<◌, Bool, true, false, List, [], ◌∷◌, append-nil, map, find, length, Some, None, if◌then◌else◌, bytes_eq}
+use Rattle.std.proofs.lemmas.Bool.{both_ways}
 use Rattle.lk_ast.specs.Functions.{functions_of, is_named}
 use Rattle.lk_ast.specs.Layers.{layer}
 use Rattle.lk_ast.specs.Tables.{Tables, tables_of}
@@ -21,7 +22,7 @@ use Rattle.lk_sound.proofs.Fitting.{as_many}
 use Rattle.lk_types.proofs.Members.{each_in, each_front, each_back}
 use Rattle.lk_sound.proofs.Names.{AreDistinct}
 use Rattle.lk_sound.proofs.QueryParts.{IsQueryNode, AreQueryNodes, part_types}
-use Rattle.lk_sound.proofs.QueryValues.{CallsFit, never_both, items_fit, each_items, operator_value}
+use Rattle.lk_sound.proofs.QueryValues.{CallsFit, items_fit, each_items, operator_value}
 use Rattle.lk_sound.proofs.Shapes.{list_fits}
 use Rattle.lk_sound.specs.Instances.{Instances, IsListed, number_in, number_of, IsFlatPart, IsHelperNode, HasBody, AreClosed}
 use Rattle.lk_sound.specs.Nodes.{TypedNode, Use, nodes_of, each_nodes}
@@ -58,13 +59,13 @@ module _ (p : Program) (i : Instances) (closed : AreClosed p i) (tables : Tables
     value_fits {effects = effects} {locals = locals} {e = e} {t = t} flag (plain h ts is have by) own traps all names fit =
         operator_value p i closed tables rows calls n calls_fit functions effects own traps locals names fit e (layer e) h ts t refl is (record { by = by; uses = all.0.calls }) all.0.type
         (part_types p i.helpers n flag have all.1) (parts_fit flag have own traps all.1 names fit)
-    value_fits {effects = effects} flag (lambda l params own_effects a is named moves body local) own traps all names fit = absurd (never_both (effects effect.Local) own local)
+    value_fits {effects = effects} flag (lambda l params own_effects a is named moves body local) own traps all names fit = absurd (both_ways (effects effect.Local) own local)
     value_fits {effects = effects} {locals = locals} {e = e} {t = t} flag (var x d rest a first last is one next) own traps all names fit =
         let v : Fits p i (give d names) a = value_fits flag one own traps (each_front (IsQueryNode p i.helpers n) (nodes_of flag one) (nodes_of flag next) all.1) names fit in
         subst (λ w. Fits p i w t) (sym (given_var tables calls e x d rest names is))
         (value_fits flag next own traps (each_back (IsQueryNode p i.helpers n) (nodes_of flag one) (nodes_of flag next) all.1) (bind x.text (give d names) names) (bound_one p i x.text (give d names) a locals names v fit))
-    value_fits {effects = effects} flag (switch d cases row tags ts first bodies is one have same made local) own traps all names fit = absurd (never_both (effects effect.Local) own local)
-    value_fits {effects = effects} flag (switch_open d cases last rest row tags ts first bodies inside is one have same next made local) own traps all names fit = absurd (never_both (effects effect.Local) own local)
+    value_fits {effects = effects} flag (switch d cases row tags ts first bodies is one have same made local) own traps all names fit = absurd (both_ways (effects effect.Local) own local)
+    value_fits {effects = effects} flag (switch_open d cases last rest row tags ts first bodies inside is one have same next made local) own traps all names fit = absurd (both_ways (effects effect.Local) own local)
     value_fits {locals = locals} {e = e} flag (for_list x d body a b first inside is one next) own traps all names fit =
         subst (λ w. Fits p i w (known.List b)) (sym (given_for_list tables calls e x d body names is))
         (loop_fits x (give d names) body a b names (value_fits flag one own traps (each_front (IsQueryNode p i.helpers n) (nodes_of flag one) (nodes_of flag next) all.1) names fit)

@@ -91,8 +91,7 @@ module _ (p : Program) where
         let found : (t : Ground) × (slice_get some.0 i ≡ Some t) =
         type_there (own_entries (functions_in decl) some.0 ++ scheme_entries earlier) (tables_of p) (is_mutual decl) (functions_in decl) some.0 group.0 group.1 i f is in
         (found.0, group_typed some.0 group.0 group.1 i f found.0 is found.1)
-
-  -- ---- the function of a name
+    -- ---- the function of a name
 
 named_there : (fs : List FunDef) (f : FunDef) → OneOf (λ other. other ≡ f) fs → IsAmong f.name.text (map (λ (f : FunDef). f.name.text) fs)
 named_there [] f there = there

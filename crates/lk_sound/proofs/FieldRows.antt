@@ -10,6 +10,7 @@ use Rattle.std.specs.Option.{option_or}
 use Rattle.std.specs.Ordering.{eq_by_cmp, is_eq, is_lt}
 use Rattle.std.specs.declared.cmp.Ordering.{Ordering}
 use Rattle.std.specs.declared.cmp.Ordering.TheVariants.{Less, Equal, Greater}
+use Rattle.std.proofs.lemmas.List.{nil_from_length}
 use Rattle.lk_types.proofs.LabelMaps.{first_holds, second_holds}
 use Rattle.lk_types.proofs.Parts.{same_some}
 use Rattle.lk_types.proofs.Rows.{fields_swap}
@@ -170,12 +171,8 @@ get_among row q t is = found_among q t (fin.entries row) (sym (fin.get-entries r
 
 -- ---- a row made of its own fields
 
-nothing : {A : Type 0} (xs : List A) → length xs ≡ 0 → xs ≡ []
-nothing [] e = refl
-nothing (x ∷ xs) e = absurd (omega arith)
-
 pub no_entries : (X : Type 0) → fin.entries (fin.empty {X = X} {R = label_order}) ≡ []
-no_entries X = nothing (fin.entries fin.empty) (sym (fin.len-entries fin.empty) ∙ fin.len-empty label_order X)
+no_entries X = nil_from_length (fin.entries fin.empty) (sym (fin.len-entries fin.empty) ∙ fin.len-empty label_order X)
 
 missed : (l : Label) (es : Named Ground) → T (below_all label_order l es) → fin.find label_order l es ≡ None
 missed l [] below = refl

@@ -1,6 +1,7 @@
 -- Flat types by their forms: bases, records of bases and lists of such records. What has another form doesn't stand in a query.
-use Rattle.std.proofs.Common.{◌≡◌, refl, sym, ap, ◌∙◌, Bool, true, false, ◌&&◌, ◌||◌, List, [], ◌∷◌}
+use Rattle.std.proofs.Common.{◌≡◌, refl, sym, ap, ◌∙◌, Bool, true, false, ◌||◌, List, [], ◌∷◌}
 use Rattle.std.specs.List.{list_all, list_any}
+use Rattle.std.specs.Cmp.{first_so, second_so}
 use Rattle.lk_ast.specs.declared.table.BaseKind.{BaseKind}
 use Rattle.lk_ast.specs.declared.table.BaseKind.TheVariants as kind
 use Rattle.lk_ground_types.proofs.ShapesUnfold.{function_int, function_bool, function_text, function_fields}
@@ -12,14 +13,6 @@ use Rattle.lk_types.specs.declared.ground.Ground.TheVariants as known
 use Rattle.lk_types.specs.declared.ground.GroundField.{GroundField}
 use Rattle.lk_typing.specs.Types.{base, unit, function_of}
 use Rattle.lk_sound.proofs.FieldRows.{as_fields, no_entries}
-
-pub first_holds : (a b : Bool) → (a && b) ≡ true → a ≡ true
-first_holds true b both = refl
-first_holds false b both = both
-
-pub second_holds : (a b : Bool) → (a && b) ≡ true → b ≡ true
-second_holds true b both = both
-second_holds false b both = absurd cc
 
 -- a type of that level
 rolled : (t : Ground) (l : Ground-F Ground GroundField) (u : Ground) → out-Ground t ≡ l → roll-Ground l ≡ u → t ≡ u
@@ -53,7 +46,7 @@ pub record IsFlatRow (t : Ground) : Type 0 where
   pub flat : list_all (λ (f : GroundField). is_base f.ty) fields ≡ true
 
 row_by : (t : Ground) (l : Ground-F Ground GroundField) → out-Ground t ≡ l → row_level l ≡ true → IsFlatRow t
-row_by t (Ground-F.Fields gs) out is = record { fields = gs; is = rolled t (Ground-F.Fields gs) (known.Fields gs) out (known.rolls-Fields gs); flat = second_holds (is_there gs) _ is }
+row_by t (Ground-F.Fields gs) out is = record { fields = gs; is = rolled t (Ground-F.Fields gs) (known.Fields gs) out (known.rolls-Fields gs); flat = second_so (is_there gs) _ is }
 row_by t Ground-F.Int out is = absurd cc
 row_by t Ground-F.Bool out is = absurd cc
 row_by t Ground-F.Text out is = absurd cc
@@ -68,8 +61,8 @@ flat_row_is t is = row_by t (out-Ground t) refl is
 fields_plain : (gs : List GroundField) → list_all (λ (f : GroundField). is_base f.ty) gs ≡ true → list_any (λ (f : GroundField). has_function f.ty) gs ≡ false
 fields_plain [] flat = refl
 fields_plain (g ∷ gs) flat =
-    let one : (k : BaseKind) × (g.ty ≡ base k) = base_is g.ty (first_holds (is_base g.ty) _ flat) in
-    ap (λ b. b || list_any (λ (f : GroundField). has_function f.ty) gs) (ap has_function one.1 ∙ base_plain one.0) ∙ fields_plain gs (second_holds (is_base g.ty) _ flat)
+    let one : (k : BaseKind) × (g.ty ≡ base k) = base_is g.ty (first_so (is_base g.ty) _ flat) in
+    ap (λ b. b || list_any (λ (f : GroundField). has_function f.ty) gs) (ap has_function one.1 ∙ base_plain one.0) ∙ fields_plain gs (second_so (is_base g.ty) _ flat)
 
 -- in a flat type stands no function
 pub flat_plain : (t : Ground) → is_flat t ≡ true → has_function t ≡ false

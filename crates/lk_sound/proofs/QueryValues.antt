@@ -1,5 +1,6 @@
 -- What the operators of a query give where their parts give values of their types, and calls values of the answers' types.
 use Rattle.std.proofs.Common.{◌≡◌, refl, sym, ap, subst, ◌∙◌, ℕ, Bool, true, false, List, [], ◌∷◌, map, flat_map, Some, unwrap_or}
+use Rattle.std.proofs.lemmas.Bool.{both_ways}
 use Rattle.lk_ast.specs.Layers.{Layer, layer}
 use Rattle.lk_ast.specs.Tables.{Tables, tables_of}
 use Rattle.lk_ast.specs.declared.declaration.Program.{Program}
@@ -50,9 +51,6 @@ abbrev pub CallsFit : Program → Instances → (List ℕ → List Value → Val
 CallsFit p i calls n = (u : Use) → IsEarly p i.helpers n u → (ts : List Ground) (effects : EffectSet) (a : Ground) → u.type ≡ function_of ts effects a
     → effects effect.Local ≡ false → effects effect.Trap ≡ false → (args : List Value) → FitEach p i args ts → Fits p i (calls u.name args) a
 
-pub never_both : (b : Bool) → b ≡ false → b ≡ true → ⊥
-never_both b off on = cc
-
 -- ---- values that are chosen, and lists one behind the other
 
 module _ (p : Program) (i : Instances) where
@@ -74,7 +72,7 @@ module _ (p : Program) (i : Instances) where
 
   outcome_fits : (effects : EffectSet) (t : Ground) (o : Outcome) → effects effect.Trap ≡ false → IsResult p i effects t o → Fits p i (value_of o) t
   outcome_fits effects t (outcome.Value v) traps result = result
-  outcome_fits effects t (outcome.Trap trap) traps result = absurd (never_both (effects effect.Trap) traps result)
+  outcome_fits effects t (outcome.Trap trap) traps result = absurd (both_ways (effects effect.Trap) traps result)
   outcome_fits effects t outcome.NoRule traps result = absurd result
 
 -- ---- queries
@@ -124,7 +122,7 @@ module _ (p : Program) (i : Instances) (closed : AreClosed p i) (tables : Tables
         (calls_fit (record { name = g.text; type = function_of ts effects t }) (uses (record { name = g.text; type = function_of ts effects t }) refl) ts effects t refl own traps (give_all names args) fits)
 
     no_apply : (ts : List Ground) (t : Ground) → By operator.Apply ts t → ⊥
-    no_apply ts t (rule.apply local) = never_both (effects effect.Local) own local
+    no_apply ts t (rule.apply local) = both_ways (effects effect.Local) own local
 
     no_seq : (ts : List Ground) (t : Ground) → By operator.Seq ts t → Each (λ u. is_query_type u ≡ true) ts → ⊥
     no_seq _ t rule.seq flat = unit_not_flat flat.0

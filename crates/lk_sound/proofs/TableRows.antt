@@ -11,6 +11,7 @@ use Rattle.std.specs.List.{All, list_all}
 use Rattle.std.specs.Prelude.{IsPermutation}
 use Rattle.std.specs.declared.cmp.Ordering.{Ordering}
 use Rattle.std.specs.declared.cmp.Ordering.TheVariants.{Less, Equal, Greater}
+use Rattle.std.specs.Cmp.{first_so, second_so}
 use Rattle.lk_ast.specs.Rows.{row_value}
 use Rattle.lk_ast.specs.Tables.{Tables, is_of_kind, cells_fit, row_fits, all_fit, kinds, table_def, table_defs, tables_of}
 use Rattle.lk_ast.specs.declared.declaration.ColumnDecl.{ColumnDecl}
@@ -31,7 +32,7 @@ use Rattle.lk_ground_types.specs.Shapes.{is_base, is_flat_row}
 use Rattle.lk_operators.specs.Values.{int as number, truth, text as words}
 use Rattle.lk_sound.proofs.Bindings.{same_bytes}
 use Rattle.lk_sound.proofs.FieldRows.{as_fields, no_entries}
-use Rattle.lk_sound.proofs.FlatTypes.{first_holds, second_holds, base_is, IsFlatRow, flat_row_is}
+use Rattle.lk_sound.proofs.FlatTypes.{base_is, IsFlatRow, flat_row_is}
 use Rattle.lk_sound.proofs.Shapes.{IsRecord, fits_fields, int_fits, truth_fits, text_fits}
 use Rattle.lk_sound.specs.Instances.{Instances}
 use Rattle.lk_sound.specs.Tables.{AreTables, table_at}
@@ -185,9 +186,9 @@ module _ (p : Program) (i : Instances) where
   fields_of_cells [] (cell ∷ cells) fit = absurd cc
   fields_of_cells (e ∷ es) [] fit = absurd cc
   fields_of_cells (e ∷ es) (cell ∷ cells) fit =
-      let first : (bytes_eq e.0 cell.label && is_of_kind e.1 cell.value) ≡ true = first_holds (bytes_eq e.0 cell.label && is_of_kind e.1 cell.value) _ fit in
-      field (sym (same_bytes e.0 cell.label (first_holds _ _ first))) (base_fits e.1 cell.value (second_holds (bytes_eq e.0 cell.label) _ first))
-      (fields_of_cells es cells (second_holds (bytes_eq e.0 cell.label && is_of_kind e.1 cell.value) _ fit))
+      let first : (bytes_eq e.0 cell.label && is_of_kind e.1 cell.value) ≡ true = first_so (bytes_eq e.0 cell.label && is_of_kind e.1 cell.value) _ fit in
+      field (sym (same_bytes e.0 cell.label (first_so _ _ first))) (base_fits e.1 cell.value (second_so (bytes_eq e.0 cell.label) _ first))
+      (fields_of_cells es cells (second_so (bytes_eq e.0 cell.label && is_of_kind e.1 cell.value) _ fit))
 
   -- cells that are these fields
   record AreCells (fs : List Field) (P : List Cell → Type 0) : Type 0 where
@@ -239,7 +240,7 @@ module _ (p : Program) (i : Instances) where
 
   rows_fit : (def : TableDef) (t : Ground) → ((r : Row) → row_fits def r ≡ true → Fits p i (row_value r) t) → (rs : List Row) → all_fit def rs ≡ true → AllFit p i (map row_value rs) t
   rows_fit def t fits [] fit = none
-  rows_fit def t fits (r ∷ rs) fit = more (fits r (first_holds (row_fits def r) _ fit)) (rows_fit def t fits rs (second_holds (row_fits def r) _ fit))
+  rows_fit def t fits (r ∷ rs) fit = more (fits r (first_so (row_fits def r) _ fit)) (rows_fit def t fits rs (second_so (row_fits def r) _ fit))
 
   -- the rows of a table, where those of each table fit it
   pub rows_of_table : (tables : Tables) → AreTables p tables → (x : Label) (row : rows.Row) → HasRows (tables_of p) x row → AllFit p i (map row_value (tables x)) (record_of row)
@@ -256,9 +257,9 @@ module _ (p : Program) (i : Instances) where
   cells_of_flat [] flat (f ∷ fs) fits = elim fits [ ]
   cells_of_flat (g ∷ gs) flat [] fits = elim fits [ ]
   cells_of_flat (g ∷ gs) flat (f ∷ fs) (field same fit fits) =
-      let k : (k : BaseKind) × (g.ty ≡ base k) = base_is g.ty (first_holds (is_base g.ty) _ flat) in
+      let k : (k : BaseKind) × (g.ty ≡ base k) = base_is g.ty (first_so (is_base g.ty) _ flat) in
       let one : IsBaseOf k.0 f.value = base_of_fits k.0 f.value (subst (λ t. Fits p i f.value t) k.1 fit) in
-      let rest : AreCells fs (λ cells. Unit {0}) = cells_of_flat gs (second_holds (is_base g.ty) _ flat) fs fits in
+      let rest : AreCells fs (λ cells. Unit {0}) = cells_of_flat gs (second_so (is_base g.ty) _ flat) fs fits in
       record { cells = record { label = f.label; value = one.base } ∷ rest.cells; are = λ j. record { label = f.label; value = one.is j } ∷ rest.are j; fit = tt }
 
   -- a value of a flat record is a row
