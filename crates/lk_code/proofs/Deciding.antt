@@ -137,7 +137,6 @@ module _ (c : CodeTables) where
     begins chained = so_far.0 (subst (λ fs. ChainFits c fs wanted) (sym (next_is frames i f within f_is)) chained)
 
     module _ (info : FrameInfo) (is : frame_info c f.number ≡ Some info) where
-
       module _ (wants : Wants info wanted) where
         pub chain_last : (b : Bool) → length frames ≤ i + 1 → (IsTrue b ↔ (f.number < first_frame c)) → IsTrue b ↔ P
         chain_last b end tests =

@@ -146,5 +146,4 @@ module _ (c : CodeTables) where
         refl,
         record { place = may.1.place; next = tt; frames = subst (λ t. AreFrames c old.place (waiting c old.stack) t u) (sym asked.1.result) may.1.frames },
       )
-
   -- ---- no step

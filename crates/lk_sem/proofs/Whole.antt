@@ -65,7 +65,6 @@ longer log more after out is e = record { last = e.last; spent = e.spent; more =
 -- ---- moves
 
 module _ (p : Program) (first : Machine) (o : Run → Out Value) where
-
   -- What comes next is done by a machine with the same fuel, over what is left of the answers, and that machine makes a move.
   module _ (old mid new : Machine) (last next : Next) (rest : Run → Out Value) (g : LeadsWhole p first o old last) (l : Leads p mid rest new next) (same : mid.fuel ≡ old.fuel)
       (before : List (List Row) → List (List Row)) (read : (later : List (List Row)) → answers_in new.log ++ later ≡ answers_in old.log ++ before later)
