@@ -1,13 +1,14 @@
 -- Tables that are scanned one after the other, and what a session makes of them.
-use Rattle.std.proofs.Common.{◌≡◌, ◌∙◌, refl, ap, subst, inr, true, ℕ, List, [], ◌∷◌, ◌++◌, map}
-use Rattle.std.specs.Prelude.{Option, Some, None, option_map, IfSome, Result, Ok, Err, IfOk}
+use Rattle.std.proofs.Common.{◌≡◌, ◌∙◌, refl, ap, subst, inr, ℕ, List, [], ◌∷◌, map}
+use Rattle.std.specs.Prelude.{Option, Some, None, option_map, Result, Ok, Err, IfOk}
 use Rattle.std.specs.List.{AllZip}
-use Rattle.lk_ast.specs.Tables.{Tables, all_fit, rows_of, table_defs}
+use Rattle.lk_ast.specs.Tables.{Tables, rows_of, table_defs}
 use Rattle.lk_ast.specs.declared.declaration.Program.{Program}
 use Rattle.lk_ast.specs.declared.event.Event.{Event}
 use Rattle.lk_ast.specs.declared.table.TableDef.{TableDef}
 use Rattle.lk_ast.specs.declared.table.TableRows.{TableRows}
 use Rattle.lk_outside.specs.Causes.{next_count}
+use Rattle.lk_outside.specs.Scans.{IsScanned}
 use Rattle.lk_outside.specs.declared.fault.OutFault.{OutFault}
 use Rattle.lk_sem.specs.SourceRuns.{IsRun, commits_after}
 use Rattle.lk_sound.specs.Histories.{HasAnswer, HasHistory, KeepsOthers}
@@ -15,16 +16,9 @@ use Rattle.lk_sound.specs.Tables.{table_at}
 use Rattle.lk_types.specs.Each.{Each}
 use Rattle.lk_cli.specs.Answers.{IsSessionOver}
 use Rattle.lk_cli.specs.Ended.{run_of}
-use Rattle.lk_cli.specs.Loading.{AreLeft, BreaksOff, FitsTold, HasRowsOf, HasToldSession, IsOfTable, IsScanned, empty_table, loaded_over, rows_if}
+use Rattle.lk_cli.specs.Loading.{AreLeft, BreaksOff, HasRowsOf, HasToldSession, IsOfTable, empty_table, loaded_over, rows_if}
 use Rattle.lk_cli.specs.declared.answer.Done.{Done}
 use Rattle.lk_words.specs.declared.command.SourceCommand.{SourceCommand}
-
-pub scanned_more : (told : Option Tables) (defs : List TableDef) (def : TableDef) (tables : List TableRows) (table : TableRows)
-    → AllZip (IsScanned told) defs tables → IsScanned told def table → AllZip (IsScanned told) (defs ++ def ∷ []) (tables ++ table ∷ [])
-scanned_more told [] def [] table are is = (is, tt)
-scanned_more told [] def (t ∷ ts) table are is = absurd are
-scanned_more told (d ∷ ds) def [] table are is = absurd are
-scanned_more told (d ∷ ds) def (t ∷ ts) table are is = (are.0, scanned_more told ds def ts table are.1 is)
 
 -- tables without rows fit
 pub empty_fit : (defs : List TableDef) → AllZip IsOfTable defs (map empty_table defs)
@@ -35,13 +29,13 @@ all_of_table : (told : Option Tables) (defs : List TableDef) (tables : List Tabl
 all_of_table told [] [] are = tt
 all_of_table told [] (table ∷ tables) are = absurd are
 all_of_table told (def ∷ defs) [] are = absurd are
-all_of_table told (def ∷ defs) (table ∷ tables) are = (are.0.is, all_of_table told defs tables are.1)
+all_of_table told (def ∷ defs) (table ∷ tables) are = (record { name = are.0.name; columns = are.0.listed.fit }, all_of_table told defs tables are.1)
 
 all_rows : (now : Tables) (defs : List TableDef) (tables : List TableRows) → AllZip (IsScanned (Some now)) defs tables → AllZip (HasRowsOf now) defs tables
 all_rows now [] [] are = tt
 all_rows now [] (table ∷ tables) are = absurd are
 all_rows now (def ∷ defs) [] are = absurd are
-all_rows now (def ∷ defs) (table ∷ tables) are = (are.0.rows, all_rows now defs tables are.1)
+all_rows now (def ∷ defs) (table ∷ tables) are = (are.0.listed.same, all_rows now defs tables are.1)
 
 -- what a table that isn't declared has is what it had
 unloaded : (program : Program) (loaded : List TableRows) (old : Tables) (x : List ℕ) → table_at program x ≡ None → loaded_over (table_defs program) loaded old x ≡ old x
@@ -101,11 +95,3 @@ left_over program command loaded old between new before middle after fault is on
   become = inr (subst (λ told. BreaksOff program command fault told new (next_count before) after) is (subst (λ count. BreaksOff program command fault between new count after) one breaks));
   others = told_others program loaded old new (subst (λ told. KeepsOthers program told new) is others);
 }
-
--- ---- fits
-
--- where the tables are told, the rows of each declared one fit it
-pub each_told : (defs : List TableDef) (told : Option Tables) → IfSome told (λ tables. Each (λ (def : TableDef). all_fit def (tables def.name) ≡ true) defs) → Each (FitsTold told) defs
-each_told [] told fit = tt
-each_told (def ∷ defs) None fit = (tt, each_told defs None tt)
-each_told (def ∷ defs) (Some tables) fit = (fit.0, each_told defs (Some tables) fit.1)

@@ -46,10 +46,6 @@ abbrev pub all_put : List TableRows → Tables → Tables
 all_put [] old = old
 all_put (table ∷ tables) old = all_put tables (with_rows table.name table.rows old)
 
--- where the tables are told, the rows of this one fit it
-abbrev pub FitsTold : Option Tables → TableDef → Type 0
-FitsTold told def = IfSome told (λ tables. all_fit def (tables def.name) ≡ true)
-
 -- ---- what becomes of the tables
 
 -- the name of the declared table, and rows that fit it
@@ -60,11 +56,6 @@ pub record IsOfTable (def : TableDef) (table : TableRows) : Type 0 where
 -- the rows of that table, with the same repeats
 abbrev pub HasRowsOf : Tables → TableDef → TableRows → Type 0
 HasRowsOf tables def table = IsPermutation (tables def.name) table.rows
-
--- the name of the declared table, and rows that fit it, which are those of the table where the tables are told
-pub record IsScanned (told : Option Tables) (def : TableDef) (table : TableRows) : Type 0 where
-  pub is : IsOfTable def table
-  pub rows : IfSome told (λ tables. HasRowsOf tables def table)
 
 -- The tables of a session that began with these rows over the old tables: the events lead to the new ones, which are printed, and
 -- tables that aren't declared are as they were.

@@ -6,17 +6,17 @@ ghost use Rattle.lk_ast.specs.Tables.{all_fit};
 ghost use Rattle.lk_ast.specs.declared.table.TableDef.{TableDef as TheTableDef};
 ghost use Rattle.lk_bag.specs.Change.{with_rows};
 ghost use Rattle.lk_cli.specs.Answers.{HasNoRows, TellsReads};
-ghost use Rattle.lk_cli.specs.Loading.{AreLoaded, IsOfTable, IsScanned, all_put, empty_table, FitsTold, loaded_over};
+ghost use Rattle.lk_cli.specs.Loading.{AreLoaded, IsOfTable, all_put, empty_table, loaded_over};
 ghost use Rattle.lk_cli.specs.Seen.{seen};
 ghost use Rattle.lk_outside.specs.Causes.{HasCause, next_count};
+ghost use Rattle.lk_outside.specs.Scans.{FitAll, IsScanned};
 ghost use Rattle.lk_tables.specs.Law.{are_distinct};
-ghost use Rattle.lk_types.specs.Each.{Each};
 
 use crate::TABLES_READ_MAX;
 use crate::answer::Refusal;
 use crate::refused::Sources;
 use lk_ast::{List, NoMemory, Row, TableDef, TableRows, Text};
-use lk_outside::{Files, OutFault, Store};
+use lk_outside::{Files, OutFault, Store, scan_fitting};
 use lk_tables::read_tables;
 use std::alloc::Global;
 
@@ -182,7 +182,7 @@ pub fn last_scan(
     store: &mut dyn Store,
 ) -> Result<List<TableRows>, OutFault>
     requires idle { is_open store.old ≡ false }
-    requires fit { Each (FitsTold (tables store.old)) defs.now }
+    requires fit { FitAll (tables store.old) defs.now }
     ensures name { name store.new ≡ name store.old }
     ensures idle { is_open store.new ≡ false }
     ensures tables { tables store.new ≡ tables store.old }
@@ -191,7 +191,7 @@ pub fn last_scan(
     ensures commits { commits store.new ≡ commits store.old }
 {
     store.begin(alloc)?;
-    match scan_all(alloc, defs, store) {
+    match scan_fitting(alloc, defs, store) {
         Ok(scanned) => {
             store.abort();
             Ok(scanned)
@@ -201,44 +201,4 @@ pub fn last_scan(
             Err(fault)
         }
     }
-}
-
-/// The declared tables with their rows where a transaction is under way.
-fn scan_all(
-    alloc: Global,
-    defs: &[TableDef],
-    store: &mut dyn Store,
-) -> Result<List<TableRows>, OutFault>
-    requires under_way { is_open store.old ≡ true }
-    requires fit { Each (FitsTold (tables store.old)) defs.now }
-    ensures name { name store.new ≡ name store.old }
-    ensures under_way { is_open store.new ≡ true }
-    ensures tables { tables store.new ≡ tables store.old }
-    ensures kept { kept store.new ≡ kept store.old }
-    ensures scanned { IfOk result (AllZip (IsScanned (tables store.old)) defs.now) }
-    ensures cause { HasCause (faults store.old) (faults store.new) result }
-    ensures commits { commits store.new ≡ commits store.old }
-{
-    let mut scanned = List::new(alloc);
-    for def in defs {
-        scanned.push(scan(alloc, def, store)?)?;
-    }
-    Ok(scanned)
-}
-
-/// A declared table with its rows where a transaction is under way.
-fn scan(alloc: Global, def: &TableDef, store: &mut dyn Store) -> Result<TableRows, OutFault>
-    requires under_way { is_open store.old ≡ true }
-    requires fit { FitsTold (tables store.old) def.now }
-    ensures name { name store.new ≡ name store.old }
-    ensures under_way { is_open store.new ≡ true }
-    ensures tables { tables store.new ≡ tables store.old }
-    ensures kept { kept store.new ≡ kept store.old }
-    ensures scanned { IfOk result (IsScanned (tables store.old) def.now) }
-    ensures cause { HasCause (faults store.old) (faults store.new) result }
-    ensures commits { commits store.new ≡ commits store.old }
-{
-    let title = def.name.copy(alloc)?;
-    let rows = store.scan(alloc, def)?;
-    Ok(TableRows { name: title, rows })
 }

@@ -1,9 +1,9 @@
--- Tables that were scanned one after the other, and what a query answers over them.
-use Rattle.std.proofs.Common.{arith, append-nil, get_or, length, ◌<◌, ◌≤◌, zero, suc, ◌≡◌, ◌⊎◌, inl, inr, ℕ, Bool, true, false, ◌||◌, cond, List, [], ◌∷◌, ◌++◌, Option, Some, None, refl, sym, ◌∙◌, ap, subst, IsPermutation}
+-- What a query answers over tables that were scanned.
+use Rattle.std.proofs.Common.{append-nil, ◌≡◌, ℕ, Bool, true, false, ◌||◌, cond, List, [], ◌∷◌, ◌++◌, Option, Some, None, refl, sym, ◌∙◌, ap, subst, IsPermutation}
 use Rattle.std.specs.List.{AllZip}
 use Rattle.std.specs.Prelude.{IfOk, IfSome, Result, Ok, Err, bytes_eq}
 use Rattle.std.proofs.lemmas.Bool.{both_ways}
-use Rattle.std.proofs.lemmas.List.Sorted.{IsPermutation-refl, IsPermutation-trans, IsPermutation-append_left}
+use Rattle.std.proofs.lemmas.List.Sorted.{IsPermutation-trans, IsPermutation-append_left}
 use Rattle.std.proofs.lemmas.Grind.{flat_map-append}
 use Rattle.std.proofs.lemmas.Slice.Eq.{bytes_eq-Decides}
 use Rattle.lk_ast.specs.Tables.{Tables, all_fit, rows_of}
@@ -13,31 +13,15 @@ use Rattle.lk_ast.specs.declared.table.TableDef.{TableDef}
 use Rattle.lk_ast.specs.declared.table.TableRows.{TableRows}
 use Rattle.lk_sort.specs.Sorted as sort
 use Rattle.lk_sql.specs.Keys.{AreSorted, IsAnswer, may_stand_before}
-use Rattle.lk_outside.specs.Causes.{Rose}
-use Rattle.lk_outside.specs.Store.{HasForeignRow, ScanHasCause}
-use Rattle.lk_outside.specs.declared.fault.OutFault.{OutFault}
-use Rattle.lk_outside.specs.declared.fault.OutFault.TheVariants as fault
+use Rattle.lk_outside.proofs.ScannedTables.{filled, same-filled}
+use Rattle.lk_outside.specs.Scans.{IsScanned}
 use Rattle.lk_sql.specs.Meaning.{all_rows, no_rows, rows}
 use Rattle.lk_sql.specs.declared.tree.Key.{Key}
 use Rattle.lk_sql.specs.declared.tree.Select.{Select}
 use Rattle.lk_sql.specs.declared.tree.Sql.{Sql}
-use Rattle.lk_exec.specs.Causes.{FaultHasCause}
 use Rattle.lk_exec.specs.NamedTables.{are_declared, is_declared}
-use Rattle.lk_exec.specs.Listings.{HaveForeignRow, IsListing, def_of}
-use Rattle.lk_exec.specs.Scans.{IsScanned}
+use Rattle.lk_exec.specs.Listings.{IsListing, def_of}
 use Rattle.lk_exec.proofs.Agreeing.{all_rows-same}
-
-pub scanned_more : (told : Option Tables) (defs : List TableDef) (def : TableDef) (tables : List TableRows) (table : TableRows)
-    → AllZip (IsScanned told) defs tables → IsScanned told def table → AllZip (IsScanned told) (defs ++ def ∷ []) (tables ++ table ∷ [])
-scanned_more told [] def [] table are is = (is, tt)
-scanned_more told [] def (t ∷ ts) table are is = absurd are
-scanned_more told (d ∷ ds) def [] table are is = absurd are
-scanned_more told (d ∷ ds) def (t ∷ ts) table are is = (are.0, scanned_more told ds def ts table are.1 is)
-
--- the tables, those that were scanned with the rows of the first scan of their name
-abbrev filled : List TableRows → Tables → Tables
-filled [] tables name = tables name
-filled (t ∷ ts) tables name = cond (bytes_eq name t.name) t.rows (filled ts tables name)
 
 -- a definition has the name that its table was scanned under
 same_test : (told : Option Tables) (def : TableDef) (t : TableRows) → IsScanned told def t → (name : List ℕ) → bytes_eq def.name name ≡ bytes_eq name t.name
@@ -71,16 +55,6 @@ module _ (told : Option Tables) where
       go true is rest = refl
       go false is rest = rest is
 
-same-filled : (tables : Tables) (defs : List TableDef) (ts : List TableRows) → AllZip (IsScanned (Some tables)) defs ts → (name : List ℕ) → IsPermutation (tables name) (filled ts tables name)
-same-filled tables [] [] are name = IsPermutation-refl (tables name)
-same-filled tables [] (t ∷ ts) are name = absurd are
-same-filled tables (def ∷ defs) [] are name = absurd are
-same-filled tables (def ∷ defs) (t ∷ ts) are name = go (bytes_eq name t.name) refl (same-filled tables defs ts are.1 name)
-  where
-    go : (b : Bool) → bytes_eq name t.name ≡ b → IsPermutation (tables name) (filled ts tables name) → IsPermutation (tables name) (cond b t.rows (filled ts tables name))
-    go true is rest = subst (λ x. IsPermutation (tables x) t.rows) (sym ((bytes_eq-Decides name t.name).0 is ∙ are.0.name)) are.0.listed.same
-    go false is rest = rest
-
 -- the tables that are told, and where none are, ones without rows
 abbrev base_of : Option Tables → Tables
 base_of None name = []
@@ -105,12 +79,6 @@ sorted_by keys [] are = tt
 sorted_by keys (r ∷ []) are = tt
 sorted_by keys (r ∷ s ∷ rows) are = (are.0, sorted_by keys (s ∷ rows) are.1)
 
--- one of the tables holds a row of other columns
-pub foreign_here : (told : Option Tables) (defs : List TableDef) (i : ℕ) (def : TableDef) → i < length defs → def ≡ get_or defs i def → HasForeignRow told def → HaveForeignRow told defs
-foreign_here told [] i def within is foreign = absurd (omega (arith, within))
-foreign_here told (first ∷ defs) zero def within is foreign = inl (subst (HasForeignRow told) is foreign)
-foreign_here told (first ∷ defs) (suc i) def within is foreign = inr (foreign_here told defs i def (omega (arith, within)) is foreign)
-
 -- the rows of one select more
 pub one_select_more : (tables : Tables) (params : List Base) (before : List Select) (select : Select) (old new : List Row)
     → IsPermutation (all_rows tables params before no_rows) old → IsPermutation (old ++ rows tables params select no_rows) new → IsPermutation (all_rows tables params (before ++ select ∷ []) no_rows) new
@@ -128,17 +96,3 @@ answer_of tables params sql selects keys found (Ok after) selects_are keys_are a
   sorted_by sql.keys after (subst (λ ks. sort.AreSorted (may_stand_before ks) after) keys_are sorted),
 )
 answer_of tables params sql selects keys found (Err e) selects_are keys_are are moved sorted = tt
-
--- a scan's cause, as one of many
-pub cause_among : {T U : Type 0} (before between now : ℕ) (told seen : Option Tables) (defs : List TableDef) (i : ℕ) (def : TableDef) (e : OutFault) → between ≡ before → seen ≡ told → i < length defs → def ≡ get_or defs i def
-    → ScanHasCause {T = T} between now seen def (Err e) → FaultHasCause {T = U} before now (HaveForeignRow told defs) (Err e)
-cause_among before between now told seen defs i def fault.Failed same tables within at has = record {
-  later = subst (λ b. b ≤ now) same has.later;
-  failed = λ is. either (has.failed refl);
-  passed = tt;
-}
-  where
-    either : Rose between now ⊎ HasForeignRow seen def → Rose before now ⊎ HaveForeignRow told defs
-    either (inl rose) = inl (subst (λ b. Rose b now) same rose)
-    either (inr foreign) = inr (foreign_here told defs i def within at (subst (λ t. HasForeignRow t def) tables foreign))
-cause_among before between now told seen defs i def fault.NoMemory same tables within at has = record { later = subst (λ b. b ≤ now) same has.later; failed = λ is. absurd cc; passed = tt }

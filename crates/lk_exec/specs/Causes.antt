@@ -22,14 +22,8 @@ IfFull (Err (error.TableFull size)) P = P size
 IfFull (Err other) P = Unit {0}
 IfFull (Ok x) P = Unit {0}
 
--- The count of the store's faults didn't fall. It rose where the answer is `Failed`, but for a reason that isn't counted; where the call
+-- The count of the store's faults didn't fall. It rose where the answer is `StoreFault`, but for a reason that isn't counted; where the call
 -- passed it is as before.
-pub record FaultHasCause {T : Type 0} (before now : ℕ) (uncounted : Type 0) (result : Result T OutFault) : Type 0 where
-  pub later : before ≤ now
-  pub failed : IsErrOf result fault.Failed → Rose before now ⊎ uncounted
-  pub passed : OnOk result (now ≡ before)
-
--- the same of `StoreFault`
 pub record HasCause {T : Type 0} (before now : ℕ) (uncounted : Type 0) (result : Result T ExecError) : Type 0 where
   pub later : before ≤ now
   pub failed : IsErrOf result error.StoreFault → Rose before now ⊎ uncounted

@@ -2,7 +2,6 @@ pub mod Causes
 pub mod EitherWay
 pub mod Listings
 pub mod NamedTables
-pub mod Scans
 pub mod Scopes
 pub mod Selected
 pub mod Writings

@@ -1,14 +1,7 @@
--- The rows of tables as scans give them: in some order, and fitting the definitions of the tables.
-use Rattle.std.specs.Prelude.{◌≡◌, ◌⊎◌, ℕ, true, List, [], ◌∷◌, Option, IfSome, IsPermutation, bytes_eq, find}
+-- Tables that a query is answered over.
+use Rattle.std.specs.Prelude.{◌≡◌, ℕ, true, List, Option, IfSome, IsPermutation, bytes_eq, find}
 use Rattle.lk_ast.specs.Tables.{Tables, all_fit}
-use Rattle.lk_ast.specs.declared.table.Row.{Row}
 use Rattle.lk_ast.specs.declared.table.TableDef.{TableDef}
-use Rattle.lk_outside.specs.Store.{HasForeignRow}
-
--- the rows of the table of that definition, where tables are told, in some order; they fit it
-pub record IsListed (told : Option Tables) (def : TableDef) (rows : List Row) : Type 0 where
-  pub fit : all_fit def rows ≡ true
-  pub same : IfSome told (λ tables. IsPermutation (tables def.name) rows)
 
 -- the first of the definitions with that name
 abbrev pub def_of : List TableDef → List ℕ → Option TableDef
@@ -18,8 +11,3 @@ def_of defs name = find (λ (def : TableDef). bytes_eq def.name name) defs
 pub record IsListing (defs : List TableDef) (told : Option Tables) (listed : Tables) : Type 0 where
   pub fit : (name : List ℕ) → IfSome (def_of defs name) (λ def. all_fit def (listed name) ≡ true)
   pub same : IfSome told (λ tables. (name : List ℕ) → IsPermutation (tables name) (listed name))
-
--- tables are told, and one of these holds a row of other columns
-abbrev pub HaveForeignRow : Option Tables → List TableDef → Type 0
-HaveForeignRow told [] = ⊥
-HaveForeignRow told (def ∷ defs) = HasForeignRow told def ⊎ HaveForeignRow told defs

@@ -1,9 +1,11 @@
 //! What queries answer.
 
 ghost use Rattle.lk_ast.specs.Tables.{Tables, rows_of};
-ghost use Rattle.lk_exec.specs.Causes.{FaultHasCause, HasCause, IfFull};
+ghost use Rattle.lk_exec.specs.Causes.{HasCause, IfFull};
 ghost use Rattle.lk_exec.specs.NamedTables.{are_declared};
-ghost use Rattle.lk_exec.specs.Listings.{HaveForeignRow, IsListing};
+ghost use Rattle.lk_exec.specs.Listings.{IsListing};
+ghost use Rattle.lk_outside.specs.Causes.{HasCauseOr};
+ghost use Rattle.lk_outside.specs.Scans.{HaveForeignRow};
 ghost use Rattle.lk_sql.specs.Keys.{IsAnswer};
 ghost use Rattle.lk_sql.specs.Meaning.{all_rows as rows_of_all, no_rows};
 ghost use Rattle.std.specs.Prelude.{◌≡◌, true, IfOk, IsPermutation};
@@ -11,10 +13,9 @@ ghost use Rattle.std.specs.Prelude.{◌≡◌, true, IfOk, IsPermutation};
 use crate::error::{ExecError, raised_in};
 use crate::order::ByKeys;
 use crate::product::add_rows;
-use crate::scans::scan_all;
 use crate::values::Over;
 use lk_ast::{Base, List, NoMemory, Row, TableDef, TableRows};
-use lk_outside::{OutFault, Store};
+use lk_outside::{OutFault, Store, scan_tables};
 use lk_sort::sorted;
 use lk_sql::{Select, Sql};
 use std::alloc::Global;
@@ -59,9 +60,9 @@ fn answered(
     ensures kept { kept store.new ≡ kept store.old }
     ensures commits { commits store.new ≡ commits store.old }
     ensures answer { IfOk result (λ rows. (listed : Tables) × IsListing defs.now (tables store.old) listed × IsAnswer listed params.now s.now rows) }
-    ensures cause { FaultHasCause (faults store.old) (faults store.new) (HaveForeignRow (tables store.old) defs.now) result }
+    ensures cause { HasCauseOr (faults store.old) (faults store.new) (HaveForeignRow (tables store.old) defs.now) result }
 {
-    let scanned = scan_all(alloc, defs, store)?;
+    let scanned = scan_tables(alloc, defs, store)?;
     let rows = answer(alloc, s, params, scanned.as_slice())?;
     Ok(rows)
 }

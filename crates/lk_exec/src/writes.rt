@@ -2,10 +2,10 @@
 
 ghost use Rattle.lk_ast.specs.Tables.{all_fit, row_fits};
 ghost use Rattle.lk_ast.specs.declared.table.Row.{Row as TheRow};
-ghost use Rattle.lk_exec.specs.Causes.{FaultHasCause, HasCause, IfFull};
-ghost use Rattle.lk_exec.specs.Listings.{IsListed};
+ghost use Rattle.lk_exec.specs.Causes.{HasCause, IfFull};
 ghost use Rattle.lk_exec.specs.Writings.{kept_rows as rows_kept, updated, updated_rows as rows_updated};
-ghost use Rattle.lk_outside.specs.Causes.{HasCause as OutHasCause};
+ghost use Rattle.lk_outside.specs.Causes.{HasCause as OutHasCause, HasCauseOr};
+ghost use Rattle.lk_outside.specs.Scans.{IsListed};
 ghost use Rattle.lk_outside.specs.Store.{Changes, HasForeignRow};
 ghost use Rattle.lk_outside.specs.TableSizes.{HasRoom, IsOverfull};
 ghost use Rattle.std.specs.Prelude.{◌≡◌, ◌++◌, true, List, OnOk};
@@ -114,7 +114,7 @@ fn update_open(
     ensures commits { commits store.new ≡ commits store.old }
     ensures changed { OnOk result ((listed : List TheRow) × IsListed (tables store.old) def.now listed
         × Changes (tables store.old) (tables store.new) def.now.name (λ before. rows_updated params.now cond.now sets.now listed)) }
-    ensures cause { FaultHasCause (faults store.old) (faults store.new) (HasForeignRow (tables store.old) def.now) result }
+    ensures cause { HasCauseOr (faults store.old) (faults store.new) (HasForeignRow (tables store.old) def.now) result }
 {
     let there = scan_rows(alloc, def, store)?;
     let rows = updated_rows(alloc, cond, sets, params, there)?;
@@ -158,7 +158,7 @@ fn delete_open(
     ensures commits { commits store.new ≡ commits store.old }
     ensures changed { OnOk result ((listed : List TheRow) × IsListed (tables store.old) def.now listed
         × Changes (tables store.old) (tables store.new) def.now.name (λ before. rows_kept params.now cond.now listed)) }
-    ensures cause { FaultHasCause (faults store.old) (faults store.new) (HasForeignRow (tables store.old) def.now) result }
+    ensures cause { HasCauseOr (faults store.old) (faults store.new) (HasForeignRow (tables store.old) def.now) result }
 {
     let there = scan_rows(alloc, def, store)?;
     let rows = kept_rows(alloc, cond, params, there)?;

@@ -1,2 +1,3 @@
 pub mod FileContents
+pub mod ScannedTables
 pub mod TableSizes

@@ -1,5 +1,5 @@
 -- Counts of faults, and why a call fails.
-use Rattle.std.specs.Prelude.{◌≡◌, ℕ, ◌+◌, ◌-◌, ◌^◌, ◌≤◌, min, Result, Ok, Err, IsErrOf, OnOk}
+use Rattle.std.specs.Prelude.{◌≡◌, ◌⊎◌, ℕ, ◌+◌, ◌-◌, ◌^◌, ◌≤◌, min, Result, Ok, Err, IsErrOf, OnOk}
 use Rattle.lk_outside.specs.declared.fault.OutFault.{OutFault}
 use Rattle.lk_outside.specs.declared.fault.OutFault.TheVariants.{Failed, NoMemory}
 
@@ -16,6 +16,12 @@ Rose before now = next_count before ≤ now
 pub record HasCause {T : Type 0} (before now : ℕ) (result : Result T OutFault) : Type 0 where
   pub later : before ≤ now
   pub failed : IsErrOf result Failed → Rose before now
+  pub passed : OnOk result (now ≡ before)
+
+-- the same, where it may be `Failed` for a reason that isn't counted
+pub record HasCauseOr {T : Type 0} (before now : ℕ) (uncounted : Type 0) (result : Result T OutFault) : Type 0 where
+  pub later : before ≤ now
+  pub failed : IsErrOf result Failed → Rose before now ⊎ uncounted
   pub passed : OnOk result (now ≡ before)
 
 -- the count after a call, where the calls that answer `Failed` are counted, and no others

@@ -4,6 +4,7 @@ pub mod Failures
 pub mod Files
 pub mod MemFiles
 pub mod MemSink
+pub mod Scans
 pub mod Sink
 pub mod Store
 pub mod TableSizes

@@ -1,9 +1,8 @@
 -- What insertions, updates and deletions make of tables.
-use Rattle.std.proofs.Common.{◌≡◌, ◌≢◌, ℕ, ◌+◌, ◌<◌, ◌≤◌, Bool, true, false, ◌&&◌, cond, not, List, [], ◌∷◌, ◌++◌, Option, Some, None, map, filter, length, refl, sym, ◌∙◌, ap, ap₂, subst, length-append, IsPermutation, arith}
-use Rattle.std.specs.Prelude.{bytes_eq, find, IfSome}
-use Rattle.std.specs.List.{list_all}
+use Rattle.std.proofs.Common.{◌≡◌, ◌≢◌, ℕ, ◌+◌, ◌≤◌, Bool, true, false, ◌&&◌, cond, not, List, [], ◌∷◌, ◌++◌, Option, Some, None, map, filter, length, refl, sym, ◌∙◌, ap, ap₂, subst, length-append, IsPermutation}
+use Rattle.std.specs.Prelude.{bytes_eq, IfSome}
 use Rattle.std.proofs.lemmas.Bool.{and_parts, both_ways}
-use Rattle.std.proofs.lemmas.List.Sorted.{IsPermutation-refl, IsPermutation-map, length_permutation}
+use Rattle.std.proofs.lemmas.List.Sorted.{IsPermutation-refl, IsPermutation-map}
 use Rattle.std.proofs.lemmas.Option.{none-some}
 use Rattle.std.proofs.lemmas.Slice.Eq.{bytes_eq-Decides}
 use Rattle.lk_ast.proofs.FittingRows.{fits_filter, fits_map}
@@ -21,22 +20,21 @@ use Rattle.lk_ast.specs.declared.table.TableDef.{TableDef}
 use Rattle.lk_ast.specs.declared.value.Value.{Value}
 use Rattle.lk_bag.specs.Blocks.{block_at}
 use Rattle.lk_bag.specs.Change.{with_rows, updated, is_met, after_insert, after_update, after_delete}
-use Rattle.lk_bag.specs.Legal.{AreAllCaptured, AreSame, IsLegal, insert, update, delete, names_in}
+use Rattle.lk_bag.specs.Legal.{AreAllCaptured, AreSame, insert, update, delete, names_in}
 use Rattle.lk_names.specs.Programs.{IsBound}
+use Rattle.lk_outside.specs.Scans.{FitsTold}
 use Rattle.lk_outside.specs.Store.{Changes, Puts}
 use Rattle.lk_outside.specs.TableSizes.{HasSize}
 use Rattle.lk_types.proofs.Members.{each_in, each_of_in, found_in}
-use Rattle.lk_sound.specs.Histories.{AreFit, Follows, write_event}
+use Rattle.lk_sound.specs.Histories.{AreFit}
 use Rattle.lk_sound.specs.Tables.{AreTables, IsWriting, table_at}
 use Rattle.lk_sound.specs.Tables as sound
 use Rattle.lk_types.proofs.Parts.{same_some}
-use Rattle.lk_types.specs.Each.{Each, OneOf}
-use Rattle.lk_sem.specs.Scans.{FitsDef, IsScanned}
-use Rattle.lk_sem.specs.SourceRuns.{IsOverfull}
+use Rattle.lk_types.specs.Each.{OneOf}
 use Rattle.lk_sem.specs.Writings.{HasAdded, HasChanged, HasWritten, IsChanged, IsDeletion, IsInsertion, IsUpdate}
 use Rattle.lk_sem.specs.declared.writes.Written.{Written}
 use Rattle.lk_sem.specs.declared.writes.Written.TheVariants as written
-use Rattle.lk_sound.proofs.Legality.{legal_same, same_itself}
+use Rattle.lk_sound.proofs.Legality.{legal_same}
 use Rattle.lk_sem.specs.RowValues.{rows_in}
 use Rattle.lk_sem.proofs.RowsBack.{rows_back}
 use Rattle.lk_sound.proofs.Shuffles.{IsPermutation-filter}
@@ -51,7 +49,7 @@ fits_both def (row ∷ rows) others a b =
     ap₂ (λ x y. x && y) both.0 (fits_both def rows others both.1 b)
 
 -- the rows of a declared table fit it, where the tables do
-pub fits_found : (p : Program) (told : Option Tables) (x : List ℕ) (def : TableDef) → table_at p x ≡ Some def → AreFit p told → FitsDef def told
+pub fits_found : (p : Program) (told : Option Tables) (x : List ℕ) (def : TableDef) → table_at p x ≡ Some def → AreFit p told → FitsTold told def
 fits_found p None x def found fit = tt
 fits_found p (Some tables) x def found fit =
     each_in (λ (d : TableDef). all_fit d (tables d.name) ≡ true) (table_defs p) def (found_in (λ (d : TableDef). bytes_eq d.name x) (table_defs p) def found).0 fit

@@ -9,7 +9,6 @@ pub mod PlacesFound
 pub mod Reading
 pub mod RefusedSamples
 pub mod RowsBack
-pub mod Scanned
 pub mod Sound
 pub mod Standing
 pub mod Unread

@@ -3,7 +3,6 @@ pub mod Ends
 pub mod Frames
 pub mod Machine
 pub mod RowValues
-pub mod Scans
 pub mod SourceRuns
 pub mod Standing
 pub mod TablePlaces

@@ -3,15 +3,15 @@
 ghost use Rattle.std.specs.Prelude.{◌≡◌, true, false, IfOk, IfSome, OnErr, OnOk};
 ghost use Rattle.lk_ast.specs.Tables.{all_fit, rows_of};
 ghost use Rattle.lk_outside.specs.Causes.{HasCause, next_count};
-ghost use Rattle.lk_sem.specs.Scans.{AreScanned, FitDefs, FitsDef, IsScanned};
+ghost use Rattle.lk_outside.specs.Scans.{FitsTold, IsListed};
 ghost use Rattle.lk_sound.specs.Histories.{AreFit, HasAnswer, HasFollowed, read_event};
 ghost use Rattle.lk_sound.specs.Law.{AreBoundAndApart};
 ghost use Rattle.lk_sound.specs.Tables.{IsReading};
 
 use crate::catalog::Catalog;
-use lk_ast::{List, Row, TableDef, TableRows, Value};
+use lk_ast::{List, Row, TableDef, Value};
 use lk_bag::answer;
-use lk_outside::{OutFault, Store};
+use lk_outside::{OutFault, Store, scan_fitting};
 use std::alloc::Global;
 
 /// Reads tables in a transaction of its own, for what begins at that place with what it captured.
@@ -69,7 +69,7 @@ fn read_open<'p>(
     ensures answered { IfOk result (λ answer. HasAnswer catalog.now (read_event site args.now answer)) }
     ensures follows { IfOk result (λ answer. HasFollowed catalog.now (tables store.old) (tables store.old) (read_event site args.now answer)) }
 {
-    let scanned = scan_all(alloc, catalog.tables(), store)?;
+    let scanned = scan_fitting(alloc, catalog.tables(), store)?;
     let Some(block) = catalog.block(site) else {
         unreachable!()
     };
@@ -79,45 +79,21 @@ fn read_open<'p>(
     }
 }
 
-/// Scans these tables where a transaction is under way.
-fn scan_all(
+/// The rows of a table where a transaction is under way.
+pub fn scan_rows(
     alloc: Global,
-    defs: &[TableDef],
+    def: &TableDef,
     store: &mut dyn Store,
-) -> Result<List<TableRows>, OutFault>
+) -> Result<List<Row>, OutFault>
     requires under_way { is_open store.old ≡ true }
-    requires fit { FitDefs defs.now (tables store.old) }
+    requires fit { FitsTold (tables store.old) def.now }
     ensures name { name store.new ≡ name store.old }
     ensures under_way { is_open store.new ≡ true }
     ensures tables { tables store.new ≡ tables store.old }
     ensures kept { kept store.new ≡ kept store.old }
     ensures cause { HasCause (faults store.old) (faults store.new) result }
     ensures commits { commits store.new ≡ commits store.old }
-    ensures scanned { IfOk result (λ scanned. AreScanned (tables store.old) defs.now scanned) }
+    ensures listed { IfOk result (IsListed (tables store.old) def.now) }
 {
-    let mut scanned = List::new(alloc);
-    for def in defs {
-        scanned.push(scan_one(alloc, def, store)?)?;
-    }
-    Ok(scanned)
-}
-
-/// Scans a table where a transaction is under way.
-pub fn scan_one(alloc: Global, def: &TableDef, store: &mut dyn Store) -> Result<TableRows, OutFault>
-    requires under_way { is_open store.old ≡ true }
-    requires fit { FitsDef def.now (tables store.old) }
-    ensures name { name store.new ≡ name store.old }
-    ensures under_way { is_open store.new ≡ true }
-    ensures tables { tables store.new ≡ tables store.old }
-    ensures kept { kept store.new ≡ kept store.old }
-    ensures cause { HasCause (faults store.old) (faults store.new) result }
-    ensures commits { commits store.new ≡ commits store.old }
-    ensures scanned { IfOk result (λ table. IsScanned (tables store.old) def.now table) }
-{
-    let name_copy = def.name.copy(alloc)?;
-    let rows = store.scan(alloc, def)?;
-    Ok(TableRows {
-        name: name_copy,
-        rows,
-    })
+    store.scan(alloc, def)
 }

@@ -3,15 +3,15 @@
 ghost use Rattle.std.specs.Prelude.{◌≡◌, ◌++◌, true, false, IfOk, IfErr, OnErr, OnOk};
 ghost use Rattle.lk_ast.specs.Tables.{all_fit};
 ghost use Rattle.lk_outside.specs.Causes.{HasCause};
+ghost use Rattle.lk_outside.specs.Scans.{FitsTold};
 ghost use Rattle.lk_outside.specs.Store.{Changes};
-ghost use Rattle.lk_sem.specs.Scans.{FitsDef};
 ghost use Rattle.lk_sem.specs.Writings.{HasAdded, HasChanged, HasWritten, IsDeletion, IsInsertion, IsUpdate, commits_written};
 ghost use Rattle.lk_sound.specs.Histories.{AreFit};
 ghost use Rattle.lk_sound.specs.Law.{AreBoundAndApart};
 ghost use Rattle.lk_sound.specs.Tables.{IsWriting};
 
 use crate::catalog::Catalog;
-use crate::reads::scan_one;
+use crate::reads::scan_rows;
 use crate::rows::rows_in;
 use lk_ast::{ChangeExpr, Expr, List, MOST_ROWS, Node, Row, TableDef, Value, Word};
 use lk_bag::{kept_rows, updated_rows};
@@ -136,7 +136,7 @@ fn add_rows(
     rows: List<Row>,
 ) -> Result<Written, OutFault>
     requires under_way { is_open store.old ≡ true }
-    requires fit { FitsDef def.now (tables store.old) }
+    requires fit { FitsTold (tables store.old) def.now }
     requires columns { all_fit def.now rows ≡ true }
     ensures name { name store.new ≡ name store.old }
     ensures under_way { is_open store.new ≡ true }
@@ -145,8 +145,8 @@ fn add_rows(
     ensures commits { commits store.new ≡ commits store.old }
     ensures added { IfOk result (HasAdded (tables store.old) (tables store.new) def.now.name rows) }
 {
-    let there = scan_one(alloc, def, store)?;
-    let size = (there.rows.as_slice().len() + rows.as_slice().len()) as u64;
+    let there = scan_rows(alloc, def, store)?;
+    let size = (there.as_slice().len() + rows.as_slice().len()) as u64;
     if size > MOST_ROWS {
         return Ok(Written::Full(size));
     }
@@ -197,15 +197,8 @@ fn update_rows<'p>(
     let Some(def) = catalog.table(&change.table.text) else {
         unreachable!()
     };
-    let there = scan_one(alloc, def, store)?;
-    let rows = updated_rows(
-        alloc,
-        catalog.index(),
-        block,
-        change,
-        args,
-        there.into_rows(),
-    )?;
+    let there = scan_rows(alloc, def, store)?;
+    let rows = updated_rows(alloc, catalog.index(), block, change, args, there)?;
     put_rows(alloc, def, store, rows)
 }
 
@@ -233,15 +226,8 @@ fn delete_rows<'p>(
     let Some(def) = catalog.table(&change.table.text) else {
         unreachable!()
     };
-    let there = scan_one(alloc, def, store)?;
-    let rows = kept_rows(
-        alloc,
-        catalog.index(),
-        block,
-        change,
-        args,
-        there.into_rows(),
-    )?;
+    let there = scan_rows(alloc, def, store)?;
+    let rows = kept_rows(alloc, catalog.index(), block, change, args, there)?;
     put_rows(alloc, def, store, rows)
 }
 

@@ -1,7 +1,6 @@
-use Rattle.std.proofs.Common.{◌≡◌, List, Option, Some, None, sym, ap, ◌∙◌}
+use Rattle.std.proofs.Common.{◌≡◌, Some, sym, ap, ◌∙◌}
 use Rattle.std.proofs.lemmas.Option.{none-some}
 use Rattle.std.proofs.lemmas.Result.{IfOk-weaker}
-use Rattle.lk_ast.specs.declared.table.Row.{Row}
 use Rattle.lk_sem.specs.RowValues.{rows_in}
 use Rattle.lk_sem.proofs.Changing.{fits_found, insertion_fits, written_insert}
 use Rattle.lk_sem.proofs.RowsBack.{rows_back}

@@ -1,7 +1,7 @@
 use Rattle.std.proofs.Common.{rules, ◌≡◌, ◌+◌, ◌++◌, ◌∷◌, [], take, refl, add-one}
 use Rattle.std.proofs.Math.Seq.{take-suc}
-use Rattle.lk_exec.proofs.Scanned.{cause_among, scanned_more}
-use Rattle.lk_exec.proofs.scans.scan_all.Goals as goal
+use Rattle.lk_outside.proofs.ScannedTables.{cause_among, scanned_more}
+use Rattle.lk_outside.proofs.scans.scan_tables.Goals as goal
 
 pub loop-def-preserved : goal.loop-def-preserved
 loop-def-preserved g c =
