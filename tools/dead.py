@@ -3,11 +3,12 @@
 
     tools/dead.py [definitions|exports|lines] [CRATE..]        at the top of the repository; all three where none is named
 
-Definitions and lemmas of crates/*/specs and proofs are needed where code names them (a `ghost use`, or `using(..)` of a tactic), where
-one that a goal asks for does (Answers.antt, Invariants.antt: those have the goals' names), where docs/CLAIMS.md or
-docs/ARCHITECTURE.md has the name in backticks, where they stand in formers/ or in samples (Samples/, *Samples.antt), and where what is needed names
-them. Any word that is spelt so counts as naming, also one that a text binds itself: what is listed is dead, but more may be. "edit"
-is said where an edit of must-fail/ or planted/ of that crate has the word, "in a circle" where something else that is dead names it.
+Definitions and lemmas of crates/*/specs and proofs are needed where code names them (a `ghost use`, or `using(..)` of a tactic),
+where one that a goal asks for does (Answers.antt, Invariants.antt: those have the goals' names), where docs/CLAIMS.md or
+docs/ARCHITECTURE.md has the name in backticks, where they stand in formers/ or in samples (Samples/, *Samples.antt), and where what
+is needed names them. Any word that is spelt so counts as naming, also one that a text binds itself: what is listed is dead, but more
+may be. "edit" is said where an edit of must-fail/ or planted/ of that crate has the word, "in a circle" where something else that is
+dead names it.
 
 Exports are what a lib.rt hands on (`pub use`) and no other crate's code names, or only crates of tests do. A type that calls of its
 crate give or take is named by nobody who only hands it through; so types are listed apart.
@@ -83,7 +84,8 @@ def dead_definitions(order):
     circle = {other for it in dead for other in names[it]}
     for it in sorted(dead, key=lambda it: (order.index(it.path.split("/")[1]), it.path, it.line)):
         crate = it.path.split("/")[1]
-        edits = any(it.name in words(text_of(path)) for path in files(f"crates/{crate}/must-fail/*.edit") + files(f"planted/{crate}/*.edit"))
+        edits = files(f"crates/{crate}/must-fail/*.edit") + files(f"planted/{crate}/*.edit")
+        edits = any(it.name in words(text_of(path)) for path in edits)
         yield crate, f"{it.path}:{it.line} {it.name}{', edit' if edits else ''}{', in a circle' if it in circle else ''}"
 
 
@@ -115,8 +117,8 @@ def dead_exports(order):
 def dead_lines(below):
     """A line for each name in a line of crates.txt that the crate's sources don't have."""
     for crate, others in below.items():
-        sources = files(f"crates/{crate}/src/**/*.rt") + files(f"crates/{crate}/specs/**/*.antt") + files(f"crates/{crate}/proofs/**/*.antt")
-        text = "\n".join(text_of(path) for path in sources)
+        folders = ("src/**/*.rt", "specs/**/*.antt", "proofs/**/*.antt")
+        text = "\n".join(text_of(path) for folder in folders for path in files(f"crates/{crate}/{folder}"))
         yield from ((crate, f"{crate}: {other}") for other in others if not re.search(rf"\b(Rattle\.{other}\.|{other}::)", text))
 
 

@@ -6,11 +6,10 @@
 Printed are, apart from each other: lemmas of ours that std has, or a crate of the toolchain on which ours stand, with the name there;
 other lemmas that stand in several places here; definitions that do, with that of std where there is one. Statements are the same up
 to the names of variables, the order in which these are bound, whether they are implicit, and levels of types; parameters of
-sections count where a statement names them. Abbreviations and functions are the same where their equations are, records and data
-where their fields or constructors have the same names and types. Other names are compared by what they are imported as. A
-statement or definition counts with LEAST letters or more (24 where no number is given). Two facts that differ in the order of
-premises or in the sides of an equation aren't found. Answers of goals, and formers/, have names and texts that others give, and
-are left out. What std has is what `rt lemma` looks through. No gate runs this.
+sections count where a statement names them. Definitions are the same where their types and equations, fields or constructors are.
+Other names are compared by what they are imported as. A statement or definition counts with LEAST letters or more (24 where no
+number is given). Facts that differ in the order of premises or in the sides of an equation aren't found. Answers of goals, and
+formers/, have names and texts that others give, and are left out. What std has is what `rt lemma` looks through. No gate runs this.
 """
 
 import collections
