@@ -7,8 +7,8 @@ Definitions and lemmas of crates/*/specs and proofs are needed where code names 
 where one that a goal asks for does (Answers.antt, Invariants.antt: those have the goals' names), where docs/CLAIMS.md or
 docs/ARCHITECTURE.md has the name in backticks, where they stand in formers/ or in samples (Samples/, *Samples.antt), and where what
 is needed names them. Any word that is spelt so counts as naming, also one that a text binds itself: what is listed is dead, but more
-may be. "edit" is said where an edit of must-fail/ or planted/ of that crate has the word, "in a circle" where something else that is
-dead names it.
+may be. An import alone names nothing, and goes with what it imports. "edit" is said where an edit of must-fail/ or planted/ of that
+crate has the word, "in a circle" where something else that is dead names it.
 
 Exports are what a lib.rt hands on (`pub use`) and no other crate's code names, or only crates of tests do. A type that calls of its
 crate give or take is named by nobody who only hands it through; so types are listed apart.
