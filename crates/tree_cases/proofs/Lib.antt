@@ -1,0 +1,2 @@
+pub mod NamedForms
+pub mod Swapping

@@ -3,6 +3,7 @@
 use crate::answer::{
     Asked, asked_by, put_answer, put_names_answer, put_nesting_answer, put_token_answer,
 };
+use crate::calls::put_calls;
 use crate::case::Case;
 use crate::cuts::put_cuts;
 use crate::line::Line;
@@ -15,7 +16,7 @@ use std::alloc::Global;
 /// The most sessions of a run.
 const MOST_SESSIONS: u32 = 256;
 
-/// Judges cases of texts: of programs and their trees, of messages and of schedules. The lines of a case are
+/// Judges cases of texts: of programs and their trees, of messages, of schedules and of calls. The lines of a case are
 /// - `<`, `+`, `repeat` and `bytes`: the text, as in all files of cases; in settings `before` and `behind`, a line each of what
 ///   stands round it,
 /// - `tree T`: the program of the text; `body T`: the body of its one function; `type T`: the type that is written down of its
@@ -32,7 +33,9 @@ const MOST_SESSIONS: u32 = 256;
 ///   `done STATUS BODY`, `refused STATUS CODE` or `bad WHY`; `ended VERDICT`: the same of a reply behind which nothing comes,
 /// - `written_request the same`, `written_reply the same`: the text is what is written for the message that it is,
 /// - `schedule LINES`: what the text says as a schedule of 256 sessions, and `alone LINES` as one of one session; `bad N` instead:
-///   the number of its first bad line.
+///   the number of its first bad line,
+/// - `memory ANSWERS`: what the calls of the text as a script of the executor answer over a store in memory (`put_calls`), and
+///   `failing:3 ANSWERS` over one whose call with this number fails.
 pub struct Trees;
 
 impl Judge for Trees {
@@ -126,7 +129,7 @@ fn put_asked_answer(
     true
 }
 
-/// Puts the answer to a line with this word that asks something of the text as a program or as a message.
+/// Puts the answer to a line with this word that asks something of the text as a program, as a message or as a script.
 fn put_text_answer(alloc: Global, answer: &mut Line, text: &[u8], word: &str) -> bool {
     if let Some(asked) = asked_by(word) {
         put_answer(alloc, answer, asked, text);
@@ -134,7 +137,7 @@ fn put_text_answer(alloc: Global, answer: &mut Line, text: &[u8], word: &str) ->
     }
     match message_asked_by(word) {
         Some(asked) => put_message_answer(alloc, answer, asked, text),
-        None => return false,
+        None => return put_calls(alloc, answer, text, word),
     }
     true
 }
