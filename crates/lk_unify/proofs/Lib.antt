@@ -4,6 +4,7 @@ pub mod Decided
 pub mod DistinctVariables
 pub mod EffectRows
 pub mod EffectSets
+pub mod Faults
 pub mod Fine
 pub mod FineFirsts
 pub mod FineSides

@@ -1,3 +1,4 @@
+pub mod Attempts
 pub mod Constraints
 pub mod Images
 pub mod InOrder

@@ -15,6 +15,7 @@ mod load_levels;
 mod load_sides;
 mod loader;
 mod numbers;
+mod ordered;
 mod reading;
 mod row_fields;
 mod row_places;
@@ -27,5 +28,5 @@ mod variables;
 
 pub use constrained::{solve, solve_first};
 pub use constraint::{Constraint, Sizing};
-pub use solvable::first_unsolvable;
+pub use ordered::first_unsolvable;
 pub use unifying::{UnifyError, unify};

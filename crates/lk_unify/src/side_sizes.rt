@@ -1,17 +1,19 @@
 //! How large the types are that the sides of constraints become under a most general solution, as far as their sizes matter.
 
-ghost use Rattle.std.specs.Prelude.{◌≡◌, ◌<◌, ◌≤◌, [], false, true, length, map, take, IfNone, IfOk, IfSome, IsTrue};
+ghost use Rattle.std.specs.Prelude.{◌≡◌, ◌<◌, ◌≤◌, List as TheList, [], false, true, length, map, take, IfNone, IfOk, IfSome, IsTrue};
 ghost use Rattle.lk_classes.specs.Classes.{AreClasses};
 ghost use Rattle.lk_types.specs.Each.{Each};
 ghost use Rattle.lk_types.specs.Sizes.{most_nodes};
 ghost use Rattle.lk_types.specs.Solutions.{HasSolution};
-ghost use Rattle.lk_arena.specs.Counting.{count_at as the_count_at, end_at, AreEnds};
+ghost use Rattle.lk_arena.specs.Counting.{count_at as the_count_at, end_at, AreEnds, IsPartsFirst};
 ghost use Rattle.lk_unify.specs.Constraints.{matters, AllFine, IsFirstLarge};
 ghost use Rattle.lk_unify.specs.Loading.{IsLoader};
+ghost use Rattle.lk_unify.specs.Attempts.{AreOrdered};
 ghost use Rattle.lk_unify.specs.SideSizes.{is_late, joined, last_by, AllMakeFew, AreAllWithin, CountFew, CountMany, IsFirstMany, IsOneBeyond};
 ghost use Rattle.lk_unify.specs.Solving.{HasNodes, HasValues};
 
 use crate::constraint::Sizing;
+use crate::ordered::{Ordered, load_ordered};
 use crate::solvable::{Loaded, load_next, load_solvable, order_of};
 use lk_arena::{Count, count_at, counts, once_open};
 use lk_ast::NoMemory;
@@ -79,22 +81,22 @@ fn counts_within(
 fn sizes_within(
     alloc: Global,
     all: &Loaded,
+    order: &[usize],
     sizings: &[Sizing],
     late: bool,
     ends: &[usize],
 ) -> Result<bool, NoMemory>
     requires ends { AreEnds all.now.loader.arena.shapes ends.now }
     requires whole { IsLoader all.now.loader }
-    requires values { HasValues all.now.loader }
+    requires order { IsPartsFirst all.now.loader.arena.shapes all.now.loader.arena.classes order.now }
     requires sides { Each (λ n. n < length all.now.loader.arena.classes) all.now.sides }
     requires sizings { length sizings.now ≡ length all.now.sides }
     ensures within { IfOk result (λ within. IsTrue within → CountFew (end_at ends.now) (last_by late) all.now sizings.now) }
     ensures beyond { IfOk result (λ within. (within ≡ false) → CountMany (end_at ends.now) (last_by late) all.now sizings.now) }
 {
     let arena = &all.loader.arena;
-    let order = order_of(alloc, &all.loader)?;
     let shapes = arena.shapes.as_slice();
-    let counts = counts(alloc, shapes, &arena.classes, order.as_slice(), ends)?;
+    let counts = counts(alloc, shapes, &arena.classes, order, ends)?;
     let within = counts_within(
         &arena.classes,
         all.sides.as_slice(),
@@ -114,46 +116,59 @@ fn are_within(alloc: Global, all: &Loaded, sizings: &[Sizing], late: bool) -> Re
     ensures within { IfOk result (λ within. IsTrue within → CountFew (λ p. 0) (last_by late) all.now sizings.now) }
     ensures beyond { IfOk result (λ within. (within ≡ false) → CountMany (λ p. 0) (last_by late) all.now sizings.now) }
 {
+    let order = order_of(alloc, &all.loader)?;
     let ends = vec![in alloc; 0; all.loader.arena.shapes.len()]?;
-    sizes_within(alloc, all, sizings, late, ends.as_slice())
+    sizes_within(alloc, all, order.as_slice(), sizings, late, ends.as_slice())
 }
 
-/// Whether it is sure that in each first part of the constraints no side whose size matters is too large: where the closed end of a
-/// row counts one if it was open once, and all late sizes matter, fewer constraints have no larger sides.
-fn is_surely_few(
+/// Whether it is sure that in each first part of the constraints, whose equations have these nodes, no side whose size matters is too
+/// large: where the closed end of a row counts one if it was open once, and all late sizes matter, fewer constraints have no larger
+/// sides.
+fn is_surely_few(alloc: Global, nodes: &Ordered, sizings: &[Sizing]) -> Result<bool, NoMemory>
+    requires nodes { (es : TheList Equation) × AreOrdered nodes.now es }
+    requires sizings { length sizings.now ≡ length nodes.now.all.sides }
+    ensures { IfOk result (λ few. IsTrue few → (es : TheList Equation) → AreOrdered nodes.now es → AllMakeFew (joined es sizings.now)) }
+{
+    let arena = &nodes.all.loader.arena;
+    let ends = once_open(alloc, arena.shapes.as_slice(), &arena.classes)?;
+    sizes_within(
+        alloc,
+        &nodes.all,
+        nodes.order.as_slice(),
+        sizings,
+        true,
+        ends.as_slice(),
+    )
+}
+
+/// The same of constraints whose equations have a solution.
+fn are_surely_few(
     alloc: Global,
     equations: &[Equation],
     sizings: &[Sizing],
 ) -> Result<bool, NoMemory>
     requires solution { HasSolution equations.now }
     requires sizings { length sizings.now ≡ length equations.now }
-    ensures nodes { IfOk result (λ few. HasNodes []) }
-    ensures few { IfOk result (λ few. IsTrue few → AllMakeFew (joined equations.now sizings.now)) }
+    ensures { IfOk result (λ few. IsTrue few → AllMakeFew (joined equations.now sizings.now)) }
 {
-    let all = load_solvable(alloc, equations, equations.len())?;
-    let ends = once_open(
-        alloc,
-        all.loader.arena.shapes.as_slice(),
-        &all.loader.arena.classes,
-    )?;
-    sizes_within(alloc, &all, sizings, true, ends.as_slice())
+    let nodes = load_ordered(alloc, equations)?;
+    let few = is_surely_few(alloc, &nodes, sizings)?;
+    Ok(few)
 }
 
 /// A number of constraints of which no first part needs a test by itself. It is searched for by halves.
 fn surely_few(alloc: Global, equations: &[Equation], sizings: &[Sizing]) -> Result<usize, NoMemory>
     requires solution { HasSolution equations.now }
     requires sizings { length sizings.now ≡ length equations.now }
+    requires none { HasNodes [] }
     ensures bound { IfOk result (λ n. n ≤ length equations.now) }
     ensures few { IfOk result (λ n. AllMakeFew (take n (joined equations.now sizings.now))) }
 {
-    if is_surely_few(alloc, equations, sizings)? {
-        return Ok(equations.len());
-    }
     let mut low = 0;
     let mut high = equations.len();
     'halving: while high - low > 1 {
         let middle = low + (high - low) / 2;
-        if is_surely_few(alloc, &equations[..middle], &sizings[..middle])? {
+        if are_surely_few(alloc, &equations[..middle], &sizings[..middle])? {
             low = middle;
         } else {
             high = middle;
@@ -164,20 +179,18 @@ fn surely_few(alloc: Global, equations: &[Equation], sizings: &[Sizing]) -> Resu
 
 /// The first constraint with which the nodes of those up to it make a side too large whose size matters then, if there is one. From
 /// those that need no test on, one after another is added to the nodes of the ones before.
-pub fn first_beyond(
+fn search_beyond(
     alloc: Global,
     equations: &[Equation],
     sizings: &[Sizing],
 ) -> Result<Option<usize>, NoMemory>
     requires solution { HasSolution equations.now }
     requires sizings { length sizings.now ≡ length equations.now }
+    requires none { HasNodes [] }
     ensures few { IfOk result (λ found. IfNone found (AllMakeFew (joined equations.now sizings.now))) }
     ensures first { IfOk result (λ found. IfSome found (λ k. IsFirstMany (joined equations.now sizings.now) k)) }
 {
     let start = surely_few(alloc, equations, sizings)?;
-    if start == equations.len() {
-        return Ok(None);
-    }
     let mut all = load_solvable(alloc, equations, start)?;
     for k in start..equations.len() {
         if !load_next(alloc, &mut all, &equations[k])? {
@@ -191,16 +204,36 @@ pub fn first_beyond(
     Ok(None)
 }
 
-/// The first constraint with which those up to it have a side that is too large and whose size matters then, if there is one.
-pub fn first_large(
+/// The first constraint with which the nodes of those up to it make a side too large whose size matters then, if there is one. One
+/// look at the nodes of all is enough where there is none.
+pub fn first_beyond(
     alloc: Global,
+    nodes: &Ordered,
     equations: &[Equation],
     sizings: &[Sizing],
 ) -> Result<Option<usize>, NoMemory>
-    requires solution { HasSolution equations.now }
+    requires nodes { AreOrdered nodes.now equations.now }
+    requires sizings { length sizings.now ≡ length equations.now }
+    ensures few { IfOk result (λ found. IfNone found (AllMakeFew (joined equations.now sizings.now))) }
+    ensures first { IfOk result (λ found. IfSome found (λ k. IsFirstMany (joined equations.now sizings.now) k)) }
+{
+    if is_surely_few(alloc, nodes, sizings)? {
+        return Ok(None);
+    }
+    search_beyond(alloc, equations, sizings)
+}
+
+/// The first constraint with which those up to it have a side that is too large and whose size matters then, if there is one.
+pub fn first_large(
+    alloc: Global,
+    nodes: &Ordered,
+    equations: &[Equation],
+    sizings: &[Sizing],
+) -> Result<Option<usize>, NoMemory>
+    requires nodes { AreOrdered nodes.now equations.now }
     requires sizings { length sizings.now ≡ length equations.now }
     ensures fine { IfOk result (λ found. IfNone found (AllFine (joined equations.now sizings.now))) }
     ensures first { IfOk result (λ found. IfSome found (λ k. IsFirstLarge (joined equations.now sizings.now) k)) }
 {
-    first_beyond(alloc, equations, sizings)
+    first_beyond(alloc, nodes, equations, sizings)
 }

@@ -1,4 +1,4 @@
-//! Lists of equations as nodes, and whether they have a solution.
+//! Lists of equations as nodes.
 
 ghost use Rattle.lk_types.specs.Solutions.{HasSolution};
 ghost use Rattle.lk_types.specs.Variables.{equation_variables, variables_of};
@@ -12,7 +12,7 @@ use crate::load::load_variable;
 use crate::load_sides::load_equation;
 use crate::loader::Loader;
 use crate::variables::side_variables;
-use lk_arena::{is_clean, is_ordered, merge_nodes, parts_first};
+use lk_arena::{merge_nodes, parts_first};
 use lk_ast::{List, NoMemory};
 use lk_types::{Equation, Side, Variable};
 use std::alloc::Global;
@@ -94,26 +94,13 @@ pub fn load_next(alloc: Global, all: &mut Loaded, equation: &Equation) -> Result
     Ok(true)
 }
 
-/// Makes nodes of the first of these equations, so many as are asked for. The answer is none where they have no solution.
-fn load_first(
-    alloc: Global,
-    equations: &[Equation],
-    count: usize,
-) -> Result<Option<Loaded>, NoMemory>
-    requires { count ≤ length equations.now }
-    ensures loaded { IfOk result (λ found. IfSome found (λ all. AreLoaded all.loader all.sides equations.now count)) }
-    ensures never { IfOk result (λ found. IfNone found (HasSolution equations.now → ⊥)) }
+/// Equations as nodes, of which none is said yet.
+pub fn begin(alloc: Global, equations: &[Equation]) -> Result<Loaded, NoMemory>
+    ensures { IfOk result (λ all. AreLoaded all.loader all.sides equations.now 0) }
 {
-    let mut all = Loaded {
-        loader: start(alloc, equations)?,
-        sides: List::new(alloc),
-    };
-    for i in 0..count {
-        if !load_next(alloc, &mut all, &equations[i])? {
-            return Ok(None);
-        }
-    }
-    Ok(Some(all))
+    let loader = start(alloc, equations)?;
+    let sides = List::new(alloc);
+    Ok(Loaded { loader, sides })
 }
 
 /// Makes nodes of the first of these equations, which have a solution.
@@ -126,9 +113,12 @@ pub fn load_solvable(
     requires count { count ≤ length equations.now }
     ensures { IfOk result (λ all. AreLoaded all.loader all.sides equations.now count) }
 {
-    let Some(all) = load_first(alloc, equations, count)? else {
-        unreachable!();
-    };
+    let mut all = begin(alloc, equations)?;
+    for i in 0..count {
+        if !load_next(alloc, &mut all, &equations[i])? {
+            unreachable!();
+        }
+    }
     Ok(all)
 }
 
@@ -143,67 +133,4 @@ pub fn order_of(alloc: Global, loader: &Loader) -> Result<Vec<usize>, NoMemory>
         unreachable!();
     };
     Ok(order)
-}
-
-/// Whether the equations have a solution.
-pub fn is_solvable(alloc: Global, equations: &[Equation]) -> Result<bool, NoMemory>
-    ensures solvable { IfOk result (λ solvable. IsTrue solvable → HasSolution equations.now) }
-    ensures never { IfOk result (λ solvable. (solvable ≡ false) → HasSolution equations.now → ⊥) }
-{
-    let Some(all) = load_first(alloc, equations, equations.len())? else {
-        return Ok(false);
-    };
-    if !is_clean(alloc, &all.loader.arena)? {
-        return Ok(false);
-    }
-    is_ordered(
-        alloc,
-        all.loader.arena.shapes.as_slice(),
-        &all.loader.arena.classes,
-    )
-}
-
-/// A number of first equations that have no solution, of equations that have none: those up to the first that can't be merged
-/// with the ones before it, or all.
-fn count_unsolvable(alloc: Global, equations: &[Equation]) -> Result<usize, NoMemory>
-    ensures within { IfOk result (λ count. count ≤ length equations.now) }
-    ensures never { IfOk result (λ count. (HasSolution equations.now → ⊥) → HasSolution (take count equations.now) → ⊥) }
-{
-    let mut all = Loaded {
-        loader: start(alloc, equations)?,
-        sides: List::new(alloc),
-    };
-    for i in 0..equations.len() {
-        if !load_next(alloc, &mut all, &equations[i])? {
-            return Ok(i + 1);
-        }
-    }
-    Ok(equations.len())
-}
-
-/// The first equation with which those up to it have no solution, if there is one. It is looked for where merging ends, and
-/// before that searched for by halves.
-pub fn first_unsolvable(alloc: Global, equations: &[Equation]) -> Result<Option<usize>, NoMemory>
-    ensures solvable { IfOk result (λ found. IfNone found (HasSolution equations.now)) }
-    ensures first { IfOk result (λ found. IfSome found (λ k. IsFirstWithout equations.now k)) }
-{
-    if is_solvable(alloc, equations)? {
-        return Ok(None);
-    }
-    let merged = count_unsolvable(alloc, equations)?;
-    let last = merged - 1;
-    if is_solvable(alloc, &equations[..last])? {
-        return Ok(Some(last));
-    }
-    let mut low = 0;
-    let mut high = last;
-    'halving: while high - low > 1 {
-        let middle = low + (high - low) / 2;
-        if is_solvable(alloc, &equations[..middle])? {
-            low = middle;
-        } else {
-            high = middle;
-        }
-    }
-    Ok(Some(low))
 }

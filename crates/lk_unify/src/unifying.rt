@@ -7,12 +7,13 @@ ghost use Rattle.lk_types.specs.Solutions.{HasSolution};
 ghost use Rattle.lk_types.specs.Variables.{equation_variables};
 ghost use Rattle.lk_unify.specs.Images.{variable_of, IsImageInOrder};
 ghost use Rattle.lk_unify.specs.declared.unifying.UnifyError.TheVariants as errors;
-ghost use Rattle.std.specs.Prelude.{◌≡◌, ℕ, Err, IfOk};
+ghost use Rattle.lk_unify.specs.Attempts.{AreOrdered};
+ghost use Rattle.std.specs.Prelude.{◌≡◌, ◌≤◌, ℕ, length, take, Err, IfOk};
 
 use crate::numbers::numbers_for;
+use crate::ordered::{Attempt, Ordered, first_fault, load_all};
 use crate::reading::read_all;
-use crate::small::{first_too_large, load_ordered};
-use crate::solvable::first_unsolvable;
+use crate::small::first_too_large;
 use crate::variables::distinct_variables;
 use lk_ast::NoMemory;
 use lk_types::{Equation, Subst};
@@ -41,15 +42,14 @@ impl From<NoMemory> for UnifyError {
     }
 }
 
-/// The most general solution of equations that have one.
-fn solution(alloc: Global, equations: &[Equation]) -> Result<Subst, NoMemory>
-    requires { HasSolution equations.now }
+/// The most general solution of equations, of which these are the nodes.
+fn solution(alloc: Global, nodes: &Ordered, equations: &[Equation]) -> Result<Subst, NoMemory>
+    requires { AreOrdered nodes.now equations.now }
     ensures solution { IfOk result (λ s. IsSolution s equations.now) }
     ensures only { IfOk result (λ s. Each (λ b. OneOf (λ x. x ≡ variable_of b) (equation_variables equations.now)) s.binds) }
     ensures in_order { IfOk result (λ s. Each (λ b. IsImageInOrder b.is) s.binds) }
 {
     let variables = distinct_variables(alloc, equations)?;
-    let nodes = load_ordered(alloc, equations)?;
     let loader = &nodes.all.loader;
     let numbers = numbers_for(alloc, loader)?;
     read_all(
@@ -59,6 +59,20 @@ fn solution(alloc: Global, equations: &[Equation]) -> Result<Subst, NoMemory>
         numbers.as_slice(),
         nodes.order.len(),
     )
+}
+
+/// Why equations are refused, where so many first ones of them have no solution.
+fn refusal(alloc: Global, equations: &[Equation], count: usize) -> Result<UnifyError, NoMemory>
+    requires within { count ≤ length equations.now }
+    requires never { HasSolution (take count equations.now) → ⊥ }
+    ensures unsolvable { IfOk result (λ error. (k : ℕ) → error ≡ errors.NoSolution k → IsFirstUnsolvable equations.now k) }
+    ensures large { IfOk result (λ error. (k : ℕ) → error ≡ errors.TypeTooLarge k → IsFirstTooLarge equations.now k) }
+{
+    let fault = first_fault(alloc, equations, count)?;
+    match first_too_large(alloc, &fault.before, &equations[..fault.number])? {
+        None => Ok(UnifyError::NoSolution(fault.number as u64)),
+        Some(j) => Ok(UnifyError::TypeTooLarge(j as u64)),
+    }
 }
 
 /// Solves equations in a most general way, where each first part of them is small. Something is put for variables of the equations
@@ -71,14 +85,11 @@ pub fn unify(alloc: Global, equations: &[Equation]) -> Result<Subst, UnifyError>
     ensures unsolvable { (k : ℕ) → result ≡ Err (errors.NoSolution k) → IsFirstUnsolvable equations.now k }
     ensures large { (k : ℕ) → result ≡ Err (errors.TypeTooLarge k) → IsFirstTooLarge equations.now k }
 {
-    match first_unsolvable(alloc, equations)? {
-        None => match first_too_large(alloc, equations)? {
-            None => Ok(solution(alloc, equations)?),
+    match load_all(alloc, equations)? {
+        Attempt::Solved(nodes) => match first_too_large(alloc, &nodes, equations)? {
+            None => Ok(solution(alloc, &nodes, equations)?),
             Some(k) => Err(UnifyError::TypeTooLarge(k as u64)),
         },
-        Some(k) => match first_too_large(alloc, &equations[..k])? {
-            None => Err(UnifyError::NoSolution(k as u64)),
-            Some(j) => Err(UnifyError::TypeTooLarge(j as u64)),
-        },
+        Attempt::Unsolved(count) => Err(refusal(alloc, equations, count)?),
     }
 }

@@ -1,20 +1,35 @@
-use Rattle.std.proofs.Common.{◌≡◌, subst, arith}
-use Rattle.lk_unify.proofs.FineFirsts.{large_first, unmet_first}
+use Rattle.std.proofs.Common.{arith}
+use Rattle.lk_unify.proofs.SideTypes.{sides_as_many}
 use Rattle.lk_unify.proofs.constrained.solve_parts.Goals as goal
-use Rattle.lk_unify.specs.Constraints.{IsFirstLarge, IsFirstUnmet}
-use Rattle.lk_unify.specs.SideSizes.{joined}
 
-pub returns-in-None-3-clause-unmet : goal.returns-in-None-3-clause-unmet
-returns-in-None-3-clause-unmet c k is =
-    let same : c.in-Some.k ≡ k = cc in
-    subst (IsFirstUnmet (joined c.args.equations.now c.args.sizings.now)) same
-    (unmet_first c.args.equations.now c.args.sizings.now c.requires.sizings c.in-Some.k (rw c.in-Some.is at c.in_ok-first_unsolvable.ensures.first)
-    (rw c.in-None-3.is at c.in_ok-first_large-in-Some.ensures.fine))
+pub first_large-requires-clause-nodes : goal.first_large-requires-clause-nodes
+first_large-requires-clause-nodes c = rw c.in-Solved.is at c.in_ok-nodes.ensures
 
-pub returns-in-Some-3-clause-large : goal.returns-in-Some-3-clause-large
-returns-in-Some-3-clause-large c k is =
-    let same : c.in-Some-3.j ≡ k = cc in
-    let without = rw c.in-Some.is at c.in_ok-first_unsolvable.ensures.first in
-    let within = without.within in
-    subst (IsFirstLarge (joined c.args.equations.now c.args.sizings.now)) same
-    (large_first c.args.equations.now c.args.sizings.now c.requires.sizings c.in-Some.k c.in-Some-3.j (omega arith) (rw c.in-Some-3.is at c.in_ok-first_large-in-Some.ensures.first))
+pub side_types-requires-clause-nodes : goal.side_types-requires-clause-nodes
+side_types-requires-clause-nodes c = (c.args.equations.now, rw c.in-Solved.is at c.in_ok-nodes.ensures)
+
+pub side_types-requires-clause-count : goal.side_types-requires-clause-count
+side_types-requires-clause-count c =
+    let nodes = rw c.in-Solved.is at c.in_ok-nodes.ensures in
+    let many = sides_as_many c.in-Solved.nodes.all.loader c.in-Solved.nodes.all.sides c.args.equations.now nodes.loaded in
+    let within = c.requires.count in
+    omega arith
+
+pub refusal-requires-clause-within : goal.refusal-requires-clause-within
+refusal-requires-clause-within c =
+    let unsolved = rw c.in-Unsolved.is at c.in_ok-nodes.ensures in
+    unsolved.0
+
+pub refusal-requires-clause-never : goal.refusal-requires-clause-never
+refusal-requires-clause-never c =
+    let unsolved = rw c.in-Unsolved.is at c.in_ok-nodes.ensures in
+    unsolved.1
+
+pub returns-in-None-clause-sides : goal.returns-in-None-clause-sides
+returns-in-None-clause-sides c = c.in_ok-side_types-in-None.ensures.sides c.args.equations.now (rw c.in-Solved.is at c.in_ok-nodes.ensures)
+
+pub returns-clause-unmet : goal.returns-clause-unmet
+returns-clause-unmet c k is = c.in_ok-refusal-in-Unsolved.ensures.unmet k cc
+
+pub returns-clause-large : goal.returns-clause-large
+returns-clause-large c k is = c.in_ok-refusal-in-Unsolved.ensures.large k cc

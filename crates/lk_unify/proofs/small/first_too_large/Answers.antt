@@ -26,7 +26,7 @@ returns-clause-small c =
     let are : c.as_slice.result.now ≡ replicate (length c.args.equations.now) Always = c.as_slice.ensures.value ∙ filled in
     IfOk-weaker c.first_beyond.result _ _
     (if_none
-    (all_small c.args.equations.now c.as_slice.result.now (as_many c.args.equations.now c.as_slice.result.now are) (all_matter c.args.equations.now c.as_slice.result.now are) c.requires))
+    (all_small c.args.equations.now c.as_slice.result.now (as_many c.args.equations.now c.as_slice.result.now are) (all_matter c.args.equations.now c.as_slice.result.now are) c.requires.solution))
     c.first_beyond.ensures.few
 
 pub returns-clause-first : goal.returns-clause-first
@@ -35,5 +35,5 @@ returns-clause-first c =
     let are : c.as_slice.result.now ≡ replicate (length c.args.equations.now) Always = c.as_slice.ensures.value ∙ filled in
     IfOk-weaker c.first_beyond.result _ _
     (if_some
-    (first_too_large c.args.equations.now c.as_slice.result.now (as_many c.args.equations.now c.as_slice.result.now are) (all_matter c.args.equations.now c.as_slice.result.now are) c.requires))
+    (first_too_large c.args.equations.now c.as_slice.result.now (as_many c.args.equations.now c.as_slice.result.now are) (all_matter c.args.equations.now c.as_slice.result.now are) c.requires.solution))
     c.first_beyond.ensures.first

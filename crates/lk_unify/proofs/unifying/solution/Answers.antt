@@ -6,27 +6,27 @@ use Rattle.lk_unify.specs.Reading.{name_in}
 
 pub read_all-requires-clause-ranks : goal.read_all-requires-clause-ranks
 read_all-requires-clause-ranks c =
-    rw (c.len.ensures, c.in_ok-nodes.nodes.order.ok.0)
-    (places c.in_ok-nodes.nodes.all.loader.arena.shapes c.in_ok-nodes.nodes.all.loader.arena.classes c.in_ok-nodes.nodes.order.items c.in_ok-nodes.ensures.loaded.says.whole.arena
-    c.in_ok-nodes.ensures.order)
+    rw (c.len.ensures, c.args.nodes.now.order.ok.0)
+    (places c.args.nodes.now.all.loader.arena.shapes c.args.nodes.now.all.loader.arena.classes c.args.nodes.now.order.items c.requires.loaded.says.whole.arena
+    c.requires.order)
 
 pub returns-clause-solution : goal.returns-clause-solution
 returns-clause-solution c =
     IfOk-weaker c.read_all.result _ _
-    (λ s is. read_solution c.in_ok-nodes.nodes.all.loader c.in_ok-nodes.nodes.all.sides c.args.equations.now (name_in c.in_ok-numbers.numbers.items) c.in_ok-variables.variables s
-    c.in_ok-nodes.ensures.loaded c.requires c.in_ok-numbers.ensures.naming is c.in_ok-variables.ensures.all)
+    (λ s is. read_solution c.args.nodes.now.all.loader c.args.nodes.now.all.sides c.args.equations.now (name_in c.in_ok-numbers.numbers.items) c.in_ok-variables.variables s
+    c.requires.loaded c.requires.solution c.in_ok-numbers.ensures.naming is c.in_ok-variables.ensures.all)
     (rw (c.as_slice.ensures, c.as_slice-2.ensures.value) at c.read_all.ensures)
 
 pub returns-clause-only : goal.returns-clause-only
 returns-clause-only c =
     IfOk-weaker c.read_all.result _ _
-    (λ s is. read_only c.in_ok-nodes.nodes.all.loader c.in_ok-nodes.nodes.all.sides c.args.equations.now (name_in c.in_ok-numbers.numbers.items) c.in_ok-variables.variables s
-    c.in_ok-nodes.ensures.loaded c.requires c.in_ok-numbers.ensures.naming is c.in_ok-variables.ensures.only)
+    (λ s is. read_only c.args.nodes.now.all.loader c.args.nodes.now.all.sides c.args.equations.now (name_in c.in_ok-numbers.numbers.items) c.in_ok-variables.variables s
+    c.requires.loaded c.requires.solution c.in_ok-numbers.ensures.naming is c.in_ok-variables.ensures.only)
     (rw (c.as_slice.ensures, c.as_slice-2.ensures.value) at c.read_all.ensures)
 
 pub returns-clause-in_order : goal.returns-clause-in_order
 returns-clause-in_order c =
     IfOk-weaker c.read_all.result _ _
-    (λ s. read_in_order c.in_ok-nodes.nodes.all.loader c.in_ok-nodes.nodes.all.sides c.args.equations.now (name_in c.in_ok-numbers.numbers.items) c.in_ok-variables.variables s
-    c.in_ok-nodes.ensures.loaded c.requires c.in_ok-numbers.ensures.naming)
+    (λ s. read_in_order c.args.nodes.now.all.loader c.args.nodes.now.all.sides c.args.equations.now (name_in c.in_ok-numbers.numbers.items) c.in_ok-variables.variables s
+    c.requires.loaded c.requires.solution c.in_ok-numbers.ensures.naming)
     (rw (c.as_slice.ensures, c.as_slice-2.ensures.value) at c.read_all.ensures)

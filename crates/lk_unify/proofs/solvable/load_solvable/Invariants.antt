@@ -1,4 +1,4 @@
-use Rattle.lk_unify.proofs.solvable.load_first.Given as goal
+use Rattle.lk_unify.proofs.solvable.load_solvable.Given as goal
 use Rattle.lk_unify.specs.Solving.{AreLoaded}
 
 abbrev pub invariant-loop-i : goal.invariant-loop-i

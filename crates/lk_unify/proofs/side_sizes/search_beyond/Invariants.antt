@@ -1,5 +1,5 @@
 use Rattle.std.specs.Prelude.{take}
-use Rattle.lk_unify.proofs.side_sizes.first_beyond.Given as goal
+use Rattle.lk_unify.proofs.side_sizes.search_beyond.Given as goal
 use Rattle.lk_unify.specs.SideSizes.{joined, AllMakeFew}
 use Rattle.lk_unify.specs.Solving.{AreLoaded}
 

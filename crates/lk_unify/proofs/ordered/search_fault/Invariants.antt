@@ -1,6 +1,6 @@
 use Rattle.std.specs.Prelude.{◌-◌, ◌<◌, ◌≤◌, length, take}
 use Rattle.lk_types.specs.Solutions.{HasSolution}
-use Rattle.lk_unify.proofs.solvable.first_unsolvable.Given as goal
+use Rattle.lk_unify.proofs.ordered.search_fault.Given as goal
 
 abbrev pub invariant-halving : goal.invariant-halving
 invariant-halving l = record {

@@ -1,4 +1,4 @@
-use Rattle.lk_unify.proofs.solvable.count_unsolvable.Given as goal
+use Rattle.lk_unify.proofs.ordered.load_all.Given as goal
 use Rattle.lk_unify.specs.Solving.{AreLoaded}
 
 abbrev pub invariant-loop-i : goal.invariant-loop-i
