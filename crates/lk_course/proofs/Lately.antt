@@ -38,10 +38,6 @@ further n log r s first second = record {
   rise = rise_append n first.more r.steps second.more s.steps first.rise second.rise;
 }
 
--- what begins later is later
-pub begins_later : (n : ℕ) (r : Run) (out : Out Value) → n ≤ r.steps → Later r.steps r out → Later n r out
-begins_later n r out le later = record { more = later.more; logged = later.logged; rise = rise_earlier n r.steps later.more (run_of out).steps le later.rise }
-
 module _ (n : ℕ) (log : List Entry) where
   abbrev Gets : Out Value → Type 0
   Gets out = Reaches n log (run_of out)

@@ -119,9 +119,6 @@ module _ (defs : List TableDef) (these those : Tables) (same : (name : List ℕ)
       ∙ ap₂ (λ v w. cond (truth (value_of those c.0 scope)) v w) (a.1 others.0 scope) (b.1 others.1 scope)
   level-same (Scalar-F.Exists selects) are scope = ap (λ found. base.Bool (has_row found)) (selects-same selects are scope)
 
-  abbrev OutLevel : Type 0
-  OutLevel = Out-F SuchScalar SuchOut SuchSelect
-
   select-same : (froms : List FromItem) (c : SuchScalar) (outs : List SuchOut)
       → (list_all (λ (from : FromItem). is_declared defs from.table) froms && (scalar_declared c.0 && list_all (λ declared. declared) (map out_declared (map (λ x. x.0) outs)))) ≡ true → (scope : Scope)
       → rows_level these params (record { froms = froms; cond = value_of these c.0; outs = map (cell_of these) (map (λ x. x.0) outs) }) scope

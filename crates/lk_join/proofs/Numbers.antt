@@ -80,12 +80,6 @@ module _ (most : ℕ) (word : List ℕ) (big : most < 2 ^ 64) where
   pub number_parsed : {E : Type 0} (n : ℕ) (r : Result ℕ E) → 48 < get_or word 0 0 → ParsesUnsigned 64 10 word r → r ≡ Ok n → n ≤ most → number_of most word ≡ Some n
   number_parsed n r high h parsed small = found n (spelt n r high h parsed, small)
 
-  pub number_large : {E : Type 0} (n : ℕ) (r : Result ℕ E) → 48 < get_or word 0 0 → n < 2 ^ 64 → ParsesUnsigned 64 10 word r → r ≡ Ok n → most < n → number_of most word ≡ None
-  number_large n r high fits h parsed large = none (λ m number.
-      let value = value_is m number in
-      let other = ap (digits_value 10) (spelt n r high h parsed) ∙ digits_value-decimal digits n fits in
-      omega (arith, value, other, large, number.1))
-
   pub number_unparsed : {E : Type 0} (e : E) (r : Result ℕ E) → ParsesUnsigned 64 10 word r → r ≡ Err e → number_of most word ≡ None
   number_unparsed e r h is = none (λ n number.
       let value = value_is n number in

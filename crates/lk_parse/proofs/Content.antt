@@ -1,11 +1,10 @@
 -- What stands between the quotes of a text literal.
-use Rattle.std.proofs.Common.{◌≡◌, ℕ, ◌+◌, ◌<◌, ◌≤◌, true, false, List, [], ◌∷◌, ◌++◌, length, take, drop, get_or, Some, None, refl, sym, ap, subst, ◌∙◌, append_assoc, inl, inr, arith}
+use Rattle.std.proofs.Common.{◌≡◌, ℕ, ◌+◌, ◌<◌, ◌≤◌, true, List, [], ◌∷◌, ◌++◌, length, take, drop, get_or, Some, sym, ap, subst, ◌∙◌, append_assoc, arith}
 use Rattle.std.proofs.Math.Seq.{take-append-add}
-use Rattle.std.proofs.lemmas.Bool.{cases_eq}
 use Rattle.std.proofs.lemmas.Bool.Decides.{nat_tests}
-use Rattle.std.proofs.lemmas.List.{append-nil, drop_more, take-append-drop, length-append, length-drop, length-take-le, drop-drop}
+use Rattle.std.proofs.lemmas.List.{append-nil, drop_more, take-append-drop, length-drop, length-take-le, drop-drop}
 use Rattle.lk_parse.specs.Pieces.{IsContent, is_plain, escaped}
-use Rattle.lk_parse.specs.Scanner.{Closes, NeverCloses, MeansFirst, MeansNothing}
+use Rattle.lk_parse.specs.Scanner.{Closes, MeansFirst}
 
 pub quote_not_plain : (c : ℕ) → is_plain c ≡ true → c ≡ 34 → ⊥
 quote_not_plain c h e = grind (arith, nat_tests)
@@ -17,11 +16,6 @@ pub escaped_small : (c d : ℕ) → escaped c ≡ Some d → (c < 128) × (d < 1
 escaped_small c d e = grind (arith, nat_tests)
 
 -- ---- content that is closed, by its first byte
-
-nothing_before_quote : (w m rest bytes : List ℕ) → 34 ∷ bytes ≡ w ++ 34 ∷ rest → IsContent w m → w ≡ []
-nothing_before_quote w m rest bytes e IsContent.nothing = refl
-nothing_before_quote w m rest bytes e (IsContent.plain c h k) = let is : c ≡ 34 = cc in absurd (quote_not_plain c h is)
-nothing_before_quote w m rest bytes e (IsContent.escape c d h k) = let is : ◌≡◌ {A = ℕ} 92 34 = cc in absurd (omega (arith, is))
 
 -- a byte that is no quote, and no backslash, is plain, and content follows
 plain_parts : (c : ℕ) (bytes w m rest : List ℕ) → (c ≡ 34 → ⊥) → (c ≡ 92 → ⊥) → c ∷ bytes ≡ w ++ 34 ∷ rest → IsContent w m → (v n : List ℕ) × (is_plain c ≡ true) × (bytes ≡ v ++ 34 ∷ rest) × IsContent v n
@@ -59,32 +53,6 @@ plain_first (c ∷ bytes) fits plain = record {
   takes = λ w m rest e h. let parts = plain_parts c bytes w m rest (quote_not_plain c plain) (backslash_not_plain c plain) e h in (parts.0, parts.1, parts.3, parts.4);
 }
 
-pub bad_escape : (bytes : List ℕ) → 2 ≤ length bytes → get_or bytes 0 0 ≡ 92 → escaped (get_or bytes 1 0) ≡ None → MeansNothing bytes
-bad_escape [] fits backslash means w m rest e h = absurd (omega arith)
-bad_escape (c ∷ []) fits backslash means w m rest e h = absurd (omega arith)
-bad_escape (c ∷ f ∷ bytes) fits backslash means w m rest e h =
-    let parts = escape_parts (f ∷ bytes) w m rest (ap (λ (b : ℕ). b ∷ f ∷ bytes) (sym backslash) ∙ e) h in
-    let same : f ≡ parts.0 = let is = parts.4 in cc in
-    let bad : None ≡ Some parts.1 = sym means ∙ ap escaped same ∙ parts.5 in
-    absurd cc
-
--- neither an escape nor a plain byte stands in front
-pub not_plain : (bytes : List ℕ) → (2 ≤ length bytes → get_or bytes 0 0 ≡ 92 → ⊥) → (1 ≤ length bytes → is_plain (get_or bytes 0 0) ≡ false) → MeansNothing bytes
-not_plain [] escape plain w m rest e h = absurd (omega (arith, ap length e, length-append w (34 ∷ rest)))
-not_plain (c ∷ bytes) escape plain [] m rest e h = refl
-not_plain (c ∷ bytes) escape plain (d ∷ w) m rest e h = elim (cases_eq c 92) [
-  | inl backslash ↦
-      let parts = escape_parts bytes (d ∷ w) m rest (ap (λ (b : ℕ). b ∷ bytes) (sym backslash) ∙ e) h in
-      absurd (escape (omega (arith, ap length parts.4)) backslash)
-  | inr other ↦ elim (cases_eq c 34) [
-    | inl quote ↦ nothing_before_quote (d ∷ w) m rest bytes (ap (λ (b : ℕ). b ∷ bytes) (sym quote) ∙ e) h
-    | inr neither ↦
-        let parts = plain_parts c bytes (d ∷ w) m rest neither other e h in
-        let bad : true ≡ false = sym parts.2 ∙ plain (omega arith) in
-        absurd cc
-  ]
-]
-
 -- ---- content read byte by byte
 
 -- what is left can be put behind what was read, and content that is closed is closed in what is left
@@ -92,9 +60,6 @@ pub record SoFar (bytes meant : List ℕ) (len : ℕ) : Type 0 where
   pub fits : len ≤ length bytes
   pub puts : (w m : List ℕ) → IsContent w m → IsContent (take len bytes ++ w) (meant ++ m)
   pub takes : (w m rest : List ℕ) → bytes ≡ w ++ 34 ∷ rest → IsContent w m → (v n : List ℕ) × (drop len bytes ≡ v ++ 34 ∷ rest) × IsContent v n
-
-pub so_far_none : (bytes : List ℕ) → SoFar bytes [] 0
-so_far_none bytes = record { fits = omega arith; puts = λ w m h. h; takes = λ w m rest e h. (w, m, e, h) }
 
 take-drop : (bytes : List ℕ) (i n : ℕ) → i ≤ length bytes → take (i + n) bytes ≡ take i bytes ++ take n (drop i bytes)
 take-drop bytes i n fits =
@@ -123,12 +88,3 @@ closes_here bytes meant len so inside quote = record {
   content = subst (λ (v : List ℕ). IsContent (take len bytes) v) (append-nil meant) (subst (λ (v : List ℕ). IsContent v (meant ++ [])) (append-nil (take len bytes)) (so.puts [] [] IsContent.nothing));
   quote = sym (take-append-drop len bytes) ∙ ap (λ (v : List ℕ). take len bytes ++ v) (drop_more bytes len 0 inside ∙ ap (λ (c : ℕ). c ∷ drop (len + 1) bytes) quote);
 }
-
-pub never_closes : (bytes meant left : List ℕ) (len : ℕ) → SoFar bytes meant len → left ≡ drop len bytes → MeansNothing left → (len < length bytes → get_or bytes len 0 ≡ 34 → ⊥) → NeverCloses bytes
-never_closes bytes meant left len so is nothing no_quote w m rest e h =
-    let old = so.takes w m rest e h in
-    let empty = nothing old.0 old.1 rest (is ∙ old.2) old.3 in
-    let here : drop len bytes ≡ 34 ∷ rest = old.2 ∙ ap (λ (v : List ℕ). v ++ 34 ∷ rest) empty in
-    let inside : len < length bytes = omega (arith, ap length here, length-drop len bytes) in
-    let both : get_or bytes len 0 ∷ drop (len + 1) bytes ≡ 34 ∷ rest = sym (drop_more bytes len 0 inside) ∙ here in
-    no_quote inside cc

@@ -1,7 +1,7 @@
 -- One pass over a text.
-use Rattle.std.proofs.Common.{◌≡◌, ℕ, ◌+◌, ◌-◌, ◌≤◌, List, [], ◌++◌, length, take, drop, Option, refl, sym, ap, subst, ◌∙◌, append_assoc, arith}
+use Rattle.std.proofs.Common.{◌≡◌, ℕ, ◌+◌, ◌≤◌, List, [], ◌++◌, length, take, drop, Option, refl, sym, subst, append_assoc, arith}
 use Rattle.std.specs.Str.{IsUtf8, IsCharBoundary}
-use Rattle.std.proofs.lemmas.List.{append-nil, take-append-drop, take_rest, length-take-le, length-drop, drop-drop, drop_all}
+use Rattle.std.proofs.lemmas.List.{append-nil, take-append-drop, length-take-le, length-drop, drop-drop, drop_all}
 use Rattle.std.proofs.lemmas.Str.{IsCharBoundary-start, IsCharBoundary-from_rest}
 use Rattle.lk_ast.specs.declared.token.Token.{Token}
 use Rattle.lk_ast.specs.declared.token.TokenKind.{TokenKind}
@@ -17,10 +17,6 @@ pub record IsAt (text : List ℕ) (tokens : List Token) (at : ℕ) : Type 0 wher
 
 pub at_start : (text : List ℕ) → IsUtf8 text → IsAt text [] 0
 at_start text utf8 = record { fits = omega arith; boundary = IsCharBoundary-start text utf8; read = λ ts left d. d }
-
--- what a slice from this place on holds
-pub rest_is : (text rest : List ℕ) (at : ℕ) → rest ≡ take (length text - at) (drop at text) → rest ≡ drop at text
-rest_is text rest at e = e ∙ take_rest text at
 
 piece_read : (at len : ℕ) (text left : List ℕ) (kind : Option TokenKind) (ts : List Token) → Takes text (record { len = len; kind = kind }) → Reads (at + len) (drop len text) ts left → Reads at text (token_at at len kind ++ ts) left
 piece_read at len text left kind ts t d =
@@ -38,9 +34,6 @@ at_piece text rest tokens new at piece here is takes e =
       read = λ ts left d. subst (λ (us : List Token). Reads 0 text us left) (sym (append_assoc tokens (token_at at piece.len piece.kind) ts))
           (here.read (token_at at piece.len piece.kind ++ ts) left (piece_read at piece.len (drop at text) left piece.kind ts t (subst (λ (z : List ℕ). Reads (at + piece.len) z ts left) (sym (drop-drop piece.len at text)) d)));
     })
-
-pub piece_fits : (text rest : List ℕ) (tokens : List Token) (at : ℕ) (piece : Piece) → IsAt text tokens at → rest ≡ drop at text → Takes rest piece → at + piece.len ≤ length text
-piece_fits text rest tokens at piece here is takes = let inside = here.fits in let within = takes.fits in omega (arith, ap length is, length-drop at text)
 
 pub at_end : (text : List ℕ) (tokens : List Token) (at : ℕ) → length text ≤ at → IsAt text tokens at → Reads 0 text tokens []
 at_end text tokens at end here = subst (λ (ts : List Token). Reads 0 text ts []) (append-nil tokens) (here.read [] [] (subst (λ (z : List ℕ). Reads at z [] []) (sym (drop_all at text end)) (Reads.nothing at [])))

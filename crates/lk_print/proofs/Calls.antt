@@ -143,10 +143,6 @@ is_function f g e = sym (as_level f) ∙ ap (at_level f.span) (function_level (o
 
 -- ---- calls
 
--- a call of that function, or of a value
-abbrev made_by : Option (List ℕ) → Expr → List Expr → Expr
-made_by which f ss = of_node f.span (call_by which f ss)
-
 call_form : (which : Option (List ℕ)) (span : Span) (f : Expr) (ss : List Expr) → function_of f ≡ which → form_of (of_node span (call_by which f ss)) ≡ compound ((form_of f).part ++ in_round (separated (map (λ (s : Form). s.alone) (map form_of ss))))
 call_form None span f ss e = form_is span (node.Apply f ss) (Node-F.Apply f ss) (node.rolls-Apply f ss)
 call_form (Some g) span f ss e =

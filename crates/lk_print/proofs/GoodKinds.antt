@@ -1,6 +1,6 @@
 -- Kinds of tokens that can be written.
-use Rattle.std.proofs.Common.{◌≡◌, ℕ, ◌<◌, ◌^◌, Bool, true, false, ◌&&◌, List, [], ◌∷◌, pos, refl, sym, subst, nat_lt, arith}
-use Rattle.std.specs.Prelude.{All, Contains}
+use Rattle.std.proofs.Common.{◌≡◌, ℕ, ◌<◌, Bool, true, false, ◌&&◌, List, [], ◌∷◌, refl, sym, subst, nat_lt, arith}
+use Rattle.std.specs.Prelude.{Contains}
 use Rattle.std.specs.Char.{is_ascii_lowercase, is_ascii_uppercase, is_ascii_digit}
 use Rattle.std.specs.List.{AllPass, list_all, list_any}
 use Rattle.std.specs.Str.{IsUtf8, bytes_eq}
@@ -61,9 +61,6 @@ word_good c w letter h = spelled_good (kind.Word (c ∷ w)) (IsPiece.word c w le
 tag_good : (c : ℕ) (w : List ℕ) → is_ascii_uppercase c ≡ true → AllPass is_word_byte w → IsGood (kind.Tag (c ∷ w))
 tag_good c w letter h = spelled_good (kind.Tag (c ∷ w)) (IsPiece.tag c w letter h) (All-cons (λ b. is_small b ≡ true) c w (capital_small c letter) (word_small w h))
 
-pub int_good : (n : ℕ) → n < 2 ^ 63 → IsGood (kind.Int (pos n))
-int_good n small = spelled_good (kind.Int (pos n)) (IsPiece.int (written (kind.Int (pos n))) n (refl, small)) (integer_small (written (kind.Int (pos n))) n (refl, small))
-
 pub text_good : (text : List ℕ) → IsUtf8 text → IsGood (kind.Text text)
 text_good text utf8 = record { spelled = IsPiece.text _ text (quoted_content text); utf8 = quoted_utf8 text utf8 }
 
@@ -92,6 +89,3 @@ constant_good (kind.Sign sign) h =
     let any = Any-from_list_any (bytes_eq sign) signs h in
     let same = (bytes_eq-Decides sign any.1).0 any.4 in
     sign_good sign (subst (Contains signs) (sym same) (any.0, any.2, any.3))
-
-pub constants_good : (kinds : List TokenKind) → list_all is_constant kinds ≡ true → All IsGood kinds
-constants_good kinds h = All-weaker (λ k. is_constant k ≡ true) IsGood constant_good kinds (AllPass-from_list_all is_constant kinds h)

@@ -27,10 +27,6 @@ pub map_map : {X Y Z : Type 0} (f : Y → Z) (h : X → Y) (xs : List X) → map
 map_map f h [] = refl
 map_map f h (x ∷ xs) = ap (λ ys. f (h x) ∷ ys) (map_map f h xs)
 
-pub map_same : {X Y : Type 0} (f h : X → Y) (xs : List X) → ((x : X) → f x ≡ h x) → map f xs ≡ map h xs
-map_same f h [] same = refl
-map_same f h (x ∷ xs) same = (λ i. same x i ∷ map_same f h xs same i)
-
 -- something of the language, of which this is what counts
 pub record ReadsOne {X Y : Type 0} (One : Language X) (f : X → Y) (y : Y) (w : List Token) : Type 0 where
   pub x : X

@@ -1,19 +1,17 @@
 -- What is written of tokens is UTF-8, and is read again as the same tokens.
-use Rattle.std.proofs.Common.{◌≡◌, ℕ, true, ◌⊎◌, inl, inr, List, [], ◌∷◌, ◌++◌, length, refl, subst, arith}
-use Rattle.std.specs.Prelude.{All, Contains, flat_map, map}
+use Rattle.std.proofs.Common.{inl, inr, List, [], ◌∷◌, ◌++◌, length, refl, subst, arith}
+use Rattle.std.specs.Prelude.{All, flat_map, map}
 use Rattle.std.specs.Str.{IsUtf8}
 use Rattle.std.proofs.lemmas.List.{take_at, drop_at}
-use Rattle.std.proofs.lemmas.List.Elements.{All-head, All-tail, All-weaker, All-take, All-drop, All-map, All-contains}
+use Rattle.std.proofs.lemmas.List.Elements.{All-head, All-tail, All-weaker, All-take, All-drop, All-contains}
 use Rattle.std.proofs.lemmas.Str.{IsUtf8-append, IsUtf8-nil}
 use Rattle.lk_ast.specs.declared.token.Token.{Token}
 use Rattle.lk_ast.specs.declared.token.TokenKind.{TokenKind}
-use Rattle.lk_parse.specs.Tokens.{HasTokens}
 use Rattle.lk_parse.proofs.TextLiterals.{ascii_one}
 use Rattle.lk_print.specs.Good.{IsSpelled, IsGood, IsReadAgain}
 use Rattle.lk_print.specs.Written.{written, spaced, line_of, text_of, kinds_of}
-use Rattle.lk_print.proofs.GoodKinds.{is_constant, constant_good}
+use Rattle.lk_print.proofs.GoodKinds.{constant_good}
 use Rattle.lk_print.proofs.Lines.{text_read}
-use Rattle.lk_print.proofs.Sources.{tokens_good}
 
 spaced_utf8 : (kinds : List TokenKind) → All IsGood kinds → IsUtf8 (flat_map spaced kinds)
 spaced_utf8 [] good = IsUtf8-nil
@@ -43,15 +41,6 @@ read_again lines good = record {
 }
 
 -- ---- what is written of a text's own tokens and of constant ones
-
-abbrev pub ComesFrom : List Token → TokenKind → Type 0
-ComesFrom tokens k = Contains (map (λ (token : Token). token.kind) tokens) k ⊎ (is_constant k ≡ true)
-
-pub source_read_again : (text : List ℕ) (tokens : List Token) (lines : List (List TokenKind)) → HasTokens text tokens → All (ComesFrom tokens) (kinds_of lines) → IsReadAgain lines
-source_read_again text tokens lines h from = read_again lines (All-weaker (ComesFrom tokens) IsGood good (kinds_of lines) from)
-  where
-    own : All IsGood (map (λ (token : Token). token.kind) tokens)
-    own = All-map IsGood (λ (token : Token). token.kind) tokens (tokens_good text tokens h)
 
     good : (k : TokenKind) → ComesFrom tokens k → IsGood k
     good k (inl among) = All-contains IsGood (map (λ (token : Token). token.kind) tokens) k own among

@@ -13,9 +13,6 @@ pub record HasEntries (tables : List TableRows) (members : Members) : Type 0 whe
   pub each : AllZip IsTableEntry tables entries
   pub is : members ≡ members_of entries
 
-pub no_entries : HasEntries [] (members_of [])
-no_entries = record { entries = []; each = tt; is = refl }
-
 zip_more : {A B : Type 0} (R : A → B → Type 0) (xs : List A) (ys : List B) (x : A) (y : B) → AllZip R xs ys → R x y → AllZip R (xs ++ x ∷ []) (ys ++ y ∷ [])
 zip_more R [] [] x y h r = (r, tt)
 zip_more R [] (z ∷ ys) x y h r = absurd h
