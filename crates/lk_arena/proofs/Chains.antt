@@ -9,7 +9,7 @@ use Rattle.lk_types.specs.declared.ty.RowTail.TheVariants.{Closed}
 use Rattle.lk_types.specs.declared.ty.Ty.{Ty}
 use Rattle.lk_arena.proofs.EachLemmas.{Each-zip}
 use Rattle.lk_arena.proofs.Heads.{made_plain}
-use Rattle.lk_arena.proofs.RowAlgebra.{bool_cases, label_cases, found_here, found_below, found_prop, found_label, plain_some, row_same, same_rows, AreFound-from_distinct, lacks_first, lacks_less}
+use Rattle.lk_arena.proofs.RowAlgebra.{label_cases, found_here, found_below, found_prop, found_label, plain_some, row_same, same_rows, AreFound-from_distinct, lacks_first, lacks_less}
 use Rattle.lk_arena.specs.Openings.{OpenRow, only_tail}
 use Rattle.lk_arena.specs.Shapes.{found_at, value_at, IsPlain, IsRowOf, IsBuilt, IsDistinct, is_row_shape}
 use Rattle.lk_arena.specs.Values.{Value, Plain, OfRow}
@@ -119,16 +119,6 @@ not_row_value Open w x e b = let f : true ≡ false = e in cc
 not_row_value Empty w x e b = let f : true ≡ false = e in cc
 not_row_value (Made h ps) w x e b = made_plain h (map w ps) x b
 not_row_value (shape.Row fs t) w x e b = let f : true ≡ false = e in cc
-
-pub kinds_apart : (s t : Shape) (w : ℕ → Value) (x : Value) → (is_row_shape s ≡ is_row_shape t → ⊥) → IsBuilt s w x → IsBuilt t w x → ⊥
-kinds_apart s t w x ne a b =
-    ⊎_elim
-    (λ (p : is_row_shape s ≡ true). ⊎_elim (λ (q : is_row_shape t ≡ true). ne (p ∙ sym q))
-    (λ (q : is_row_shape t ≡ false). let m = row_value s w x p a in let n = not_row_value t w x q b in (let f : OfRow m.0 ≡ Plain n.0 = sym m.1 ∙ n.1 in cc)) (bool_cases (is_row_shape t)))
-    (λ (p : is_row_shape s ≡ false). ⊎_elim
-    (λ (q : is_row_shape t ≡ true). let m = row_value t w x q b in let n = not_row_value s w x p a in (let f : OfRow m.0 ≡ Plain n.0 = sym m.1 ∙ n.1 in cc))
-    (λ (q : is_row_shape t ≡ false). ne (p ∙ sym q)) (bool_cases (is_row_shape t)))
-    (bool_cases (is_row_shape s))
 
 -- ---- fields before a row, of fields before a row
 

@@ -20,15 +20,6 @@ use Rattle.lk_arena.specs.declared.node.Shape.TheVariants as shape
 
 -- ---- sums
 
-pub saturated_step : (a x s : ℕ) → saturated (saturated (a + x) + s) ≡ saturated (a + (x + s))
-saturated_step a x s = omega arith
-
-pub saturated_start : (a s : ℕ) → saturated (saturated (a + 0) + s) ≡ saturated (a + s)
-saturated_start a s = omega arith
-
-pub saturated_twice : (a : ℕ) → saturated (saturated a) ≡ saturated a
-saturated_twice a = omega arith
-
 saturated_both : (m n a b : ℕ) → m ≡ saturated a → saturated n ≡ saturated b → saturated (m + n) ≡ saturated (a + b)
 saturated_both m n a b e f = omega arith
 

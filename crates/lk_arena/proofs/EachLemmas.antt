@@ -21,11 +21,6 @@ OneOf-get_or P [] k d h p = absurd (omega arith)
 OneOf-get_or P (x ∷ xs) zero d h p = inl p
 OneOf-get_or P (x ∷ xs) (suc k) d h p = inr (OneOf-get_or P xs k d (omega arith) p)
 
-pub OneOf-map : {A : Type 0} (P Q : A → Type 0) → ((x : A) → P x → Q x) → (xs : List A) → OneOf P xs → OneOf Q xs
-OneOf-map P Q f [] e = absurd e
-OneOf-map P Q f (x ∷ xs) (inl p) = inl (f x p)
-OneOf-map P Q f (x ∷ xs) (inr e) = inr (OneOf-map P Q f xs e)
-
 pub OneOf-to_map : {A B : Type 0} (P : B → Type 0) (f : A → B) (xs : List A) → OneOf (λ x. P (f x)) xs → OneOf P (map f xs)
 OneOf-to_map P f [] e = e
 OneOf-to_map P f (x ∷ xs) (inl p) = inl p

@@ -51,13 +51,6 @@ module _ (n : ℕ) (looks rest done path : List ℕ) (node : ℕ) (is : path ≡
     ended = search.ended;
   }
 
-  pub search_same : (m : ℕ) → IsSearch n (set looks node m) (rest ++ node ∷ []) done
-  search_same m = record {
-    count = length-set looks node m ∙ search.count;
-    down = down_all;
-    ended = search.ended;
-  }
-
   module _ (shapes : List Shape) (all : length shapes ≡ n) (k m : ℕ) (seen : k ≡ get_or looks node 0) (next : m ≡ min (k + 1) (2 ^ 64 - 1)) where
     in_looks : node < length looks
     in_looks = let e = search.count in let b = node_below in omega arith

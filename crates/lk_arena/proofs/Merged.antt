@@ -1,6 +1,6 @@
 -- Two classes become one: why what the shape of the one that is given up said holds still.
 use Rattle.lk_types.proofs.Members.{each_both}
-use Rattle.std.proofs.Common.{◌≡◌, ℕ, ◌+◌, ◌<◌, true, false, List, ◌++◌, length, refl, sym, ◌∙◌, ap, subst, arith}
+use Rattle.std.proofs.Common.{◌≡◌, ℕ, ◌+◌, ◌<◌, true, List, ◌++◌, length, refl, sym, ◌∙◌, ap, subst, arith}
 use Rattle.lk_arena.proofs.Covering.{covers_less, covers_whole, covers_with, loose_covered, made_covered, row_covered}
 use Rattle.lk_arena.proofs.Flats.{IsFlatOf-later, Fits-with, HasFit-at, WeakFits-with, WeakFits-less}
 use Rattle.lk_arena.proofs.Kinded.{made_kinds}
@@ -11,8 +11,8 @@ use Rattle.lk_arena.proofs.Mades.{made_again, made_parts, parts_below}
 use Rattle.lk_arena.proofs.Pairs.{paired-map, AreNodePairs-paired}
 use Rattle.lk_arena.proofs.Relabel.{weak_whole}
 use Rattle.lk_arena.proofs.Weak.{but_flat, but_tail, but_whole, but_front}
-use Rattle.lk_arena.specs.Shapes.{shape_at, is_row_shape, is_loose_shape, is_fields, IsArena, IsBuilt, IsFlatBut, IsFlatOf, IsEnd, NeverBoth, NeverSame, AreNodePairs, WeakNodes}
-use Rattle.lk_arena.specs.Steps.{AreApart, IsTail, JoinsRows, Merges, Unites, paired}
+use Rattle.lk_arena.specs.Shapes.{shape_at, is_row_shape, is_loose_shape, IsArena, IsBuilt, IsFlatBut, IsFlatOf, IsEnd, NeverBoth, NeverSame, AreNodePairs, WeakNodes}
+use Rattle.lk_arena.specs.Steps.{AreApart, JoinsRows, Merges, Unites, paired}
 use Rattle.lk_arena.specs.Values.{Value}
 use Rattle.lk_arena.specs.declared.node.Field.{Field}
 use Rattle.lk_arena.specs.declared.node.Head.{Head}
@@ -113,24 +113,11 @@ module _ (from to : ℕ) (shapes : List Shape) (classes : List ℕ) (apart : Are
       later : (row : ℕ) (fs : List Field) (tail : ℕ) → IsFlatBut from shapes classes row fs tail → IsFlatOf shapes' classes' row fs tail
       later row fs tail flat = IsFlatOf-later shapes shapes' classes classes' row fs tail unites.kept unites.before (but_flat from shapes classes arena row fs tail flat)
 
-      tail_later : (row : ℕ) (fs : List Field) (tail : ℕ) → IsFlatBut from shapes classes row fs tail → IsEnd from shapes tail → IsTail shapes' classes' tail
-      tail_later row fs tail flat end = record {
-        named = unites.names tail flat.below flat.named end.1;
-        row = subst (λ ss. is_row_shape (shape_at ss tail) ≡ true) (sym unites.kept) end.0;
-        plain = subst (λ ss. is_fields (shape_at ss tail) ≡ false) (sym unites.kept) end.2;
-      }
-
       pub left_later : IsFlatOf shapes' classes' from fs s
       left_later = later from fs s left
 
       pub right_later : IsFlatOf shapes' classes' to gs t
       right_later = later to gs t right
-
-      pub left_tail_later : IsTail shapes' classes' s
-      left_tail_later = tail_later from fs s left left_end
-
-      pub right_tail_later : IsTail shapes' classes' t
-      right_tail_later = tail_later to gs t right right_end
 
       pub never_joined : NeverSame shapes' classes' from to → NeverSame shapes classes from to
       never_joined never v fits e = never v (unites.forth v fits e) e

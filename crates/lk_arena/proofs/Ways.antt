@@ -2,8 +2,8 @@
 use Rattle.std.proofs.Common.{◌≡◌, ◌≢◌, ℕ, zero, suc, ◌<◌, ⊎_elim, Bool, true, false, List, [], ◌∷◌, ◌++◌, length, set, refl, sym, ◌∙◌, ap, subst, arith, Option, Some, None}
 use Rattle.std.proofs.Common.{append_assoc, append-nil}
 use Rattle.std.proofs.lemmas.Bool.{cases_eq}
-use Rattle.std.proofs.lemmas.List.{length-set, length-replicate, get_or-set_other}
-use Rattle.std.specs.Prelude.{slice_index_or as get_or, replicate}
+use Rattle.std.proofs.lemmas.List.{length-set, get_or-set_other}
+use Rattle.std.specs.Prelude.{slice_index_or as get_or}
 use Rattle.lk_classes.specs.Classes.{class_at}
 use Rattle.lk_types.proofs.Members.{each_both}
 use Rattle.lk_types.specs.Each.{Each}
@@ -186,17 +186,7 @@ unmarked-set (true ∷ bs) zero h e = let f : true ≡ false = e in cc
 unmarked-set (false ∷ bs) (suc i) h e = let t = unmarked-set bs i (omega arith) e in omega arith
 unmarked-set (true ∷ bs) (suc i) h e = unmarked-set bs i (omega arith) e
 
-no_marks : (n k : ℕ) → get_or (replicate n false) k false ≡ false
-no_marks zero k = refl
-no_marks (suc n) zero = refl
-no_marks (suc n) (suc k) = no_marks n k
-
 module _ (shapes : List Shape) (classes : List ℕ) where
-  pub marks_start : AreMarked shapes classes (replicate (length shapes) false)
-  marks_start = record {
-    count = length-replicate (length shapes) false;
-    ways = λ k e. (let f : false ≡ true = sym (no_marks (length shapes) k) ∙ e in cc);
-  }
 
   pub marks_more : (marks : List Bool) (i : ℕ) → i < length shapes → AreMarked shapes classes marks → HasDistinctWay shapes classes i → AreMarked shapes classes (set marks i true)
   marks_more marks i b are way = record {

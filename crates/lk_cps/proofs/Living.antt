@@ -1,5 +1,5 @@
 -- Names that are kept for what is used: of a tail, behind one more position, of a whole node.
-use Rattle.std.proofs.Common.{◌≡◌, inl, inr, refl, sym, ap, subst, ◌∙◌, ◌⊎◌, ℕ, zero, suc, ◌+◌, List, [], ◌∷◌, ◌++◌, ◌<◌, drop, length, map, Option, Some, None, IsSome, slice_get, arith}
+use Rattle.std.proofs.Common.{◌≡◌, inl, inr, refl, sym, ap, subst, ◌∙◌, ◌⊎◌, ℕ, zero, suc, ◌+◌, List, [], ◌∷◌, ◌++◌, drop, length, map, Option, Some, IsSome, slice_get, arith}
 use Rattle.std.proofs.Math.Seq.{drop-length}
 use Rattle.std.proofs.lemmas.Option.{none-some}
 use Rattle.lk_types.proofs.Parts.{same_some}
@@ -269,20 +269,3 @@ pub bound_case : (cases : List CaseForm) (last : Option ℕ) (i : ℕ) (case : C
 bound_case [] last i case at = absurd (none-some case at)
 bound_case (c ∷ cases) last zero case at = ap (λ (it : CaseForm). it.name) (sym (same_some at))
 bound_case (c ∷ cases) last (suc i) case at = bound_case cases last i case at
-
-pub bound_last : (cases : List CaseForm) (last : Option ℕ) → last ≡ first_binds (drop (length cases) (map (λ (c : CaseForm). c.name) cases ++ last_binds last))
-bound_last [] None = refl
-bound_last [] (Some x) = refl
-bound_last (c ∷ cases) last = bound_last cases last
-
-pub bound_past : (cases : List CaseForm) (last : Option ℕ) (i : ℕ) → length cases < i → None ≡ first_binds (drop i (map (λ (c : CaseForm). c.name) cases ++ last_binds last))
-bound_past [] None zero past = refl
-bound_past [] (Some x) zero past = absurd (let no : ⊥ = omega (arith, past) in no)
-bound_past [] None (suc i) past = refl
-bound_past [] (Some x) (suc i) past = ap first_binds (sym (nothing i))
-  where
-    nothing : (m : ℕ) → drop {A = Option ℕ} m [] ≡ []
-    nothing zero = refl
-    nothing (suc m) = refl
-bound_past (c ∷ cases) last zero past = absurd (let no : ⊥ = omega (arith, past) in no)
-bound_past (c ∷ cases) last (suc i) past = bound_past cases last i (let e : length cases < i = omega (arith, past) in e)

@@ -60,12 +60,6 @@ numbering_more from whole left rest next later done more cont numbered is popped
 pub numbering_last : (from : ℕ) (whole left : List (Option Cont)) (next : ℕ) (done : List (Option Cont)) → left ≡ [] → IsNumbering from whole left next done → IsNumbered from (reverse whole) next done
 numbering_last from whole left next done none is = record { same = sym (append-nil (bare done)) ∙ ap (λ xs. bare done ++ bare (reverse xs)) (sym none) ∙ is.same; counted = is.counted; gone = is.gone }
 
-pub no_number : (next : ℕ) → IsNumbered next (None ∷ []) next (None ∷ [])
-no_number next = record { same = refl; counted = tt; gone = let e : next ≡ next + 0 = omega arith in e }
-
-pub one_number : (next later : ℕ) (old new : Cont) → new.keeps ≡ old.keeps → new.order ≡ next → later ≡ next + 1 → IsNumbered next (Some old ∷ []) later (Some new ∷ [])
-one_number next later old new keeps order is = record { same = ap (λ ks. Some ks ∷ []) keeps; counted = (order, tt); gone = is }
-
 -- ---- all nodes
 
 abbrev of_node : Conts → List (Option (List Kept))

@@ -42,13 +42,6 @@ written (o ∷ all) (suc n) (suc m) new live at = by_slot (written all n m new l
 pub live_taken : (f : Forms) (all : Slots) (n : ℕ) → AreLive f all → AreLive f (set all n None)
 live_taken f all n are m live at = are m live (taken all n m live at)
 
-pub live_written : (f : Forms) (all : Slots) (n : ℕ) (new : Live) → LiveAt f n new → AreLive f all → AreLive f (set all n (Some new))
-live_written f all n new is are m live at = by_slot (written all n m new live at)
-  where
-    by_slot : ((n ≡ m) × (new ≡ live)) ⊎ (slice_get all m ≡ Some (Some live)) → LiveAt f m live
-    by_slot (inl same) = subst (λ k. LiveAt f k live) same.0 (subst (LiveAt f n) same.1 is)
-    by_slot (inr there) = are m live there
-
 none_more : (all : Slots) (m : ℕ) (live : Live) → slice_get (all ++ None ∷ []) m ≡ Some (Some live) → slice_get all m ≡ Some (Some live)
 none_more [] zero live at = absurd (none-some live (same_some at))
 none_more [] (suc m) live at = at

@@ -1,5 +1,5 @@
 -- Columns that make a row, from the last to the first.
-use Rattle.std.proofs.Common.{◌≡◌, ◌∙◌, refl, sym, ap, subst, ℕ, Bool, true, false, cond, List, [], ◌∷◌, ◌++◌, map, length, Option, Some, None, is_some, arith, rules}
+use Rattle.std.proofs.Common.{◌≡◌, ◌∙◌, refl, sym, ap, subst, ℕ, Bool, true, false, cond, List, [], ◌∷◌, ◌++◌, map, Option, Some, None, is_some, rules}
 use Rattle.std.proofs.lemmas.Cmp.{nat_list_cmp_total}
 use Rattle.std.proofs.lemmas.Map.Text.{btree_map_updates_str, is_eq-slice_cmp}
 use Rattle.std.specs.BTreeMap.{BTreeMap, UpdatesBy, get_by, is_at}
@@ -88,10 +88,3 @@ pub twice_there : {old : Seen} {left all : List ColumnDecl} (outer : List Column
     → AreLeft old left all → left ≡ outer ++ c ∷ [] → is_seen old l ≡ true → false ≡ is_some (before_row (known all) no_fields)
 twice_there {old} outer c l same are is present =
     ap is_some (sym (there outer c are.row (sym (are.labels c.label.text) ∙ ap (is_seen old) (sym same) ∙ present)) ∙ ap (λ columns. before_row (known columns) are.row) (sym is) ∙ are.same)
-
-no_more : (left : List ColumnDecl) (row : Row) → length left ≡ 0 → true ≡ is_some (before_row (known left) row)
-no_more [] row e = refl
-no_more (c ∷ left) row e = absurd (omega (arith, e))
-
-pub none_left : {old : Seen} {left all : List ColumnDecl} → AreLeft old left all → length left ≡ 0 → true ≡ is_some (before_row (known all) no_fields)
-none_left {old} {left} {all} are e = no_more left are.row e ∙ ap is_some are.same

@@ -174,11 +174,6 @@ pub met_solved : (σ : Grounding) (steps : List Step) → Meets σ steps → Sol
 met_solved σ [] meets = tt
 met_solved σ (step ∷ steps) meets = (meets.0, met_solved σ steps meets.1)
 
-step_at : (steps : List Step) (j : ℕ) → j < length steps → (step : Step) × (slice_get steps j ≡ Some step)
-step_at [] j below = absurd (let wrong : j < 0 = below in omega arith)
-step_at (step ∷ steps) zero below = (step, refl)
-step_at (step ∷ steps) (suc j) below = step_at steps j (omega arith)
-
 -- the place of the step of that number
 abbrev pub IsPlace : List Step → ℕ → Span → Type 0
 IsPlace steps j at = (step : Step) × (slice_get steps j ≡ Some step) × (at ≡ step.at)

@@ -21,7 +21,7 @@ use Rattle.lk_types.specs.declared.ty.Ty.{Ty}
 use Rattle.lk_types.specs.declared.ty.Ty.TheVariants as ty
 use Rattle.lk_types.specs.declared.ty.TyField.{TyField}
 use Rattle.lk_types.specs.declared.ty.TyRow.{TyRow, roll-TyRow}
-use Rattle.lk_types.proofs.TypeInduction.{Hereditary, every_row, every_type}
+use Rattle.lk_types.proofs.TypeInduction.{Hereditary, every_type}
 use Rattle.lk_infer.proofs.ShownUnfold.{shown_bool, shown_fields, shown_function, shown_int, shown_list, shown_rolled, shown_tags, shown_text, shown_variable}
 use Rattle.lk_infer.specs.Lacks.{shown, shown_in_row, tail_lacks}
 
@@ -114,6 +114,3 @@ module _ (τ : Grounding) where
 
 pub lacks_shown : (τ : Grounding) (t : Ty) (g : Ground) → under τ t ≡ Some g → Each (IsLacking τ) (shown t)
 lacks_shown τ t = every_type (Lacking τ) (RowLacking τ) (steps τ) t
-
-pub row_lacks_shown : (τ : Grounding) (r : TyRow) (m : Row) → row_under τ r ≡ Some m → Each (IsLacking τ) (shown_in_row r)
-row_lacks_shown τ r = every_row (Lacking τ) (RowLacking τ) (steps τ) r

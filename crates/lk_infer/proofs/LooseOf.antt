@@ -16,7 +16,7 @@ use Rattle.lk_types.specs.declared.ty.TyField.{TyField}
 use Rattle.lk_types.specs.declared.ty.TyRow.{TyRow, roll-TyRow}
 use Rattle.lk_typing.proofs.Even.Loose.{is_union}
 use Rattle.lk_typing.specs.EffectRows.{loosely}
-use Rattle.lk_types.proofs.TypeInduction.{Hereditary, every_row, every_type}
+use Rattle.lk_types.proofs.TypeInduction.{Hereditary, every_type}
 use Rattle.lk_infer.proofs.LooseUnfold.{field_loosely, loosely_bool, loosely_fields, loosely_function, loosely_int}
 use Rattle.lk_infer.proofs.LooseUnfold.{loosely_list, loosely_row, loosely_tags, loosely_text, loosely_variable, row_loosely}
 
@@ -81,6 +81,3 @@ module _ (τ : Grounding) where
 
 pub loose_of : (τ : Grounding) (t : Ty) (g : Ground) → under τ t ≡ Some g → loosely τ t ≡ Some g
 loose_of τ t = every_type (Keeps τ) (RowKeeps τ) (steps τ) t
-
-pub row_loose_of : (τ : Grounding) (r : TyRow) (m : Row) → row_under τ r ≡ Some m → row_loosely τ r ≡ Some m
-row_loose_of τ r = every_row (Keeps τ) (RowKeeps τ) (steps τ) r

@@ -21,7 +21,7 @@ use Rattle.lk_types.specs.declared.ty.TyRow.{TyRow, roll-TyRow}
 use Rattle.lk_types.specs.declared.ty.Variable.{Variable}
 use Rattle.lk_types.specs.declared.ty.Variable.TheVariants as variable
 use Rattle.lk_typing.specs.EffectRows.{loosely, union}
-use Rattle.lk_types.proofs.TypeInduction.{Hereditary, every_row, every_type}
+use Rattle.lk_types.proofs.TypeInduction.{Hereditary, every_type}
 use Rattle.lk_infer.proofs.LooseUnfold.{field_loosely, loosely_bool, loosely_fields, loosely_function, loosely_int}
 use Rattle.lk_infer.proofs.LooseUnfold.{loosely_list, loosely_row, loosely_tags, loosely_text, loosely_variable, row_loosely}
 use Rattle.lk_infer.proofs.ShownUnfold.{variables_rolled}
@@ -108,6 +108,3 @@ module _ (σ τ : Grounding) where
 
 pub loosely_agree : (σ τ : Grounding) (t : Ty) → Each (AgreeAt σ τ) (variables_of t) → loosely σ t ≡ loosely τ t
 loosely_agree σ τ t = every_type (Agrees σ τ) (RowAgrees σ τ) (steps σ τ) t
-
-pub row_loosely_agree : (σ τ : Grounding) (r : TyRow) → Each (AgreeAt σ τ) (variables_of_row r) → row_loosely σ r ≡ row_loosely τ r
-row_loosely_agree σ τ r = every_row (Agrees σ τ) (RowAgrees σ τ) (steps σ τ) r

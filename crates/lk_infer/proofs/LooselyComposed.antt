@@ -22,7 +22,7 @@ use Rattle.lk_arena.specs.Openings.{OpenEffects, OpenRow, Opening, before_open, 
 use Rattle.lk_typing.proofs.EffectRows.{in_list}
 use Rattle.lk_unify.proofs.OpenComposed.{open_some, open_one}
 use Rattle.lk_unify.proofs.OpenUnfold.{opened_bool, opened_fields, opened_function, opened_int, opened_list, opened_rolled, opened_tags, opened_text, opened_variable}
-use Rattle.lk_types.proofs.TypeInduction.{Hereditary, every_row, every_type}
+use Rattle.lk_types.proofs.TypeInduction.{Hereditary, every_type}
 use Rattle.lk_infer.proofs.LooseUnfold.{field_loosely, loosely_bool, loosely_fields, loosely_function, loosely_int}
 use Rattle.lk_infer.proofs.LooseUnfold.{loosely_list, loosely_row, loosely_tags, loosely_text, loosely_variable, row_loosely}
 use Rattle.lk_infer.proofs.LooselyRows.{insert_loosely, only_tail_loosely}
@@ -153,7 +153,3 @@ module _ (ρ : Opening) (τ : Grounding) where
 
 pub loosely_composed : (ρ : Opening) (τ : Grounding) (t u : Ty) (g : Ground) → opened ρ t ≡ Some u → loosely τ u ≡ Some g → loosely (loose_after ρ τ) t ≡ Some g
 loosely_composed ρ τ t = every_type (Composed ρ τ) (RowComposed ρ τ) (steps ρ τ) t
-
-pub row_loosely_composed : (ρ : Opening) (τ : Grounding) (r : TyRow) (m : OpenRow) (n : Row)
-    → row_opened ρ r ≡ Some m → row_loosely τ (row_type m) ≡ Some n → row_loosely (loose_after ρ τ) r ≡ Some n
-row_loosely_composed ρ τ r = every_row (Composed ρ τ) (RowComposed ρ τ) (steps ρ τ) r

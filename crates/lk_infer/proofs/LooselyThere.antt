@@ -22,7 +22,7 @@ use Rattle.lk_types.specs.declared.ty.TyField.{TyField}
 use Rattle.lk_types.specs.declared.ty.TyRow.{TyRow, roll-TyRow}
 use Rattle.lk_typing.proofs.Nodes.{there_is}
 use Rattle.lk_typing.specs.EffectRows.{loosely, union}
-use Rattle.lk_types.proofs.TypeInduction.{Hereditary, every_row, every_type}
+use Rattle.lk_types.proofs.TypeInduction.{Hereditary, every_type}
 use Rattle.lk_infer.proofs.LacksShown.{longer_lacks}
 use Rattle.lk_infer.proofs.LooseUnfold.{field_loosely, loosely_bool, loosely_fields, loosely_function, loosely_int}
 use Rattle.lk_infer.proofs.LooseUnfold.{loosely_list, loosely_row, loosely_tags, loosely_text, loosely_variable, row_loosely}
@@ -145,6 +145,3 @@ module _ (τ τ' : Grounding) where
 
 pub loosely_there : (τ τ' : Grounding) (t : Ty) (g : Ground) → under τ' t ≡ Some g → Each (IsLacking τ) (shown t) → IsSome (loosely τ t)
 loosely_there τ τ' t = every_type (Means τ τ') (RowMeans τ τ') (steps τ τ') t
-
-pub row_loosely_there : (τ τ' : Grounding) (r : TyRow) (m : Row) → row_under τ' r ≡ Some m → Each (IsLacking τ) (shown_in_row r) → IsSome (row_loosely τ r)
-row_loosely_there τ τ' r = every_row (Means τ τ') (RowMeans τ τ') (steps τ τ') r

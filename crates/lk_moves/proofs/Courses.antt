@@ -42,10 +42,6 @@ takes_then e f g c d first second r = ap e (before_both c d r) ∙ first (before
 pub whole_then : (e f g : Evaluation) (c d : Course) → TakesWhole e c f → TakesWhole f d g → TakesWhole e (followed c d) g
 whole_then e f g c d first second r whole = ap e (before_both c d r) ∙ first (before d r) whole ∙ second (after c r) whole ∙ ap g (after_both c d r)
 
--- a stretch is one of whole evaluations
-pub takes_whole : (e f : Evaluation) (c : Course) → Takes e c f → TakesWhole e c f
-takes_whole e f c takes r whole = takes r
-
 -- ---- nothing
 
 -- the same said otherwise
@@ -73,17 +69,10 @@ module _ (l : Language) where
   pub under : (frames : List (Frame l.Point)) (e f : Evaluation) (c : Course) → Takes e c f → Takes (λ r. wound l frames (e r)) c (λ r. wound l frames (f r))
   under frames e f c takes r = ap (wound l frames) (takes r)
 
-  pub whole_under : (frames : List (Frame l.Point)) (e f : Evaluation) (c : Course) → TakesWhole e c f → TakesWhole (λ r. wound l frames (e r)) c (λ r. wound l frames (f r))
-  whole_under frames e f c takes r whole = ap (wound l frames) (takes r whole)
-
   -- one stack on another
   pub stacked : (outer inner : List (Frame l.Point)) (out : Out Value) → wound l (outer ++ inner) out ≡ wound l outer (wound l inner out)
   stacked [] inner out = refl
   stacked (frame ∷ outer) inner out = ap (λ o. and_then o (continued l frame)) (stacked outer inner out)
-
-  -- the last frame gets the outcome first
-  pub pushed : (frames : List (Frame l.Point)) (frame : Frame l.Point) (out : Out Value) → wound l (frames ++ frame ∷ []) out ≡ wound l frames (and_then out (continued l frame))
-  pushed frames frame out = stacked frames (frame ∷ []) out
 
   -- what ends an evaluation passes all frames
   pub stopped : (frames : List (Frame l.Point)) (stop : Stop) (r : Run) → wound l frames (Stops stop r) ≡ Stops stop r

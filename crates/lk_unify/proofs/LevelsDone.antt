@@ -48,13 +48,6 @@ below_more : (levels : List Level) (l : Level) → AreBelow levels → IsBelow (
 below_more levels l below last k m is =
     ⊎_elim (λ (e : slice_get levels k ≡ Some m). below k m e) (λ (e : (length levels ≡ k) × (l ≡ m)). subst (λ m. IsBelow k m) e.1 (subst (λ k. IsBelow k l) e.0 last)) (level_cases levels l k m is)
 
-pub none_read : (nodes : Arena) (numbers places : List ℕ) → AreRead nodes numbers [] places []
-none_read nodes numbers places = record {
-  below = λ k l is. absurd cc;
-  closed = λ n below among. absurd among;
-  types = λ kind kinded n below is among. absurd among;
-}
-
 -- ---- one class more
 
 module _ (nodes : Arena) (numbers : List ℕ) (levels : List Level) (places done : List ℕ) (read : AreRead nodes numbers levels places done)

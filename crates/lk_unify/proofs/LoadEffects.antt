@@ -12,7 +12,6 @@ use Rattle.lk_types.specs.declared.ty.Effect.{Effect}
 use Rattle.lk_types.specs.declared.ty.Effect.TheVariants.{Local, Move, Print, Rec, Scan, Trap, Write}
 use Rattle.lk_types.specs.declared.ty.RowTail.{RowTail}
 use Rattle.lk_unify.proofs.EffectRows.{IsEffectRow-insert, set_in, its_effects}
-use Rattle.lk_unify.specs.Reading.{effects_in}
 use Rattle.lk_unify.proofs.EffectSets.{IsEffectRow-effect_row, set_in-effect_row}
 use Rattle.lk_arena.proofs.RowAlgebra.{one_more, label_cases}
 use Rattle.lk_unify.proofs.RowsBefore.{hit, miss}
@@ -71,12 +70,6 @@ same_words Write Rec = refl
 same_words Write Scan = refl
 same_words Write Trap = refl
 same_words Write Write = refl
-
--- ---- the effects of a row
-
--- the effects of their row
-pub set_back : (s : OpenEffects) → effects_in (effect_row s) ≡ s
-set_back s i = record { labels = λ x. set_in-effect_row s x i; tail = s.tail }
 
 -- ---- one effect more
 

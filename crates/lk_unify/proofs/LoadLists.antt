@@ -50,9 +50,6 @@ all_none f (y ∷ ys) (suc i) x h e = by_first (f y) (all_none f ys i x (omega a
 pub loads_no_types : (l : Loader) (ns : List ℕ) → IsLoader l → ns ≡ [] → LoadsAll l l (types_meaning []) ns
 loads_no_types l ns whole e = subst (LoadsAll l l (types_meaning [])) (sym e) (record { below = tt; kinds = kinds_nothing l; to = loads_nothing l [] whole })
 
-longer_below : (n m : ℕ) → n < m → (k : ℕ) → k < n → k < m
-longer_below n m h k l = omega arith
-
 module _ (a b c : Loader) (ts : List Ty) (i : ℕ) (t : Ty) (ns : List ℕ) (n : ℕ) (h : i < length ts) (is : t ≡ get_or ts i t) (l : LoadsAll a b (types_meaning (take i ts)) ns) (m : Loads b c OfTypes (type_meaning t) n) where
   types_next : LoadsTo a c (types_meaning (take i ts ++ t ∷ [])) (λ v. map v (ns ++ n ∷ []))
   types_next =

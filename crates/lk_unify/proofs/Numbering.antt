@@ -16,14 +16,6 @@ pub record IsNumbered (l : Loader) (numbers : List ℕ) (n next : ℕ) : Type 0 
   pub rises : (i j : ℕ) → i < j → j < n → is_own_class l i ≡ true → is_own_class l j ≡ true → name_in numbers i < name_in numbers j
   pub unused : (i : ℕ) → i < n → is_own_class l i ≡ true → IsUnused l (name_in numbers i)
 
-pub numbered_none : (l : Loader) (next : ℕ) → IsNumbered l [] 0 next
-numbered_none l next = record {
-  count = refl;
-  below = λ i h o. absurd (omega arith);
-  rises = λ i j h k o p. absurd (omega arith);
-  unused = λ i h o. absurd (omega arith);
-}
-
 -- ---- a number behind the others
 
 name_before : (numbers : List ℕ) (x i : ℕ) → i < length numbers → name_in (numbers ++ x ∷ []) i ≡ name_in numbers i

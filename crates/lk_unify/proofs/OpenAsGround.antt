@@ -20,7 +20,7 @@ use Rattle.lk_types.specs.declared.ty.TyRow.{TyRow}
 use Rattle.lk_unify.proofs.OpenGround.{get-as_row, as_row-insert, as_row-empty, as_type-fields, as_type-tags, as_type-function}
 use Rattle.lk_unify.proofs.OpenUnfold.{opened_int, opened_bool, opened_text, opened_list, opened_fields, opened_tags}
 use Rattle.lk_unify.proofs.OpenUnfold.{opened_function, opened_variable, opened_rolled, as_int, as_bool, as_text, as_list}
-use Rattle.lk_types.proofs.TypeInduction.{Hereditary, every_type, every_row}
+use Rattle.lk_types.proofs.TypeInduction.{Hereditary, every_type}
 use Rattle.lk_arena.specs.Openings.{Opening, row_type, opened, row_opened, effects_opened, effects_tail_opened, tail_opened}
 use Rattle.lk_arena.specs.Openings.{with_opened, before_open, open_function, as_type, as_row, as_effects, as_opening}
 
@@ -118,6 +118,3 @@ module _ (σ : Grounding) where
 
   pub type_as : (t : Ty) → opened (as_opening σ) t ≡ option_map as_type (under σ t)
   type_as = every_type IsAs IsAsRow steps
-
-  pub row_as : (r : TyRow) → row_opened (as_opening σ) r ≡ option_map as_row (row_under σ r)
-  row_as = every_row IsAs IsAsRow steps

@@ -10,7 +10,7 @@ use Rattle.lk_types.proofs.Unfold.{under_int, under_bool, under_text, under_list
 use Rattle.lk_types.proofs.Unfold.{under_variable, variables_list, variables_fields, variables_tags, variables_function, variables_variable, variables_field}
 use Rattle.lk_types.specs.Each.{Each}
 use Rattle.lk_types.specs.Grounding.{Grounding, under, row_under, before_row, row_tail, effect_tail, effects_under, before_effects, all_of, function_of}
-use Rattle.lk_types.specs.Rows.{Label, Row, EffectSet, label_order, no_fields, with_field, with_effect, fields_of}
+use Rattle.lk_types.specs.Rows.{Label, Row, EffectSet, with_field, with_effect, fields_of}
 use Rattle.lk_types.specs.Variables.{joined, before_tail, tail_variable, effects_variables, variables_of, variables_of_row, variables_of_field}
 use Rattle.lk_types.specs.declared.ground.Ground.{Ground}
 use Rattle.lk_types.specs.declared.ground.Ground.TheVariants as known
@@ -25,15 +25,13 @@ use Rattle.lk_types.specs.declared.ty.TyField.{TyField}
 use Rattle.lk_types.specs.declared.ty.TyRow.{TyRow, roll-TyRow}
 use Rattle.lk_types.specs.declared.ty.Variable.{Variable}
 use Rattle.lk_types.specs.declared.ty.Variable.TheVariants as variable
-use Rattle.lk_unify.proofs.OpenAsGround.{type_as}
 use Rattle.lk_unify.proofs.OpenEffectSets as sets
 use Rattle.lk_unify.proofs.OpenEffectSets.{effect-under, only_effects-under}
-use Rattle.lk_unify.proofs.OpenGround.{get-as_row}
-use Rattle.lk_unify.proofs.OpenRows.{only_tail-under, insert-under, IsReadAt, row_read}
+use Rattle.lk_unify.proofs.OpenRows.{only_tail-under, insert-under}
 use Rattle.lk_unify.proofs.OpenUnfold.{opened_int, opened_bool, opened_text, opened_list, opened_fields, opened_tags, opened_function, opened_variable, opened_rolled}
-use Rattle.lk_types.proofs.TypeInduction.{Hereditary, every_type, every_row}
+use Rattle.lk_types.proofs.TypeInduction.{Hereditary, every_type}
 use Rattle.lk_arena.specs.Openings.{Opening, OpenRow, OpenEffects, row_type, effects_type, opened, row_opened, effects_opened}
-use Rattle.lk_arena.specs.Openings.{effects_tail_opened, tail_opened, with_opened, before_open, open_function, as_type, as_row, as_opening, OpensTo}
+use Rattle.lk_arena.specs.Openings.{effects_tail_opened, tail_opened, with_opened, before_open, open_function, OpensTo}
 
 -- ---- what is there by a choice
 
@@ -170,23 +168,3 @@ module _ (τ : Grounding) (ρ : Opening) (σ : Grounding) where
   pub type_composed : (t : Ty) (u : Ty) (g : Ground) → Each (OpensTo τ ρ σ) (variables_of t) → opened ρ t ≡ Some u → under σ t ≡ Some g → under τ u ≡ Some g
   type_composed = every_type Composed RowComposed steps
 
-  pub row_composed : (r : TyRow) (m : OpenRow) (n : Row) → Each (OpensTo τ ρ σ) (variables_of_row r) → row_opened ρ r ≡ Some m → row_under σ r ≡ Some n → row_under τ (row_type m) ≡ Some n
-  row_composed = every_row Composed RowComposed steps
-
--- ---- ground types under a grounding
-
--- a ground type with which each variable's is read back is read back: all that is needed is that those put for variables are
-pub ground_composed : (τ σ : Grounding) (t : Ty) (g : Ground) → Each (OpensTo τ (as_opening σ) σ) (variables_of t) → under σ t ≡ Some g → under τ (as_type g) ≡ Some g
-ground_composed τ σ t g fits e = type_composed τ (as_opening σ) σ t (as_type g) g fits (type_as σ t ∙ ap (option_map as_type) e) e
-
--- so it is where the type has no variables
-pub closed_composed : (τ σ : Grounding) (t : Ty) (g : Ground) → variables_of t ≡ [] → under σ t ≡ Some g → under τ (as_type g) ≡ Some g
-closed_composed τ σ t g none e = ground_composed τ σ t g (subst (Each (OpensTo τ (as_opening σ) σ)) (sym none) tt) e
-
--- a row of ground types each of which is read back
-pub as_row-under : (τ : Grounding) (m : Row) → ((l : Label) (g : Ground) → fin.get m l ≡ Some g → under τ (as_type g) ≡ Some g) → row_under τ (row_type (as_row m)) ≡ Some m
-as_row-under τ m reads = row_read τ (as_row m) m (λ l. subst (λ o. IsReadAt τ o (fin.get no_fields l) (fin.get m l)) (sym (get-as_row m l)) (by_test l (fin.get m l) refl))
-  where
-    by_test : (l : Label) (o : Option Ground) → fin.get m l ≡ o → IsReadAt τ (option_map as_type o) (fin.get no_fields l) o
-    by_test l None is = sym (fin.get-empty label_order l)
-    by_test l (Some g) is = (g, fin.get-empty label_order l, reads l g is, refl)

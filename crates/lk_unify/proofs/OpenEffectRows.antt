@@ -6,22 +6,18 @@ use Rattle.std.specs.List.{filter}
 use Rattle.std.specs.Option.{option_map}
 use Rattle.std.specs.Ordering.{eq_by_cmp}
 use Rattle.lk_types.proofs.SameEffect.{for_each_effect}
-use Rattle.lk_types.specs.Grounding.{Grounding, effects_under}
-use Rattle.lk_types.specs.Rows.{Label, Row, EffectSet, label_order, same_effect, effects_of}
+use Rattle.lk_types.specs.Rows.{Label, EffectSet, label_order, same_effect, effects_of}
 use Rattle.lk_types.specs.TypeText.{effect_word}
-use Rattle.lk_types.specs.declared.ground.Ground.{Ground}
 use Rattle.lk_types.specs.declared.ground.Ground.TheVariants as known
 use Rattle.lk_types.specs.declared.ty.Effect.{Effect}
 use Rattle.lk_types.specs.declared.ty.Effect.TheVariants.{Local, Move, Print, Rec, Scan, Trap, Write}
-use Rattle.lk_types.specs.declared.ty.RowTail.TheVariants.{Closed}
 use Rattle.lk_types.specs.declared.ty.Ty.{Ty}
 use Rattle.lk_types.proofs.LabelMaps.{Tied, Differ, tie_cases, same_maps, labels_differ}
-use Rattle.lk_unify.proofs.OpenEffectSets.{effect_cases, IsSetAt, set_read}
+use Rattle.lk_unify.proofs.OpenEffectSets.{effect_cases}
 use Rattle.lk_unify.proofs.OpenGround.{get-as_row}
-use Rattle.lk_unify.proofs.OpenUnfold.{as_fields}
 use Rattle.lk_arena.proofs.RowAlgebra.{bool_cases}
 use Rattle.lk_arena.specs.Kinds.{IsEffectName}
-use Rattle.lk_arena.specs.Openings.{OpenRow, OpenEffects, effects_type, unit_type, as_type, as_row, as_effects}
+use Rattle.lk_arena.specs.Openings.{OpenRow, OpenEffects, unit_type, as_type, as_row, as_effects}
 use Rattle.lk_arena.specs.Values.{effect_row}
 
 -- ---- words of effects
@@ -66,10 +62,6 @@ all = Local ∷ Move ∷ Print ∷ Rec ∷ Scan ∷ Trap ∷ Write ∷ []
 abbrev among : Effect → List Effect → Bool
 among x [] = false
 among x (e ∷ es) = same_effect e x || among x es
-
-either_unit : (a b : Bool) → cond a (Some unit_type) (unit_if b) ≡ unit_if (a || b)
-either_unit true b = refl
-either_unit false b = refl
 
 module _ (s : EffectSet) where
   kept : (x : Effect) (es : List Effect) → s x ≡ true → fin.find label_order (effect_word x) (map pair (filter s es)) ≡ unit_if (among x es)
@@ -149,20 +141,6 @@ effect_row-once s t e =
 
 -- ---- sets without a variable
 
-pub as_unit : as_type (known.Fields []) ≡ unit_type
-as_unit = as_fields []
-
-abbrev pub unit_row : EffectSet → Row
-unit_row s = fin.from_entries (map (λ e. (effect_word e, known.Fields [])) (effects_of s))
-
--- their rows have no variables
-pub effect_row-as : (s : EffectSet) → effect_row (as_effects s) ≡ as_row (unit_row s)
-effect_row-as s = ap (λ fs. record { fields = fs; tail = Closed }) (same_maps (effect_row (as_effects s)).fields (as_row (unit_row s)).fields at)
-  where
-    by_test : (b : Bool) (o : Option Ground) → option_map as_type (cond b (Some (known.Fields [])) o) ≡ cond b (Some unit_type) (option_map as_type o)
-    by_test true o = ap Some as_unit
-    by_test false o = refl
-
     found : (l : Label) (es : List Effect)
         → fin.find label_order l (map (λ e. (effect_word e, unit_type)) es) ≡ option_map as_type (fin.find label_order l (map (λ e. (effect_word e, known.Fields [])) es))
     found l [] = refl
@@ -176,11 +154,3 @@ effect_row-as s = ap (λ fs. record { fields = fs; tail = Closed }) (same_maps (
         ∙ found l (effects_of s)
         ∙ ap (option_map as_type) (sym (fin.get-from_entries nat_list_cmp_total (map (λ e. (effect_word e, known.Fields [])) (effects_of s)) l))
         ∙ sym (get-as_row (unit_row s) l)
-
--- and are read back as they are
-pub as_effects-under : (τ : Grounding) (s : EffectSet) → effects_under τ (effects_type (as_effects s)) ≡ Some s
-as_effects-under τ s = set_read τ (as_effects s) s (λ x. by_test (s x))
-  where
-    by_test : (b : Bool) → IsSetAt b false b
-    by_test true = (refl, refl)
-    by_test false = refl

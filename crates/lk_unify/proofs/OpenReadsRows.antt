@@ -45,9 +45,6 @@ type_at : (x : Value) (t : Ty) → plain_of x ≡ Some t → x ≡ Plain t
 type_at (Plain s) t e = (let h : s ≡ t = cc in ap Plain h)
 type_at (OfRow m) t e = (let f : None ≡ Some t = e in cc)
 
-plain_some : (x : Value) → IsPlain x → (t : Ty) × (plain_of x ≡ Some t)
-plain_some x p = (p.0, ap plain_of p.1)
-
 mapped : (o : Option Ground) (t : Ty) → option_map as_type o ≡ Some t → (g : Ground) × (o ≡ Some g) × (t ≡ as_type g)
 mapped None t e = (let f : None ≡ Some t = e in cc)
 mapped (Some g) t e = (g, refl, (let h : t ≡ as_type g = cc in h))

@@ -19,10 +19,6 @@ use Rattle.lk_arena.specs.Openings.{OpenRow, only_tail, field_type, row_type}
 
 -- ---- fields in either order
 
--- a field more, where the row lacks it or has it
-abbrev Put : Label → Ground → Row → Bool → Option Row
-Put l t m b = if b then None else Some (fin.insert m l t)
-
 put_cond : (l : Label) (t : Ground) (b : Bool) (m : Row) → with_field l (Some t) (if b then None else Some m) ≡ (if b then None else with_field l (Some t) (Some m))
 put_cond l t true m = refl
 put_cond l t false m = refl
@@ -114,9 +110,6 @@ with_new l t m e = ap (λ o. if is_some o then None else Some (fin.insert m l t)
 abbrev pub IsReadAt : Grounding → Option Ty → Option Ground → Option Ground → Type 0
 IsReadAt τ None below x = x ≡ below
 IsReadAt τ (Some t) below x = (g : Ground) × (below ≡ None) × (under τ t ≡ Some g) × (x ≡ Some g)
-
-some_none : {A : Type 0} (x : A) → Some x ≡ None → ⊥
-some_none x e = cc
 
 module _ (τ : Grounding) (row : Row) where
   abbrev ReadsTo : List (Label × Ty) → Row → Type 0

@@ -25,7 +25,7 @@ use Rattle.lk_types.specs.declared.ty.Variable.TheVariants as variable
 use Rattle.lk_unify.proofs.OpenCounts.{sum_is, nodes_rolled, count_nodes, row_count_nodes, effects_count_nodes}
 use Rattle.lk_unify.proofs.OpenUnfold.{opened_int, opened_bool, opened_text, opened_list, opened_fields, opened_tags, opened_function, opened_variable, opened_rolled, count_int, count_bool, count_text, count_list, count_fields, count_tags, count_function}
 use Rattle.lk_unify.proofs.RowCounts.{row_count_insert, row_count_end}
-use Rattle.lk_types.proofs.TypeInduction.{Hereditary, every_type, every_row}
+use Rattle.lk_types.proofs.TypeInduction.{Hereditary, every_type}
 use Rattle.lk_arena.specs.Counting.{sum_of}
 use Rattle.lk_unify.specs.Nodes.{count, row_count, effects_count, end_count}
 use Rattle.lk_arena.specs.Openings.{Opening, OpenRow, OpenEffects, row_type, effects_type, opened, row_opened, before_open, with_opened, open_function, tail_opened, effects_tail_opened, effects_opened}
@@ -240,9 +240,3 @@ module _ (ρ : Opening) where
 
   pub opened_nodes : (t u : Ty) → opened ρ t ≡ Some u → nodes u ≡ nodes_with (opening_size ρ) t
   opened_nodes t u e = sym (count_nodes u) ∙ every_type Sized RowSized all_sized t u e
-
-  pub opened_row_nodes : (r : TyRow) (m : OpenRow) → row_opened ρ r ≡ Some m → row_nodes_with one (row_type m) ≡ row_nodes_with (opening_size ρ) r
-  opened_row_nodes r m e = sym (row_count_nodes (row_type m)) ∙ every_row Sized RowSized all_sized r m e
-
-  pub opened_effects_nodes : (es : Effects) (s : OpenEffects) → effects_opened ρ es ≡ Some s → effects_nodes one (effects_type s) ≡ effects_nodes (opening_size ρ) es
-  opened_effects_nodes es s e = sym (effects_count_nodes (effects_type s)) ∙ effects_sized es s e

@@ -176,16 +176,9 @@ module _ (closed : ℕ) where
   unfolding count field_count
   field_count-is f = search the_lemmas
 
-  by_counts : (r : TyRow) → row_count closed r ≡ sum_of (map field_count (out-TyRow r).fields) + end_count closed (out-TyRow r).tail
-  unfolding row_count field_count
-  by_counts r = search the_lemmas
-
   counted_each : (fs : List TyField) → map field_count fs ≡ map (λ f. 1 + count closed f.ty) fs
   counted_each [] = refl
   counted_each (f ∷ fs) = ap₂ (λ x xs. x ∷ xs) (field_count-is f) (counted_each fs)
-
-  pub count_row : (r : TyRow) → row_count closed r ≡ sum_of (map (λ f. 1 + count closed f.ty) (out-TyRow r).fields) + end_count closed (out-TyRow r).tail
-  count_row r = by_counts r ∙ ap (λ ns. sum_of ns + end_count closed (out-TyRow r).tail) (counted_each (out-TyRow r).fields)
 
   counts_rolled : (fs : List TyField) (tail : RowTail) → row_count closed (roll-TyRow (record { fields = fs; tail = tail })) ≡ sum_of (map field_count fs) + end_count closed tail
   unfolding row_count field_count

@@ -96,12 +96,6 @@ module _ (P : Variable → Type 0) where
   insert_entries : (m : RowFields) (l : Label) (t : Ty) → Each P (variables_of t) → Each OfEntry (fin.entries m) → Each OfEntry (fin.entries (fin.insert m l t))
   insert_entries m l t h e = subst (Each OfEntry) (sym (fin.entries-insert nat_list_cmp_total m l t)) (put_entries l t (fin.entries m) h e)
 
-  -- a field more
-  pub insert_variables : (m : OpenRow) (l : Label) (t : Ty) → Each P (variables_of t) → Each P (variables_of_row (row_type m))
-      → Each P (variables_of_row (row_type (record { fields = fin.insert m.fields l t; tail = m.tail })))
-  insert_variables m l t h e =
-      row_variables_from (record { fields = fin.insert m.fields l t; tail = m.tail }) (insert_entries m.fields l t h (row_entries_have m e)) (row_tail_has m e)
-
   -- ---- a row by its fields and its tail
 
   -- of a value that is to be a type

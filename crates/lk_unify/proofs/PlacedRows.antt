@@ -1,6 +1,5 @@
 -- Rows of places, field by field and row by row down their chains.
-use Rattle.std.proofs.Common.{◌≡◌, ℕ, zero, suc, ◌+◌, ◌<◌, ◌≤◌, List, [], ◌∷◌, ◌++◌, length, get_or, drop, map, refl, sym, ◌∙◌, ap, subst}
-use Rattle.std.proofs.lemmas.List.{at_drop_all, drop_more}
+use Rattle.std.proofs.Common.{◌≡◌, ℕ, zero, suc, ◌<◌, List, [], ◌∷◌, ◌++◌, length, map, refl, sym, ◌∙◌, ap, subst}
 use Rattle.std.specs.FinMap as fin
 use Rattle.lk_arena.specs.Shapes.{fields_in, parts_of, IsArena}
 use Rattle.lk_arena.specs.declared.arena.Arena.{Arena}
@@ -18,15 +17,6 @@ use Rattle.lk_unify.specs.Levels.{chain, chain_end, class_shape, end_at, no_plac
 pub places_both : (nodes : Arena) (places : List ℕ) (xs ys : List Field) (row : Places) → with_places nodes places (xs ++ ys) row ≡ with_places nodes places ys (with_places nodes places xs row)
 places_both nodes places [] ys row = refl
 places_both nodes places (x ∷ xs) ys row = places_both nodes places xs ys (fin.insert row x.label (place_of nodes places x.node))
-
-pub place_more : (nodes : Arena) (places : List ℕ) (own : List Field) (i : ℕ) (f : Field) (row : Places) → i < length own → f ≡ get_or own i f →
-    with_places nodes places (drop (i + 1) own) (fin.insert row f.label (place_of nodes places f.node)) ≡ with_places nodes places (drop i own) row
-place_more nodes places own i f row h is =
-    ap (λ (g : Field). with_places nodes places (drop (i + 1) own) (fin.insert row g.label (place_of nodes places g.node))) is
-    ∙ ap (λ fs. with_places nodes places fs row) (sym (drop_more own i f h))
-
-pub no_more_places : (nodes : Arena) (places : List ℕ) (own : List Field) (i : ℕ) (row : Places) → length own ≤ i → with_places nodes places (drop i own) row ≡ row
-no_more_places nodes places own i row h = at_drop_all (λ fs. with_places nodes places fs row) own i h
 
 -- ---- rows one behind another
 

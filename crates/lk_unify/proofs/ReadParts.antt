@@ -16,8 +16,7 @@ use Rattle.lk_arena.specs.declared.arena.Arena.{Arena}
 use Rattle.lk_arena.specs.declared.node.Head.{Head}
 use Rattle.lk_arena.specs.declared.node.Head.TheVariants as head
 use Rattle.lk_arena.specs.declared.node.Shape.{Shape}
-use Rattle.lk_arena.specs.declared.node.Shape.TheVariants.{Free, Open, Empty, Made}
-use Rattle.lk_arena.specs.declared.node.Shape.TheVariants as shape
+use Rattle.lk_arena.specs.declared.node.Shape.TheVariants.{Open, Made}
 
 -- ---- the parts that constructors take
 
@@ -98,30 +97,14 @@ module _ (nodes : Arena) (numbers : List ℕ) (fuel node : ℕ) (k : Kind) (can 
     pub shape_built : (s : Shape) → shape_at nodes.shapes class ≡ s → IsBuilt s u (u node)
     shape_built s is = subst (λ s. IsBuilt s u (u node)) is (subst (IsBuilt (shape_at nodes.shapes class) u) (sym same_value) (own.fits.builds class class_below class_named))
 
-    pub free_value : shape_at nodes.shapes class ≡ Free → u node ≡ Plain (ty.Var (name_in numbers class))
-    free_value is = same_value ∙ own.types class class_below class_named is
-
     pub open_value : shape_at nodes.shapes class ≡ Open → u node ≡ OfRow (only_tail (Var (name_in numbers class)))
     open_value is = same_value ∙ own.rows class class_below class_named is
 
 -- ---- types
 
-free_shape : (kind : ℕ → Kind) (s : Shape) → HasKind kind OfTypes s → ((h : Head) (ps : List ℕ) → s ≡ Made h ps → ⊥) → s ≡ Free
-free_shape kind Free k n = refl
-free_shape kind Open k n = absurd k
-free_shape kind Empty k n = absurd k
-free_shape kind (Made h ps) k n = absurd (n h ps refl)
-free_shape kind (shape.Row fs t) k n = absurd k
-
 module _ (nodes : Arena) (numbers : List ℕ) (fuel node : ℕ) (can : CanRead nodes numbers fuel node OfTypes) where
   pub made_can : (h : Head) (ps : List ℕ) → shape_at nodes.shapes (class_at nodes.classes node) ≡ Made h ps → CanReadParts nodes numbers (fuel - 1) h ps
   made_can h ps is = taken nodes numbers (fuel - 1) can.kind h ps (shape_kind nodes numbers fuel node OfTypes can (Made h ps) is) (shape_parts_can nodes numbers fuel node OfTypes can (Made h ps) is)
-
-  pub free_type : ((h : Head) (ps : List ℕ) → shape_at nodes.shapes (class_at nodes.classes node) ≡ Made h ps → ⊥) →
-      (u : ℕ → Value) → IsOwn nodes.shapes nodes.classes (name_in numbers) u → ty.Var (name_in numbers (class_at nodes.classes node)) ≡ type_in (u node)
-  free_type n u own =
-      sym (ap type_in (free_value nodes numbers fuel node OfTypes can u own
-      (free_shape can.kind (shape_at nodes.shapes (class_at nodes.classes node)) (class_kind nodes numbers fuel node OfTypes can) n)))
 
 pub made_list : (v x : Value) → IsMadeOf head.List (v ∷ []) x → type_in x ≡ ty.List (type_in v)
 made_list (Plain t) x m = ap type_in m

@@ -297,6 +297,3 @@ module _ (closed : ℕ) (kind : ℕ → Kind) (w : ℕ → Value) where
   made_count head.Fun [] x k e = absurd k
   made_count head.Fun (p ∷ []) x k e = absurd k
   made_count head.Fun (p ∷ q ∷ ps) x k e = function_count (kind p) (kind q) (w p) (w q) x ps k.0 k.1 k.2 e
-
-  pub made_type_count : (h : Head) (ps : List ℕ) (t : Ty) → TakesKinds h (map kind ps) → IsMadeOf h (map w ps) (Plain t) → count closed t ≡ 1 + sum_of (map part_count ps)
-  made_type_count h ps t k e = made_count h ps (Plain t) k e

@@ -79,13 +79,6 @@ module _ {es : List Equation} (o : OwnNodes es) where
   abbrev pub own_sides : (ns : List ℕ) → AreSideNodes o.loader es ns → OwnSides es
   own_sides ns sides = record { own = o; types = map type_at ns; makes = sides_made es ns sides (own_solves es o) }
 
-pub makes_first : (ρ : Opening) (k : ℕ) (es : List Equation) (ts : List Ty) → Makes ρ es ts → Makes ρ (take k es) (take k ts)
-makes_first ρ zero es ts makes = tt
-makes_first ρ (suc k) [] [] makes = tt
-makes_first ρ (suc k) (e ∷ es) (t ∷ ts) makes = (makes.0, makes.1, makes_first ρ k es ts makes.2)
-makes_first ρ (suc k) [] (t ∷ ts) makes = absurd makes
-makes_first ρ (suc k) (e ∷ es) [] makes = absurd makes
-
 types_many : (ρ : Opening) (es : List Equation) (ts : List Ty) → Makes ρ es ts → length ts ≡ length es
 types_many ρ [] [] makes = refl
 types_many ρ (e ∷ es) (t ∷ ts) makes = ap suc (types_many ρ es ts makes.2)

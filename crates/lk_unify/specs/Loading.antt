@@ -20,7 +20,7 @@ use Rattle.lk_types.specs.declared.ty.Variable.{Variable}
 use Rattle.lk_types.specs.declared.ty.Variable.TheVariants as variable
 use Rattle.lk_arena.specs.Covering.{Covers}
 use Rattle.lk_arena.specs.Kinds.{Kind, OfTypes, OfFields, OfEffects, OfUnit, OfNothing, AreKinded, HasKind}
-use Rattle.lk_arena.specs.Openings.{OpenRow, OpenEffects, Opening, IsOpenMet, opened, row_opened, effects_opened, only_tail, unit_type}
+use Rattle.lk_arena.specs.Openings.{Opening, IsOpenMet, opened, row_opened, effects_opened, only_tail}
 use Rattle.lk_arena.specs.Shapes.{fields_in, is_loose_shape, parts_of, AllBelow, HasFields, HasNode, IsArena, IsBuilt, IsDistinct, SameBelow, FitsNodes, WeakNodes}
 use Rattle.lk_arena.specs.Values.{Value, Plain, OfRow, effect_row}
 use Rattle.lk_unify.specs.declared.loader.Loader.{Loader}
@@ -126,14 +126,6 @@ pub record IsKinded (l : Loader) (kind : ℕ → Kind) : Type 0 where
   pub nodes : AreKinded l.arena.shapes l.arena.classes kind
   pub named : (x : Variable) (n : ℕ) → node_for l x ≡ Some n → kind n ≡ kind_of x
   pub made : (key : ℕ) (made : MadeNode) → made_at l key ≡ Some made → kind made.node ≡ kind_for made.kind
-
--- the value of a node of this kind
-abbrev pub IsOfKind : Kind → Value → Type 0
-IsOfKind OfTypes x = (t : Ty) × (x ≡ Plain t)
-IsOfKind OfFields x = (row : OpenRow) × (x ≡ OfRow row)
-IsOfKind OfEffects x = (s : OpenEffects) × (x ≡ OfRow (effect_row s))
-IsOfKind OfUnit x = x ≡ Plain unit_type
-IsOfKind OfNothing x = x ≡ OfRow (only_tail Closed)
 
 -- the first n nodes have the same kinds
 abbrev pub SameKinds : ℕ → (ℕ → Kind) → (ℕ → Kind) → Type 0
