@@ -8,7 +8,3 @@ most_rows = 65_536
 -- the most bytes of a message's body
 abbrev pub message_limit : ℕ
 message_limit = 1_048_576
-
--- the most arrays and objects of a message's body that stand in one another
-abbrev pub message_depth : ℕ
-message_depth = 100

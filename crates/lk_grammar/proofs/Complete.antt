@@ -12,7 +12,7 @@ use Rattle.lk_parts.specs.declared.part.Change.{Change}
 use Rattle.lk_parts.specs.declared.part.Part.{Part}
 use Rattle.lk_parts.specs.declared.part.Statement.{Statement}
 use Rattle.lk_grammar.proofs.CompleteForms.{conditional_finds, list_loop_finds, table_loop_finds, where_finds, insert_finds, Change_finds, rows_find, update_finds, delete_finds, Case_finds, named_case_finds, unit_case_finds, Cases_find, no_case_finds, next_case_finds, final_case_finds, switch_finds, query_finds, lambda_finds, form_starts}
-use Rattle.lk_grammar.proofs.CompleteLevels.{UNARY, PRODUCT, COMPARISON, AND, Expr_finds, Whole, And_finds, Comparison_finds, Join_finds, Sum_finds, Product_finds, Unary_finds, Form_finds, Postfix_finds, Primary_finds, Args_finds, Some_find, Closes, whole, and_whole, product_whole, unary_whole, left_up, left_op, join_up, join_op, comparison_up, comparison_op, negation_finds, form_finds, postfix_finds, primary_up, call_finds, project_finds, no_args_finds, some_args_finds, first_arg_finds, next_arg_finds}
+use Rattle.lk_grammar.proofs.CompleteLevels.{UNARY, PRODUCT, COMPARISON, AND, Expr_finds, And_finds, Comparison_finds, Join_finds, Sum_finds, Product_finds, Unary_finds, Form_finds, Postfix_finds, Primary_finds, Args_finds, Some_find, Closes, whole, and_whole, product_whole, unary_whole, left_up, left_op, join_up, join_op, comparison_up, comparison_op, negation_finds, form_finds, postfix_finds, primary_up, call_finds, project_finds, no_args_finds, some_args_finds, first_arg_finds, next_arg_finds}
 use Rattle.lk_grammar.proofs.CompletePrimaries.{closes_round, closes_square, literal_finds, name_finds, bare_tag_finds, unit_tag_finds, tagged_finds, unit_finds, paren_finds, Part_finds, Parts_find, set_finds, first_part_finds, next_part_finds, fields_finds, extension_finds, list_finds, prefix_finds, Block_finds, Statements_find, block_finds, no_statements_find, var_finds, plain_finds, block_primary_finds}
 
 -- ---- no comparison stands below its level
@@ -171,7 +171,3 @@ mutual
   case_finds : {w : List Token} {case : Case} → IsCase w case → Case_finds w case
   case_finds (IsCase.named_case k t o x c a h i j m p q d) = named_case_finds k t o x c a _ _ h i j m p q (whole _ _ (expr_finds d))
   case_finds (IsCase.unit_case k t a h i q d) = unit_case_finds k t a _ _ h i q (whole _ _ (expr_finds d))
-
--- a whole expression
-pub expr_whole : {w : List Token} {e : Part} → IsExpr w e → Whole w e
-expr_whole d = whole _ _ (expr_finds d)

@@ -57,9 +57,6 @@ shut t z e p at_least part = record {
   form = λ f. no_operator level.Comparison t e;
 }
 
-pub shut_end : Shut []
-shut_end at_least part = record { postfix = refl; operator = λ at c le. refl; comparison = λ le c. refl; trailing = λ at c o. refl; form = λ f. refl }
-
 -- signs that go on with nothing
 pub shut_sign : (s : List ℕ) (t : Token) (z : List Token) → level_of_sign s ≡ 0 → bytes_eq s (codes "(") ≡ false → bytes_eq s (codes ".") ≡ false → IsSign s t → Shut (t ∷ z)
 shut_sign s t z l p q h = shut t z (ap level_of_kind h ∙ l)

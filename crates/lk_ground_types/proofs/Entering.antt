@@ -1,6 +1,6 @@
 -- A table of ground types that grows by one entry.
 use Rattle.std.proofs.Common.{◌≡◌, ◌⊎◌, inl, inr, ℕ, zero, suc, ◌+◌, ◌<◌, List, [], ◌∷◌, ◌++◌, map, length, get_or, refl, sym, ap, subst, ◌∙◌, Some, None, arith}
-use Rattle.std.proofs.lemmas.List.{length-append, length-map, map-append}
+use Rattle.std.proofs.lemmas.List.{length-map, map-append}
 use Rattle.std.proofs.lemmas.Option.{none-some, slice_get-map, slice_get_read, slice_get_within}
 use Rattle.std.specs.FinMap as fin
 use Rattle.std.specs.Option.{option_map}
@@ -174,12 +174,6 @@ module _ (es : List Entry) (ps : Numbers) (e : Entry) (table : AreGrounds es ps)
   pub types_entered : types_of longer_list ≡ types_of es ++ ground_made (types_of es) e.level ∷ []
   types_entered = types_are ∙ ap (λ t. types_of es ++ t ∷ []) made
 
-  pub last_made : at (types_of longer_list) (length es) ≡ ground_made (types_of es) e.level
-  last_made = at_is (types_of longer_list) (length es) e.ty (type_there longer_list (length es) e (last_there es e)) ∙ made
-
-  pub last_within : length es < length (types_of longer_list)
-  last_within = subst (λ k. length es < k) (sym (types_long longer_list ∙ length-append es (e ∷ []))) itself
-
 -- the same of what is put there
 module _ (es before new : List Entry) (ps qs : Numbers) (e : Entry) (l : GroundLevel) (k : List ℕ) (n : ℕ) (table : AreGrounds es ps) (below : IsBelow (length es) l)
     (lacks : fin.get ps (key l) ≡ None) (k_is : k ≡ key l) (before_is : before ≡ es) (made : e.ty ≡ ground_made (types_of before) l) (level_is : e.level ≡ l)
@@ -205,26 +199,10 @@ module _ (es before new : List Entry) (ps qs : Numbers) (e : Entry) (l : GroundL
   pub pushed_types : types_of new ≡ types_of es ++ ground_made (types_of es) l ∷ []
   pushed_types = ap types_of new_is ∙ types_entered es ps e table own_below own_lacks own_made own_nodes ∙ ap (λ l. types_of es ++ ground_made (types_of es) l ∷ []) level_is
 
-  pub pushed_within : n < length (types_of new)
-  pushed_within =
-      subst (λ n. n < length (types_of new)) (sym (n_is ∙ ap length before_is))
-      (subst (λ new. length es < length (types_of new)) (sym new_is) (last_within es ps e table own_below own_lacks own_made own_nodes))
-
-  pub pushed_made : at (types_of new) n ≡ ground_made (types_of es) l
-  pushed_made =
-      (λ i. at (types_of (new_is i)) ((n_is ∙ ap length before_is) i)) ∙ last_made es ps e table own_below own_lacks own_made own_nodes ∙ ap (ground_made (types_of es)) level_is
-
 -- one that is there
 module _ (es : List Entry) (ps : Numbers) (table : AreGrounds es ps) (l : GroundLevel) (n : ℕ) (is : fin.get ps (key l) ≡ Some n) where
   there : (e : Entry) × (slice_get es n ≡ Some e) × (e.level ≡ l)
   there = table.found l n is
-
-  pub found_made : at (types_of es) n ≡ ground_made (types_of es) l
-  found_made =
-      at_is (types_of es) n there.0.ty (type_there es n there.0 there.1) ∙ (table.each n there.0 there.1).made ∙ ap (ground_made (types_of es)) there.2
-
-  pub found_within : n < length (types_of es)
-  found_within = subst (λ k. n < k) (sym (types_long es)) (slice_get_within es n there.0 there.1)
 
 pub none_entered : (es : List Entry) (ps : Numbers) → es ≡ [] → ps ≡ fin.empty → AreGrounds es ps
 none_entered es ps none empty = subst (λ es. AreGrounds es ps) (sym none) (subst (λ ps. AreGrounds [] ps) (sym empty) (record {

@@ -26,9 +26,6 @@ module _ {Z : Type 0} where
   pub get_is : (m : BTreeMap (Vec ℕ Z) ℕ) (x : List ℕ) → fin.get (numbers_in m.entries) x ≡ get_by (λ k. slice_cmp nat_cmp x k.items) m
   get_is m x = fin.get-from_entries nat_list_cmp_total (keyed m.entries) x ∙ find_keyed x m.entries
 
-  pub none_in : (es : List (Vec ℕ Z × ℕ)) → es ≡ [] → numbers_in es ≡ fin.empty
-  none_in es none = ap numbers_in none ∙ same_maps (numbers_in []) fin.empty (λ l. fin.get-from_entries nat_list_cmp_total [] l ∙ sym (fin.get-empty label_order l))
-
   -- ---- one more
 
   abbrev pub AreAscending : List (Vec ℕ Z × ℕ) → Type 0

@@ -1,6 +1,5 @@
 -- Fields whose labels rise are the parts of their row as they stand.
-use Rattle.std.proofs.Common.{◌≡◌, ℕ, zero, suc, true, ◌+◌, ◌-◌, ◌<◌, ◌≤◌, T, ◌&&◌, List, [], ◌∷◌, Option, Some, None, cond, map, length, drop, get_or, slice_get, Less, is_lt, refl, sym, ap, subst, ◌∙◌, arith}
-use Rattle.std.proofs.lemmas.List.{drop_more}
+use Rattle.std.proofs.Common.{◌≡◌, ℕ, true, T, ◌&&◌, List, [], ◌∷◌, Some, None, cond, map, Less, is_lt, refl, sym, ap, subst, ◌∙◌}
 use Rattle.std.specs.Cmp.Lexicographic.{nat_list_cmp_total}
 use Rattle.std.specs.FinMap as fin
 use Rattle.std.specs.FinMap.Entries.{below_all}
@@ -8,28 +7,9 @@ use Rattle.std.specs.Ordering.{eq_by_cmp}
 use Rattle.lk_types.proofs.LabelMaps.{both_hold, entries_back, same_maps}
 use Rattle.lk_types.specs.Rows.{Label, label_order}
 use Rattle.lk_types.specs.declared.levels.LevelField.{LevelField}
-use Rattle.lk_ground_types.specs.Becoming.{fields_put, number_at, part_at, AreRising, IsLabelBelow}
+use Rattle.lk_ground_types.specs.Becoming.{fields_put, number_at, part_at, AreRising}
 use Rattle.lk_ground_types.specs.Grounds.{parts_in}
 use Rattle.lk_ground_types.specs.declared.ground_level.GroundPart.{GroundPart}
-
--- ---- the walk from the last field to the first
-
-first_behind : (fs : List LevelField) (i : ℕ) → slice_get (drop i fs) 0 ≡ slice_get fs i
-first_behind [] zero = refl
-first_behind [] (suc i) = refl
-first_behind (f ∷ fs) zero = refl
-first_behind (f ∷ fs) (suc i) = first_behind fs i
-
-one_more : (fs : List LevelField) (i : ℕ) (d : LevelField) → i < length fs → IsLabelBelow (get_or fs i d) (slice_get fs (i + 1)) → AreRising (drop (i + 1) fs) → AreRising (drop i fs)
-one_more fs i d within below rising =
-    subst AreRising (sym (drop_more fs i d within)) (subst (IsLabelBelow (get_or fs i d)) (sym (first_behind fs (i + 1))) below, rising)
-
-before_one : (i : ℕ) → 0 < i → (i - 1) + 1 ≡ i
-before_one i above = omega arith
-
-pub one_before : (fs : List LevelField) (i : ℕ) (f d : LevelField) (next : Option LevelField) → 0 < i → i ≤ length fs → f ≡ get_or fs (i - 1) d → next ≡ slice_get fs ((i - 1) + 1) → IsLabelBelow f next → AreRising (drop i fs) → AreRising (drop (i - 1) fs)
-one_before fs i f d next above within f_is next_is below rising =
-    one_more fs (i - 1) d (omega arith) (subst (λ f. IsLabelBelow f (slice_get fs ((i - 1) + 1))) f_is (subst (IsLabelBelow f) next_is below)) (subst (λ i. AreRising (drop i fs)) (sym (before_one i above)) rising)
 
 -- ---- their row
 

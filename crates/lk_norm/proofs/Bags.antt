@@ -1,19 +1,14 @@
 -- Lists that are the same bag are permutations, and back; of rows too, since their equality is decided.
-use Rattle.std.proofs.Common.{◌≡◌, ℕ, ◌+◌, ◌<◌, List, [], ◌∷◌, ◌++◌, cond, Bool, true, false, ◌&&◌, Decides, IsPermutation, sum_by, bytes_eq, int_eq, refl, sym, ◌∙◌, ap, ap₂, subst, arith, true≢false}
+use Rattle.std.proofs.Common.{◌≡◌, ℕ, ◌+◌, ◌<◌, List, [], ◌∷◌, ◌++◌, cond, Bool, true, false, ◌&&◌, Decides, IsPermutation, bytes_eq, int_eq, refl, sym, ◌∙◌, ap, ap₂, subst, arith, true≢false}
 use Rattle.std.specs.Cmp.{signed_Decides}
 use Rattle.std.specs.Cmp.Lexicographic.{bytes_decides, pointwise, pointwise_decides}
 use Rattle.std.proofs.lemmas.List.Sorted.{IsPermutation-refl, IsPermutation-sym, IsPermutation-cons, IsPermutation-trans, IsPermutation-middle, sum_by-IsPermutation}
-use Rattle.std.proofs.lemmas.List.Sums.{sum_by-cons}
 use Rattle.lk_ast.specs.declared.table.Base.{Base}
 use Rattle.lk_ast.specs.declared.table.Base.TheVariants as base
 use Rattle.lk_ast.specs.declared.table.Cell.{Cell}
 use Rattle.lk_ast.specs.declared.table.Row.{Row}
 use Rattle.lk_sql.specs.Bags.{SameBag, total}
 use Rattle.lk_norm.proofs.Sums.{total-append}
-
-total-sum_by : {X : Type 0} (f : X → ℕ) (xs : List X) → sum_by f xs ≡ total f xs
-total-sum_by f [] = refl
-total-sum_by f (x ∷ xs) = sum_by-cons f x xs ∙ ap (λ n. f x + n) (total-sum_by f xs)
 
 -- ---- by a decided equality
 

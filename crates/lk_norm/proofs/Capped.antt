@@ -99,9 +99,6 @@ capped_counts parts n = filled-related (λ a b. a ≡ capped b) capped_level cou
 
 -- ---- the code's list of them
 
-at_nothing : (n : ℕ) → count_at [] n ≡ 0
-at_nothing n = get_or_past [] n 0 (omega arith)
-
 wrong : false ≡ true → ⊥
 wrong e = subst (λ b. elim b as (λ _. Type 0) [ true ↦ ⊥ | false ↦ Unit {0} ]) e tt
 
@@ -132,9 +129,6 @@ more_of found v = λ i n. one_more found v n i
 
 abbrev pub IsCounted : List Part → List Part → List ℕ → Type 0
 IsCounted parts rest found = filled_from capped_level (length found) (count_at found) rest ≡ filled capped_level 0 parts
-
-pub counted_first : (parts : List Part) → IsCounted parts parts []
-counted_first parts = λ i. filled_from capped_level 0 (λ n. at_nothing n i) parts
 
 pub counted_more : (parts rest : List Part) (found new : List ℕ) (x : Part) (v k : ℕ) → v ≡ capped_level (count_at found) k x → new ≡ found ++ v ∷ [] → IsCounted parts (x ∷ rest) found → IsCounted parts rest new
 counted_more parts rest found new x v k is now was = ap (λ new. filled_from capped_level (length new) (count_at new) rest) now

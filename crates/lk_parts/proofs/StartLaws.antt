@@ -100,9 +100,6 @@ not_tag t s e d = fails is_any_tag start.Tag t s tag_start e d
 pub not_sign : (sign : List ℕ) (t : Token) (s : Start) → start_of t ≡ s → nat_eq (number s) (number (start_of_sign sign)) ≡ false → is_sign sign t ≡ false
 not_sign sign t s e d = fails (is_sign sign) (start_of_sign sign) t s (λ u k. sign_start sign u ((a_sign sign).means u k)) e d
 
-pub not_word : (word : List ℕ) (t : Token) (s : Start) → start_of t ≡ s → nat_eq (number s) (number (start_of_kind (Word word))) ≡ false → is_word word t ≡ false
-not_word word t s e d = fails (is_word word) (start_of_kind (Word word)) t s (λ u k. word_start word u ((a_word word).means u k)) e d
-
 -- ---- lists of tokens that begin so
 
 abbrev pub is_primary_start : Start → Bool

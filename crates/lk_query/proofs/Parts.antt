@@ -1,12 +1,12 @@
 -- Parts in order: what is found for each by what is found for its own parts.
-use Rattle.std.proofs.Common.{◌≡◌, ℕ, zero, suc, ◌+◌, ◌*◌, ◌<◌, ◌==◌, if◌then◌else◌, Bool, true, false, List, [], ◌∷◌, ◌++◌, map, Some, None, slice_get, unwrap_or, refl, sym, ◌∙◌, ap, ap₂, subst, arith, lt_irrefl}
+use Rattle.std.proofs.Common.{◌≡◌, ℕ, zero, suc, ◌+◌, ◌<◌, ◌==◌, if◌then◌else◌, Bool, true, false, List, [], ◌∷◌, ◌++◌, map, Some, None, slice_get, unwrap_or, refl, sym, ◌∙◌, ap, ap₂, subst, arith, lt_irrefl}
 use Rattle.std.specs.List.{flat_map}
 use Rattle.std.proofs.lemmas.Bool.{eq-eqb, ne_eqb}
 use Rattle.lk_ast.specs.Tables.{Tables}
 use Rattle.lk_ast.specs.declared.table.Base.TheVariants as base
 use Rattle.lk_sql.specs.Meaning.{cell_in}
 use Rattle.lk_sql.specs.Operations.{operation, truth}
-use Rattle.lk_query.specs.Branches.{count_level, counts}
+use Rattle.lk_query.specs.Branches.{counts}
 use Rattle.lk_query.specs.Given.{at_labels, cell_with, cells_given, equal_rows, extended, given_level, gives, is_empty, of_base, of_list, of_row, row_with}
 use Rattle.lk_query.specs.Order.{AllBelow, AreOrdered, Below, LabelledBelow, bind, filled, filled_from}
 use Rattle.lk_query.specs.declared.part.Labelled.{Labelled}
@@ -107,23 +107,3 @@ pub gives-at : (tables : Tables) (parts : List Part) (i : ℕ) (x : Part) → Ar
 unfolding gives
 gives-at tables parts i x ordered e = filled-at (given_level tables) (given_local tables) _ parts i x ordered e
 
--- ---- how many branches parts have
-
-count_local : IsLocal count_level
-count_local f g n same (part.Lit b) l = refl
-count_local f g n same part.Bound l = refl
-count_local f g n same (part.Case c a b) l = refl
-count_local f g n same (part.If c a b) l = ap₂ (λ a b. a + b) (same a l.1) (same b l.2)
-count_local f g n same (part.IfRow labels c a b) l = refl
-count_local f g n same (part.One o a) l = refl
-count_local f g n same (part.Two o a b) l = refl
-count_local f g n same (part.EqRows labels a b) l = refl
-count_local f g n same (part.Empty columns list) l = refl
-count_local f g n same (part.Record items) l = refl
-count_local f g n same (part.Extend labels items rest) l = refl
-count_local f g n same (part.Project a label) l = refl
-count_local f g n same (part.Items items) l = refl
-count_local f g n same (part.Append a b) l = ap₂ (λ a b. a + b) (same a l.0) (same b l.1)
-count_local f g n same (part.ForList list x body) l = ap₂ (λ list body. list * body) (same list l.0) (same body l.2)
-count_local f g n same (part.Table table labels) l = refl
-count_local f g n same (part.Where c list) l = same list l.1

@@ -11,9 +11,6 @@ infix 4 ◌⊑◌
 abbrev pub ◌⊑◌ : {X : Type 0} → Result X Stop → Result X Stop → Type 0
 a ⊑ b = (a ≡ Err Spent) ⊎ (a ≡ b)
 
-pub below-refl : {X : Type 0} (a : Result X Stop) → a ⊑ a
-below-refl a = inr refl
-
 pub below-at : {X : Type 0} (a b c : Result X Stop) → a ≡ b → b ⊑ c → a ⊑ c
 below-at a b c e (inl s) = inl (e ∙ s)
 below-at a b c e (inr s) = inr (e ∙ s)

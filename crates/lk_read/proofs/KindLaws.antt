@@ -1,8 +1,7 @@
 -- What the tests of tokens say: a token of each kind passes its own test, and no test of another kind.
-use Rattle.std.proofs.Common.{◌≡◌, ℕ, true, false, List, refl, sym, ap, ◌∙◌, inl, inr}
-use Rattle.std.specs.Prelude.{codes, not}
+use Rattle.std.proofs.Common.{◌≡◌, ℕ, true, false, List, refl, ap}
+use Rattle.std.specs.Prelude.{codes}
 use Rattle.std.specs.Str.{bytes_eq}
-use Rattle.std.proofs.lemmas.Bool.{cases_Bool}
 use Rattle.std.proofs.lemmas.Slice.Eq.{bytes_eq-Decides}
 use Rattle.lk_ast.specs.declared.token.Token.{Token}
 use Rattle.lk_ast.specs.declared.token.TokenKind.{TokenKind}
@@ -67,17 +66,9 @@ pub sign_word : (a b : List ℕ) (t : Token) → IsSign a t → is_word b t ≡ 
 unfolding is_word
 sign_word a b t e = ap (is_word_kind b) e
 
-pub sign_tag : (a b : List ℕ) (t : Token) → IsSign a t → is_tag b t ≡ false
-unfolding is_tag
-sign_tag a b t e = ap (is_tag_kind b) e
-
 pub sign_name : (a : List ℕ) (t : Token) → IsSign a t → is_name t ≡ false
 unfolding is_name
 sign_name a t e = ap is_name_kind e
-
-pub sign_any_tag : (a : List ℕ) (t : Token) → IsSign a t → is_any_tag t ≡ false
-unfolding is_any_tag
-sign_any_tag a t e = ap is_any_tag_kind e
 
 -- ---- a word
 
@@ -88,14 +79,6 @@ word_sign a b t e = ap (is_sign_kind b) e
 pub word_word : (a b : List ℕ) (t : Token) → IsWord a t → is_word b t ≡ bytes_eq a b
 unfolding is_word
 word_word a b t e = ap (is_word_kind b) e
-
-pub word_name : (a : List ℕ) (t : Token) → IsWord a t → is_name t ≡ not (is_keyword a)
-unfolding is_name
-word_name a t e = ap is_name_kind e
-
-pub word_any_tag : (a : List ℕ) (t : Token) → IsWord a t → is_any_tag t ≡ false
-unfolding is_any_tag
-word_any_tag a t e = ap is_any_tag_kind e
 
 -- ---- a tag
 
@@ -123,35 +106,6 @@ name_sign_kind b (Sign c) e = absurd cc
 pub name_sign : (b : List ℕ) (t : Token) → IsName t → is_sign b t ≡ false
 unfolding is_name is_sign
 name_sign b t e = name_sign_kind b t.kind e
-
-name_tag_kind : (b : List ℕ) (k : TokenKind) → is_name_kind k ≡ true → is_tag_kind b k ≡ false
-name_tag_kind b (Word c) e = refl
-name_tag_kind b (Tag c) e = absurd cc
-name_tag_kind b (Int c) e = absurd cc
-name_tag_kind b (Text c) e = absurd cc
-name_tag_kind b (Sign c) e = absurd cc
-
-pub name_tag : (b : List ℕ) (t : Token) → IsName t → is_tag b t ≡ false
-unfolding is_name is_tag
-name_tag b t e = name_tag_kind b t.kind e
-
--- no name is a keyword
-name_keyword : (b c : List ℕ) → not (is_keyword b) ≡ false → not (is_keyword c) ≡ true → bytes_eq c b ≡ false
-name_keyword b c h e = elim (cases_Bool (bytes_eq c b)) [
-  | inl q ↦ let same : c ≡ b = (bytes_eq-Decides c b).0 q in let bad : false ≡ true = sym h ∙ ap (λ (z : List ℕ). not (is_keyword z)) (sym same) ∙ e in absurd cc
-  | inr q ↦ q
-]
-
-name_word_kind : (b : List ℕ) (k : TokenKind) → not (is_keyword b) ≡ false → is_name_kind k ≡ true → is_word_kind b k ≡ false
-name_word_kind b (Word c) h e = name_keyword b c h e
-name_word_kind b (Tag c) h e = refl
-name_word_kind b (Int c) h e = refl
-name_word_kind b (Text c) h e = refl
-name_word_kind b (Sign c) h e = refl
-
-pub name_word : (b : List ℕ) (t : Token) → not (is_keyword b) ≡ false → IsName t → is_word b t ≡ false
-unfolding is_name is_word
-name_word b t h e = name_word_kind b t.kind h e
 
 -- ---- any tag
 

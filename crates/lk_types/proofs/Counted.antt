@@ -24,31 +24,6 @@ use Rattle.std.proofs.lemmas.Bool.Decides.{nat_tests}
 
 -- ---- one count
 
-pub small_count : (c n : ℕ) → c ≡ n → n ≤ 4096 → IsCount c n
-small_count c n is small = inl (is, small)
-
-pub large_count : (c n : ℕ) → c ≡ 4097 → 4096 < n → IsCount c n
-large_count c n is large = inr (is, large)
-
-pub both_small : (a b s c : ℕ) → s ≡ a + b → IsCount c s → (n m : ℕ) → IsCount a n → IsCount b m → IsCount c (n + m)
-both_small a b s c sum (inl (is, small)) n m (inl (an, x)) (inl (bm, y)) = inl (omega arith, omega arith)
-both_small a b s c sum (inl (is, small)) n m (inl (an, x)) (inr (bm, y)) = absurd (omega arith)
-both_small a b s c sum (inl (is, small)) n m (inr (an, x)) (inl (bm, y)) = absurd (omega arith)
-both_small a b s c sum (inl (is, small)) n m (inr (an, x)) (inr (bm, y)) = absurd (omega arith)
-both_small a b s c sum (inr (is, large)) n m (inl (an, x)) (inl (bm, y)) = inr (is, omega arith)
-both_small a b s c sum (inr (is, large)) n m (inl (an, x)) (inr (bm, y)) = inr (is, omega arith)
-both_small a b s c sum (inr (is, large)) n m (inr (an, x)) (inl (bm, y)) = inr (is, omega arith)
-both_small a b s c sum (inr (is, large)) n m (inr (an, x)) (inr (bm, y)) = inr (is, omega arith)
-
-pub both_large : (a b : ℕ) → 4096 < a + b → (n m : ℕ) → IsCount a n → IsCount b m → IsCount 4097 (n + m)
-both_large a b large n m (inl (an, x)) (inl (bm, y)) = inr (refl, omega arith)
-both_large a b large n m (inl (an, x)) (inr (bm, y)) = inr (refl, omega arith)
-both_large a b large n m (inr (an, x)) (inl (bm, y)) = inr (refl, omega arith)
-both_large a b large n m (inr (an, x)) (inr (bm, y)) = inr (refl, omega arith)
-
-pub count_none : IsCount 0 0
-count_none = inl (refl, omega arith)
-
 pub count_one : IsCount 1 1
 count_one = inl (refl, omega arith)
 
@@ -143,12 +118,6 @@ module _ (ts : List Ty) (l : Level) (c : ℕ) where
   level_var n is = of_level (level.Var n) 1 is (nodes_variable one n)
 
 -- ---- all levels
-
-none_below : (n : ℕ) → n < 0 → ⊥
-none_below n less = omega arith
-
-pub counts_none : (ts : List Ty) (counts : List ℕ) → counts ≡ [] → AreCounts counts ts
-counts_none ts counts is k less = absurd (none_below k (subst (λ xs. k < length xs) is less))
 
 pub counts_more : (ts : List Ty) (counts : List ℕ) (c : ℕ) → AreCounts counts ts → IsCount c (nodes (at ts (length counts))) → AreCounts (counts ++ c ∷ []) ts
 counts_more ts counts c are is k less = by_place counts k (subst (λ n. k < n) (length-append counts (c ∷ [])) less)

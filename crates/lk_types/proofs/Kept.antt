@@ -281,9 +281,6 @@ module _ (levels kept_copy : List Level) (r number : ℕ) (roots places : List �
   are_places : ArePlaces levels (r ∷ []) places
   are_places = subst (λ rs. ArePlaces levels rs places) is are
 
-  pub one_within : Each (λ p. p < length levels) places
-  one_within = places_within levels (r ∷ []) table places are_places
-
   pub one_thin : IsThin kept_copy number
   one_thin = subst (IsThin kept_copy) (sym numbered) (subst (λ ls. IsThin ls (number_in places r)) (sym copied) (record {
     table = kept_table levels (r ∷ []) table places are_places;

@@ -1,6 +1,5 @@
 -- Lists of lists, one behind the other or with something between.
-use Rattle.std.proofs.Common.{◌≡◌, ℕ, ◌≤◌, List, [], ◌∷◌, ◌++◌, map, take, length, refl, sym, ap, ◌∙◌, append_assoc, append-nil}
-use Rattle.std.proofs.lemmas.List.{take_all}
+use Rattle.std.proofs.Common.{◌≡◌, ℕ, List, [], ◌∷◌, ◌++◌, map, refl, sym, ap, ◌∙◌, append_assoc, append-nil}
 use Rattle.std.specs.List.{join_by}
 use Rattle.std.specs.Prelude.{codes, flat_map}
 use Rattle.lk_types.specs.TypeText.{separated}
@@ -36,13 +35,3 @@ front f (x ∷ xs) = f x
 -- what stands behind a comma each
 abbrev pub behind : {X : Type 0} → (X → List ℕ) → List X → List ℕ
 behind f xs = flat_map (λ x. codes "," ++ f x) xs
-
--- the first one, and the others behind commas
-pub listed : {X : Type 0} (f : X → List ℕ) (old text : List ℕ) (xs rest : List X) (x : X) (i : ℕ) → xs ≡ x ∷ rest → length rest ≤ i
-    → text ≡ (old ++ front f xs) ++ behind f (take i rest) → text ≡ old ++ join_by f (codes ",") xs
-listed f old text xs rest x i is end was =
-    was
-    ∙ ap (λ z. (old ++ front f z) ++ behind f (take i rest)) is
-    ∙ ap (λ z. (old ++ f x) ++ behind f z) (take_all i rest end)
-    ∙ append_assoc old (f x) (behind f rest)
-    ∙ ap (λ z. old ++ join_by f (codes ",") z) (sym is)

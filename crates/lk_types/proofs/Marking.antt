@@ -173,16 +173,6 @@ module _ (levels : List Level) (roots : List ℕ) (table : IsTable levels roots)
             split (inl same) = subst (λ o. Each (IsOn (with_marks marks (parts_of l))) (parts_of o)) (some_is (sym there ∙ ap (slice_get levels) same ∙ at_n)) (marks_all marks (parts_of l) within)
             split (inr above) = each_map (λ p old. marks_keep marks (parts_of l) p old) (parts_of m) (marking.parts n m above (old_on n above (marks_only marks (parts_of l) n new_on)) at_n)
 
-    pub marking_less : get_or marks k false ≡ false → IsMarking levels roots k marks
-    marking_less off = record { long = marking.long; sound = marking.sound; start = marking.start; parts = λ n m from on there. split n m on there (here_or_on k n from) }
-      where
-        split : (n : ℕ) (m : Level) → IsOn marks n → slice_get levels n ≡ Some m → (k ≡ n) ⊎ (k + 1 ≤ n) → Each (IsOn marks) (parts_of m)
-        split n m on there (inl same) = absurd (both (sym off ∙ ap (λ j. get_or marks j false) same ∙ on))
-          where
-            both : false ≡ true → ⊥
-            both wrong = cc
-        split n m on there (inr above) = marking.parts n m above on there
-
   pub marking_all : (marks : List Bool) → IsMarking levels roots 0 marks → AreMarked levels roots marks
   marking_all marks marking = record { long = marking.long; sound = marking.sound; whole = all_on }
     where

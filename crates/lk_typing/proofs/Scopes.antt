@@ -19,15 +19,8 @@ module _ (σ : Grounding) where
   types_seen f [] = refl
   types_seen f (e ∷ es) = ap (λ more. f e.1 ∷ more) (types_seen f es)
 
-  names_seen : {A B : Type 0} (f : A → B) (entries : Named A) → names_of (seen f entries) ≡ names_of entries
-  names_seen f [] = refl
-  names_seen f (e ∷ es) = ap (λ more. e.0 ∷ more) (names_seen f es)
-
   pub same_types : (a : Named Ty) (b : Named Ground) → Names σ a b → Become σ (types_of a) (types_of b)
   same_types a b is = sym (types_seen (under σ) a) ∙ ap types_of is.same ∙ types_seen (λ t. Some t) b
-
-  pub same_names : (a : Named Ty) (b : Named Ground) → Names σ a b → names_of a ≡ names_of b
-  same_names a b is = sym (names_seen (under σ) a) ∙ ap names_of is.same ∙ names_seen (λ t. Some t) b
 
   -- what stands for parameters
   pub params_known : ℕ → List Word → Named Ground
