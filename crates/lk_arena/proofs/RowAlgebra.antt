@@ -1,11 +1,13 @@
 -- Two rows side by side: what they share, and what each has besides (Rémy, Type inference for records in a natural extension of
 -- ML, 1993).
-use Rattle.std.proofs.Common.{◌≡◌, ℕ, ◌+◌, ◌<◌, Bool, true, false, List, [], ◌∷◌, length, get_or, drop, ◌⊎◌, inl, inr, ⊎_elim, refl, sym, ◌∙◌, ap, subst, Option, Some, None, cond}
+use Rattle.std.proofs.Common.{◌≡◌, ℕ, ◌+◌, ◌<◌, true, false, List, [], ◌∷◌, length, get_or, drop, ◌⊎◌, inl, inr, ⊎_elim, refl, sym, ◌∙◌, ap, subst, Option, Some, None, cond}
 use Rattle.std.proofs.lemmas.List.{drop_more}
 use Rattle.std.specs.Cmp.Lexicographic.{nat_list_cmp_total, bytes_decides}
 use Rattle.std.specs.FinMap as fin
 use Rattle.std.specs.Prelude.{is_some, not}
 use Rattle.std.specs.Str.{bytes_eq}
+use Rattle.std.proofs.lemmas.Bool.{cases_Bool}
+use Rattle.std.proofs.lemmas.Option.{none-some}
 use Rattle.lk_types.proofs.Members.{each_weaker}
 use Rattle.lk_types.specs.Each.{Each}
 use Rattle.lk_types.specs.Rows.{Label, label_order}
@@ -30,12 +32,8 @@ same_rows m n h e =
     let f = fin.same_map nat_list_cmp_total (fin.slice_cmp-IsAntisymmetric fin.nat_cmp-IsAntisymmetric) m.fields n.fields h in
     λ i. record { fields = f i; tail = e i }
 
-pub bool_cases : (b : Bool) → (b ≡ true) ⊎ (b ≡ false)
-bool_cases true = inl refl
-bool_cases false = inr refl
-
 pub label_cases : (a b : Label) → ((bytes_eq a b ≡ true) × (a ≡ b)) ⊎ (bytes_eq a b ≡ false)
-label_cases a b = ⊎_elim (λ e. inl (e, (bytes_decides a b).0 e)) (λ e. inr e) (bool_cases (bytes_eq a b))
+label_cases a b = ⊎_elim (λ e. inl (e, (bytes_decides a b).0 e)) (λ e. inr e) (cases_Bool (bytes_eq a b))
 
 -- ---- found_at at each form
 
@@ -91,9 +89,6 @@ Each-lacking (f ∷ fs) gs = kept (found_at gs f.label) refl (Each-lacking fs gs
 
 some-some : {m n : ℕ} → Some m ≡ Some n → m ≡ n
 some-some e = cc
-
-none-some : {A : Type 0} (n : A) → None ≡ Some n → ⊥
-none-some n e = cc
 
 -- labels that both have stand for one value each
 pub common_at : (w : ℕ → Value) (fs gs : List Field) → Equates (common fs gs) w → (l : Label) (x y : ℕ) → found_at fs l ≡ Some x → found_at gs l ≡ Some y → w x ≡ w y

@@ -1,8 +1,9 @@
 -- The JSON of a value holds no float, so that its text is known.
-use Rattle.std.proofs.Common.{◌≡◌, List, [], ◌∷◌, map, fold, Bool, true, false, ◌||◌, Ordering, Less, Equal, Greater, pos, negsuc, refl, ap, ap₂, ◌∙◌, subst, ℕ}
+use Rattle.std.proofs.Common.{◌≡◌, List, [], ◌∷◌, map, fold, Bool, true, false, ◌||◌, Ordering, Less, Equal, Greater, pos, negsuc, refl, ap, ◌∙◌, subst, ℕ}
 use Rattle.std.specs.Prelude.{⊤}
 use Rattle.std.specs.Ordering.{nat_cmp, match_ordering}
 use Rattle.std.specs.Cmp.Lexicographic.{slice_cmp}
+use Rattle.std.proofs.lemmas.Bool.{or_from}
 use Rattle.serde_json.specs.Data.{Data, Members, no_members, member, put}
 use Rattle.serde_json.specs.Written.{has_float, items_have_float, members_have_float}
 use Rattle.serde_json.specs.View.{items_of}
@@ -14,9 +15,6 @@ use Rattle.lk_ast.specs.declared.value.FunValue.{FunValue}
 use Rattle.lk_ast.specs.declared.value.Value.{Value, roll-Value}
 use Rattle.lk_ast.specs.declared.value.Value.TheFolds.{ind-Value, fold-Field, fold-FunValue, fold-roll-Value, fold-roll-Field, map-Value}
 use Rattle.lk_ast.specs.declared.value.Value.TheOpen.{Value-F, Field-F}
-
-either_false : (a b : Bool) → a ≡ false → b ≡ false → (a || b) ≡ false
-either_false a b p q = ap₂ (λ x y. x || y) p q
 
 left_false : (a b : Bool) → (a || b) ≡ false → a ≡ false
 left_false true b p = p
@@ -39,11 +37,11 @@ chosen Equal a b c p q r = q
 chosen Greater a b c p q r = r
 
 put-exact : (k : List ℕ) (d : Data) (ms : Members) → IsExact d → AreExact ms → AreExact (put k d ms)
-put-exact k d no_members p q = either_false _ _ p q
+put-exact k d no_members p q = or_from _ _ p q
 put-exact k d (member l e ms) p q =
     let here : has_float e ≡ false = left_false _ _ q in
     let later : members_have_float ms ≡ false = right_false (has_float e) _ q in
-    chosen (slice_cmp nat_cmp k l) _ _ _ (either_false _ _ p q) (either_false _ _ p later) (either_false _ _ here (put-exact k d ms p later))
+    chosen (slice_cmp nat_cmp k l) _ _ _ (or_from _ _ p q) (or_from _ _ p later) (or_from _ _ here (put-exact k d ms p later))
 
 base-exact : (b : Base) → IsExact (base_data b)
 base-exact (Int (pos n)) = refl
@@ -76,7 +74,7 @@ SuchFun = (f : FunValue) × ⊤
 
 elements-exact : (vs : List Such) → items_have_float (items_of (map value_data (map (λ v. v.0) vs))) ≡ false
 elements-exact [] = refl
-elements-exact (v ∷ vs) = either_false _ _ v.1 (elements-exact vs)
+elements-exact (v ∷ vs) = or_from _ _ v.1 (elements-exact vs)
 
 members-exact : (ms : Members) (fs : List SuchField) → AreExact ms → AreExact (fold (λ ms e. put e.0 e.1 ms) ms (map entry (map (λ f. f.0) fs)))
 members-exact ms [] p = p
@@ -91,7 +89,7 @@ level-exact : (y : Value-F Such SuchField SuchFun)
 level-exact (Value-F.Base b) = base-exact b
 level-exact (Value-F.List vs) = elements-exact vs
 level-exact (Value-F.Fields fs) = record-exact fs
-level-exact (Value-F.Tag t v) = either_false _ _ v.1 refl
+level-exact (Value-F.Tag t v) = or_from _ _ v.1 refl
 level-exact (Value-F.Fun f) = refl
 
 value_data-roll : (x : Value-F Value Field FunValue) → value_data (roll-Value x) ≡ level_data (map-Value Value Field FunValue Data Entry ⊤ value_data entry nothing x)

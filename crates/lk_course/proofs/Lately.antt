@@ -1,5 +1,5 @@
 -- A session only gets later, and takes its own steps first.
-use Rattle.std.proofs.Common.{◌≡◌, ℕ, ◌+◌, ◌≤◌, ◌⊎◌, inl, inr, List, [], ◌∷◌, ◌++◌, refl, sym, ◌∙◌, ap, arith, append_assoc, append-nil}
+use Rattle.std.proofs.Common.{◌≡◌, ℕ, ◌+◌, ◌≤◌, ◌⊎◌, inl, inr, List, [], ◌∷◌, ◌++◌, refl, sym, ap, arith, append-nil}
 use Rattle.std.specs.Prelude.{Option, Some, None}
 use Rattle.lk_ast.specs.declared.event.Event.{Event}
 use Rattle.lk_ast.specs.declared.event.Event.TheVariants.{Enter, Leave}
@@ -11,6 +11,7 @@ use Rattle.lk_evaluation.specs.Run.{Called, Callee, Crossing, Entry, Goes, Out, 
 use Rattle.lk_moves.specs.Courses.{Evaluation}
 use Rattle.lk_moves.specs.Later.{Later, Reaches, Rise}
 use Rattle.lk_moves.specs.Meaning.{Meaning}
+use Rattle.lk_moves.proofs.Rising.{reaches_on}
 use Rattle.lk_course.specs.Counting.{StepsFirst}
 use Rattle.lk_course.specs.Laws.{LaterLaw, LogsFirst, OnlyLater}
 use Rattle.lk_course.specs.Standing.{Asks, Calls, Kept, Reply, Request, Resumes, Returns, Traps, crossing_of, enters, here, kept_rest, leaves, replied, requested, visited, waiting}
@@ -31,19 +32,12 @@ rise_append n (entry ∷ log) m more last first second = (first.0, rise_append e
 
 -- ---- one behind another
 
-pub further : (n : ℕ) (log : List Entry) (r s : Run) → Reaches n log r → Reaches r.steps r.log s → Reaches n log s
-further n log r s first second = record {
-  more = first.more ++ second.more;
-  logged = second.logged ∙ ap (λ before. before ++ second.more) first.logged ∙ append_assoc log first.more second.more;
-  rise = rise_append n first.more r.steps second.more s.steps first.rise second.rise;
-}
-
 module _ (n : ℕ) (log : List Entry) where
   abbrev Gets : Out Value → Type 0
   Gets out = Reaches n log (run_of out)
 
   pub then_reaches : (out : Out Value) (k : Value → Evaluation) → Gets out → ((v : Value) (s : Run) → Later s.steps s (k v s)) → Gets (and_then out k)
-  then_reaches (Goes v s) k gets later = further n log s (run_of (k v s)) gets (later v s)
+  then_reaches (Goes v s) k gets later = reaches_on n log s (run_of (k v s)) gets (later v s)
   then_reaches (Stops stop s) k gets later = gets
 
 pub at_once : (r : Run) → Reaches r.steps r.log r
@@ -108,7 +102,7 @@ module _ {Frame : Type 0} (m : Meaning Frame) (only : OnlyLater m) where
   behind_enter q r = then_reaches r.steps (logs Enter (crossing_of m q) r).log (requested m q (logs Enter (crossing_of m q) r)) leaves (requested_later q (logs Enter (crossing_of m q) r)) leaves_later
 
   visited_later : (q : Request Frame) (r : Run) → Later r.steps r (visited m q r)
-  visited_later q r = further r.steps r.log (logs Enter (crossing_of m q) r) (run_of (visited m q r)) (with_entry Enter (crossing_of m q) r) (behind_enter q r)
+  visited_later q r = reaches_on r.steps r.log (logs Enter (crossing_of m q) r) (run_of (visited m q r)) (with_entry Enter (crossing_of m q) r) (behind_enter q r)
 
   called_later : (returns : Option (List Value)) (callee : Callee) (args : List Value) (body : Evaluation) → ((r : Run) → Later r.steps r (body r)) → (r : Run) → Later r.steps r (client_call returns callee args body r)
   called_later None callee args body later r = then_reaches r.steps r.log (body r) enters (later r) enters_later
@@ -140,7 +134,7 @@ module _ {Frame : Type 0} (m : Meaning Frame) (only : OnlyLater m) where
   ask_steps label args frames r =
       let left : Run = logs Leave (Called (m.callee label args) (m.passed label args)) (step r) in
       let called : Out Value = client_call r.returns (m.callee label args) (m.passed label args) (m.does label args Client) left in
-      let first : Reaches (r.steps + 1) r.log (run_of called) = further (r.steps + 1) r.log left (run_of called) (with_step Leave (Called (m.callee label args) (m.passed label args)) r)
+      let first : Reaches (r.steps + 1) r.log (run_of called) = reaches_on (r.steps + 1) r.log left (run_of called) (with_step Leave (Called (m.callee label args) (m.passed label args)) r)
       (called_later r.returns (m.callee label args) (m.passed label args) (m.does label args Client) (only.labels label args Client) left) in
       inl (then_reaches (r.steps + 1) r.log (and_then called (m.rest frames Server)) leaves (then_reaches (r.steps + 1) r.log called (m.rest frames Server) first (only.frames frames Server)) leaves_later)
 

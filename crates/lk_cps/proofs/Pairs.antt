@@ -3,12 +3,7 @@ use Rattle.std.proofs.Common.{◌≡◌, sym, ap, subst, ℕ, zero, suc, ◌+◌
 use Rattle.std.proofs.lemmas.Option.{none-some}
 use Rattle.lk_types.proofs.Parts.{same_some}
 use Rattle.lk_evaluation.specs.Laws.{Both}
-
-both_end : {A B : Type 0} (R : A → B → Type 0) (xs : List A) (ys : List B) (x : A) (y : B) → Both R xs ys → R x y → Both R (xs ++ x ∷ []) (ys ++ y ∷ [])
-both_end R [] [] x y both one = (one, tt)
-both_end R [] (z ∷ ys) x y both one = absurd both
-both_end R (z ∷ xs) [] x y both one = absurd both
-both_end R (w ∷ xs) (z ∷ ys) x y both one = (both.0, both_end R xs ys x y both.1 one)
+use Rattle.lk_evaluation.proofs.Matching.{both-push}
 
 take_one : {A : Type 0} (xs : List A) (i : ℕ) (x : A) → slice_get xs i ≡ Some x → take (suc i) xs ≡ take i xs ++ x ∷ []
 take_one [] i x at = absurd (none-some x at)
@@ -19,4 +14,4 @@ pub both_more : {A B : Type 0} (R : A → B → Type 0) (xs : List A) (i : ℕ) 
 both_more R xs i ys more x y at is both one =
     let next : suc i ≡ i + 1 = omega arith in
     subst (λ n. Both R (take n xs) more) next
-    (subst (λ zs. Both R (take (suc i) xs) zs) (sym is) (subst (λ zs. Both R zs (ys ++ y ∷ [])) (sym (take_one xs i x at)) (both_end R (take i xs) ys x y both one)))
+    (subst (λ zs. Both R (take (suc i) xs) zs) (sym is) (subst (λ zs. Both R zs (ys ++ y ∷ [])) (sym (take_one xs i x at)) (both-push R (take i xs) ys x y both one)))

@@ -1,8 +1,9 @@
 -- What the grammar derives is read, unless the room is too small: operators, calls and fields. What stands before the
 -- turns of a loop is read whatever the turns that are left give.
 use Rattle.std.proofs.Common.{◌≡◌, ℕ, zero, suc, ◌≤◌, Bool, true, false, List, [], ◌∷◌, ◌++◌, Ok, refl, sym, ap, ◌∙◌, append_assoc, arith}
-use Rattle.std.specs.Prelude.{codes, not, ◌||◌}
+use Rattle.std.specs.Prelude.{codes, not}
 use Rattle.std.specs.Str.{bytes_eq}
+use Rattle.std.proofs.lemmas.Bool.{or_left, or_right}
 use Rattle.lk_ast.specs.declared.expression.Expr.{Expr}
 use Rattle.lk_ast.specs.declared.token.Token.{Token}
 use Rattle.lk_read.specs.Kinds.{IsSign, IsName, is_sign}
@@ -197,20 +198,12 @@ not_both f ok t = both (is_tag_end f.ends) ok t
     both true p q = absurd cc
     both false p q = absurd cc
 
-or_first : (a b : Bool) → a ≡ true → (a || b) ≡ true
-or_first true b e = refl
-or_first false b e = absurd cc
-
-or_second : (a b : Bool) → b ≡ true → (a || b) ≡ true
-or_second true b e = refl
-or_second false b e = e
-
 pub call_finds : (o c : Token) (u w : List Token) (f : Part) (args : List Expr) → Postfix_finds u f → takes_call f ≡ true → IsSign (codes "(") o → Args_finds (codes ")") w args → IsSign (codes ")") c → Postfix_finds (u ++ o ∷ (w ++ c ∷ [])) (called f args c)
 unfolding postfix_turn call_with
 call_finds o c u w f args p ok h a k n z v un more = let opens = here (codes "(") o h refl in
     along (POSTFIX n) v (sym (append_assoc u (o ∷ (w ++ c ∷ [])) z ∙ ap (λ (y : List Token). u ++ o ∷ y) (append_assoc w (c ∷ []) z)))
     (p n (o ∷ (w ++ c ∷ z)) v (λ t. absurd (not_both f ok t))
-    (many-goes postfix_next _ f (o ∷ (w ++ c ∷ z)) (or_first (is_sign (codes "(") o) (is_sign (codes ".") o) opens)
+    (many-goes postfix_next _ f (o ∷ (w ++ c ∷ z)) (or_left (is_sign (codes "(") o) (is_sign (codes ".") o) opens)
     (when-yes _ _ _ _ opens (given-finds _ _ _ ok (eat-finds _ _ _ _ opens (bind-finds _ _ _ (a n c z k) (eat-finds _ _ _ _ (here (codes ")") c k refl) (give-finds _ _))))))
     more))
 
@@ -219,7 +212,7 @@ unfolding postfix_turn read_field
 project_finds d l u e p h k n z v un more = let dot = here (codes ".") d h refl in let other = sign_sign (codes ".") (codes "(") d h in
     along (POSTFIX n) v (sym (append_assoc u (d ∷ l ∷ []) z))
     (p n (d ∷ l ∷ z) v (λ t. other)
-    (many-goes postfix_next _ e (d ∷ l ∷ z) (or_second (is_sign (codes "(") d) (is_sign (codes ".") d) dot)
+    (many-goes postfix_next _ e (d ∷ l ∷ z) (or_right (is_sign (codes "(") d) (is_sign (codes ".") d) dot)
     (when-no _ _ _ _ other (eat-finds _ _ _ _ dot (eat-finds _ _ _ _ k (give-finds _ _))))
     more))
 

@@ -3,6 +3,7 @@ use Rattle.std.proofs.Common.{◌≡◌, ℕ, Bool, true, false, List, [], ◌�
 use Rattle.std.specs.Prelude.{codes, ◌||◌, not}
 use Rattle.std.proofs.lemmas.Bool.{cases_Bool}
 use Rattle.std.specs.Option.{is_none}
+use Rattle.std.proofs.Math.Bool.{or-true}
 use Rattle.lk_ast.specs.declared.expression.Case.{Case}
 use Rattle.lk_ast.specs.declared.token.Token.{Token}
 use Rattle.lk_ast.specs.declared.token.TokenKind.TheVariants.{Sign, Word as A_word}
@@ -136,10 +137,6 @@ case_token = some_token (A_word (codes "case"))
 abbrev x_token : Token
 x_token = some_token (A_word (codes "x"))
 
-or_true : (b : Bool) → (b || true) ≡ true
-or_true true = refl
-or_true false = refl
-
 or_false : (b c : Bool) → (b || not c) ≡ false → c ≡ true
 or_false true c e = absurd cc
 or_false false true e = refl
@@ -163,7 +160,7 @@ closes_later make cases none =
         cases = all;
         is = sym (append_assoc v (case_token ∷ x_token ∷ arrow_token ∷ b.more) (brace_token ∷ []));
         of = IsCases.final_case case_token x_token arrow_token q (or_false (not (is_nil cases.list)) (is_none cases.last) none) refl x_names refl b.whole;
-        some = or_true (not (is_nil cases.list));
+        some = or-true (not (is_nil cases.list));
         closes = refl;
         makes = refl;
       };

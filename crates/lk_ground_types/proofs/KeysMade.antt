@@ -8,7 +8,8 @@ use Rattle.std.specs.List.{AllByRecursion}
 use Rattle.std.specs.List.Sorted.{IsStrictlySortedBy}
 use Rattle.std.specs.Map.{lookup}
 use Rattle.std.specs.Ordering.{eq_by_cmp, match_ordering}
-use Rattle.lk_types.proofs.LabelMaps.{both_hold, same_maps}
+use Rattle.std.proofs.Math.Facts.{yes_and}
+use Rattle.lk_types.proofs.LabelMaps.{same_maps}
 use Rattle.lk_types.specs.Rows.{label_order}
 use Rattle.lk_ground_types.specs.Grounds.{Numbers}
 
@@ -38,7 +39,7 @@ module _ {Z : Type 0} where
   sorted_keyed : (es : List (Vec ℕ Z × ℕ)) → AreAscending es → T (fin.is_sorted label_order (keyed es))
   unfolding IsStrictlySortedBy
   sorted_keyed [] s = tt
-  sorted_keyed (e ∷ es) s = both_hold _ _ (below e.0 es s.0) (sorted_keyed es s.1)
+  sorted_keyed (e ∷ es) s = yes_and _ _ (below e.0 es s.0) (sorted_keyed es s.1)
 
   put_keyed : (k : Vec ℕ Z) (v : ℕ) (es : List (Vec ℕ Z × ℕ)) → fin.put label_order k.items v (keyed es) ≡ keyed (insert_entry (λ (x y : Vec ℕ Z). slice_cmp nat_cmp x.items y.items) es k v)
   put_keyed k v [] = refl

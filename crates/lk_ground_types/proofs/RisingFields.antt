@@ -4,7 +4,8 @@ use Rattle.std.specs.Cmp.Lexicographic.{nat_list_cmp_total}
 use Rattle.std.specs.FinMap as fin
 use Rattle.std.specs.FinMap.Entries.{below_all}
 use Rattle.std.specs.Ordering.{eq_by_cmp}
-use Rattle.lk_types.proofs.LabelMaps.{both_hold, entries_back, same_maps}
+use Rattle.std.proofs.Math.Facts.{yes_and}
+use Rattle.lk_types.proofs.LabelMaps.{entries_back, same_maps}
 use Rattle.lk_types.specs.Rows.{Label, label_order}
 use Rattle.lk_types.specs.declared.levels.LevelField.{LevelField}
 use Rattle.lk_ground_types.specs.Becoming.{fields_put, number_at, part_at, AreRising}
@@ -20,12 +21,12 @@ module _ (ns : List ℕ) where
   below_rest : (l : Label) (f : LevelField) (fs : List LevelField) → label_order l f.label ≡ Less → AreRising (f ∷ fs) → T (below_all label_order l (map entry (f ∷ fs)))
   below_rest l f [] lower rising = subst (λ o. T (is_lt o && true)) (sym lower) tt
   below_rest l f (g ∷ gs) lower rising =
-      both_hold _ _ (subst (λ o. T (is_lt o)) (sym lower) tt) (below_rest l g gs (nat_list_cmp_total.trans l f.label g.label lower rising.0) rising.1)
+      yes_and _ _ (subst (λ o. T (is_lt o)) (sym lower) tt) (below_rest l g gs (nat_list_cmp_total.trans l f.label g.label lower rising.0) rising.1)
 
   sorted_rising : (fs : List LevelField) → AreRising fs → T (fin.is_sorted label_order (map entry fs))
   sorted_rising [] rising = tt
   sorted_rising (f ∷ []) rising = tt
-  sorted_rising (f ∷ g ∷ gs) rising = both_hold _ _ (below_rest f.label g gs rising.0 rising.1) (sorted_rising (g ∷ gs) rising.1)
+  sorted_rising (f ∷ g ∷ gs) rising = yes_and _ _ (below_rest f.label g gs rising.0 rising.1) (sorted_rising (g ∷ gs) rising.1)
 
   get_put : (fs : List LevelField) (q : Label) → fin.get (fields_put ns fs fin.empty) q ≡ fin.find label_order q (map entry fs)
   get_put [] q = fin.get-empty label_order q

@@ -12,7 +12,8 @@ use Rattle.std.specs.Map.{lookup}
 use Rattle.std.specs.Option.{option_or}
 use Rattle.std.specs.Ordering.{nat_cmp, eq_by_cmp}
 use Rattle.std.specs.Str.{bytes_eq}
-use Rattle.lk_types.proofs.LabelMaps.{Differ, Tied, both_hold, entries_back, find_here, find_rest, find_there, get_here, get_there, same_maps, sorted_rest, tie_cases}
+use Rattle.std.proofs.Math.Facts.{yes_and}
+use Rattle.lk_types.proofs.LabelMaps.{Differ, Tied, entries_back, find_here, find_rest, find_there, get_here, get_there, same_maps, sorted_rest, tie_cases}
 use Rattle.lk_types.specs.Rows.{Label, label_order}
 use Rattle.lk_ground_types.specs.Grounds.{Parts, parts_in}
 use Rattle.lk_ground_types.specs.declared.ground_level.GroundPart.{GroundPart}
@@ -92,7 +93,7 @@ module _ {Z : Type 0} where
   sorted_keyed : (es : List (String Z × ℕ)) → AreAscending es → T (fin.is_sorted label_order (keyed es))
   unfolding IsStrictlySortedBy
   sorted_keyed [] s = tt
-  sorted_keyed (e ∷ es) s = both_hold _ _ (below e.0 es s.0) (sorted_keyed es s.1)
+  sorted_keyed (e ∷ es) s = yes_and _ _ (below e.0 es s.0) (sorted_keyed es s.1)
 
   as_parts : (es : List (String Z × ℕ)) → map (λ e. part (string_bytes e.0) e.1) es ≡ map {A = Label × ℕ} (λ e. part e.0 e.1) (keyed es)
   as_parts [] = refl

@@ -1,5 +1,5 @@
 -- Words in byte order, each once.
-use Rattle.std.proofs.Common.{◌≡◌, refl, sym, ap, ◌∙◌, subst, ℕ, Bool, true, false, ◌&&◌, ◌||◌, cond, T, List, [], ◌∷◌, map, Option, Some, None}
+use Rattle.std.proofs.Common.{◌≡◌, refl, sym, ap, ◌∙◌, subst, ℕ, Bool, true, false, ◌||◌, cond, T, List, [], ◌∷◌, map, Option, Some, None}
 use Rattle.std.specs.Borrow.{Bor}
 use Rattle.std.specs.BTreeSet.{BTreeSet, IsFromIterResult}
 use Rattle.std.specs.Cmp.Lexicographic.{slice_cmp}
@@ -12,6 +12,7 @@ use Rattle.std.specs.Ordering.{nat_cmp, eq_by_cmp, is_lt}
 use Rattle.std.specs.declared.cmp.Ordering.{Ordering}
 use Rattle.std.specs.declared.cmp.Ordering.TheVariants.{Less}
 use Rattle.std.proofs.lemmas.Cmp.{nat_list_cmp_total}
+use Rattle.std.proofs.Math.Facts.{yes_and}
 use Rattle.lk_index.specs.Free.{texts, byte_order, in_byte_order}
 
 abbrev order : List ℕ → List ℕ → Ordering
@@ -27,18 +28,14 @@ find-keyed : (q : List ℕ) (words : List (List ℕ)) → find order q (keyed wo
 find-keyed q [] = refl
 find-keyed q (word ∷ words) = elim (eq_by_cmp order q word) as (λ b. cond b (Some (tt {0})) (find order q (keyed words)) ≡ found (b || list_any (eq_by_cmp order q) words)) [ true ↦ refl | false ↦ find-keyed q words ]
 
-both : (a b : Bool) → T a → T b → T (a && b)
-both true b p q = q
-both false b p q = p
-
 below-keyed : (x : List ℕ) (ks : List (List ℕ)) → AllByRecursion (λ y. order x y ≡ Less) ks → T (below_all order x (keyed ks))
 below-keyed x [] below = tt
-below-keyed x (k ∷ ks) below = both _ _ (subst (λ r. T (is_lt r)) (sym below.0) tt) (below-keyed x ks below.1)
+below-keyed x (k ∷ ks) below = yes_and _ _ (subst (λ r. T (is_lt r)) (sym below.0) tt) (below-keyed x ks below.1)
 
 sorted-keyed : (ks : List (List ℕ)) → IsStrictlySortedBy order ks → T (is_sorted order (keyed ks))
 unfolding IsStrictlySortedBy
 sorted-keyed [] rise = tt
-sorted-keyed (k ∷ ks) rise = both _ _ (below-keyed k ks rise.0) (sorted-keyed ks rise.1)
+sorted-keyed (k ∷ ks) rise = yes_and _ _ (below-keyed k ks rise.0) (sorted-keyed ks rise.1)
 
 keys-keyed : (ks : List (List ℕ)) → map (λ e. e.0) (keyed ks) ≡ ks
 keys-keyed [] = refl

@@ -1,6 +1,6 @@
 -- A pass through the declarations, from the start to one declaration more and to each of its ends.
 use Rattle.std.proofs.Common.{◌≡◌, ℕ, ◌+◌, ◌<◌, Bool, false, ◌||◌, List, [], ◌∷◌, ◌++◌, length, take, drop, get_or, sym, subst, subst₂, ap, ◌∙◌, append_assoc, append-nil, take-append-drop}
-use Rattle.std.proofs.lemmas.List.{take_more, drop_more}
+use Rattle.std.proofs.lemmas.List.{drop_more}
 use Rattle.lk_ast.specs.Functions.{functions_in}
 use Rattle.lk_ast.specs.declared.declaration.Decl.{Decl}
 use Rattle.lk_ast.specs.declared.declaration.Program.{Program}
@@ -94,10 +94,6 @@ module _ (program : Program) (done : List Decl) (large : Bool) (earlier : Named 
     ends_too_large too_large = ends_here (λ large steps. IsTooLarge large steps at) too_large
 
 -- ---- the declaration at a number
-
--- with it one declaration more is done
-pub taken_more : {A : Type 0} (xs : List A) (i : ℕ) (x : A) → i < length xs → x ≡ get_or xs i x → take (i + 1) xs ≡ take i xs ++ x ∷ []
-taken_more xs i x within is = take_more xs i x within ∙ ap (λ y. take i xs ++ y ∷ []) (sym is)
 
 -- it stands behind those that are done
 pub taken_at : {A : Type 0} (xs : List A) (i : ℕ) (x : A) → i < length xs → x ≡ get_or xs i x → xs ≡ take i xs ++ x ∷ drop (i + 1) xs

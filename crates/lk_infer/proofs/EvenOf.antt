@@ -20,13 +20,14 @@ use Rattle.lk_types.specs.declared.ty.Ty.{Ty}
 use Rattle.lk_types.specs.declared.ty.Ty.TheVariants as ty
 use Rattle.lk_types.specs.declared.ty.TyField.{TyField}
 use Rattle.lk_types.specs.declared.ty.TyRow.{TyRow, roll-TyRow}
-use Rattle.lk_typing.proofs.Even.Loose.{is_union}
+use Rattle.lk_typing.proofs.Even.Loose.{is_union, rows_variable}
 use Rattle.lk_typing.specs.EffectRows.{HasBefore, IsEven, loosely, rows_of, union}
+use Rattle.lk_typing.proofs.Sound.Queries.{list_same}
 use Rattle.lk_types.proofs.LabelMaps.{Differ, Tied, get_here, get_there, tie_cases}
 use Rattle.lk_types.proofs.TypeInduction.{Hereditary, every_type}
-use Rattle.lk_infer.proofs.GroundParts.{same_answer, same_element, same_fields, same_params, same_set, same_tags}
+use Rattle.lk_infer.proofs.GroundParts.{same_answer, same_fields, same_params, same_set, same_tags}
 use Rattle.lk_infer.proofs.LooseUnfold.{field_loosely, loosely_fields, loosely_function, loosely_list, loosely_row, loosely_tags, row_loosely, rows_bool}
-use Rattle.lk_infer.proofs.LooseUnfold.{rows_fields, rows_function, rows_int, rows_list, rows_of_row, rows_row, rows_tags, rows_text, rows_variable}
+use Rattle.lk_infer.proofs.LooseUnfold.{rows_fields, rows_function, rows_int, rows_list, rows_of_row, rows_row, rows_tags, rows_text}
 use Rattle.lk_infer.proofs.Unions.{alone_too, none_behind}
 
 -- ---- the same fields
@@ -128,7 +129,7 @@ module _ (τ τ₂ : Grounding) (whole : (n : ℕ) (e : Effect) → τ.effects n
   at_list t evens g a b =
       let x = mapped known.List (under τ₂ t) g (sym (under_list τ₂ t) ∙ a) in
       let y = mapped known.List (loosely τ t) g (sym (loosely_list τ t) ∙ b) in
-      by_rows (ty.List t) (rows_of t) (rows_list t) (evens x.0 x.1 (y.1 ∙ ap Some (same_element y.0 x.0 (sym y.2 ∙ x.2))))
+      by_rows (ty.List t) (rows_of t) (rows_list t) (evens x.0 x.1 (y.1 ∙ ap Some (list_same y.0 x.0 (sym y.2 ∙ x.2))))
 
   at_fields : (r : TyRow) → RowEvens r → Evens (ty.Fields r)
   at_fields r evens g a b =

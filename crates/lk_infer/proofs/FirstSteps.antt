@@ -1,5 +1,8 @@
 -- The first constraint of a walk that can't be met or is too large is one of its steps.
 use Rattle.std.proofs.Common.{◌≡◌, ℕ, zero, suc, ◌+◌, ◌<◌, ◌≤◌, ◌⊎◌, inl, inr, Bool, true, false, List, [], ◌∷◌, ◌++◌, length, map, take, Option, Some, None, slice_get, refl, sym, ap, subst, ◌∙◌}
+use Rattle.std.proofs.lemmas.Bool.{cases_lt}
+use Rattle.std.proofs.Math.Nat.{suc-add}
+use Rattle.std.proofs.Math.Numerals.{add-one}
 use native.Mathlib.Omega.{arith}
 use Rattle.lk_ast.specs.declared.place.Span.{Span}
 use Rattle.lk_types.proofs.Members.{each_both}
@@ -23,16 +26,13 @@ use Rattle.lk_infer.specs.Walked.{asked, IsPlain}
 none_more : (j : ℕ) → 0 + j ≡ j
 none_more j = omega arith
 
-one_behind : (n j : ℕ) → suc n + j ≡ suc (n + j)
-one_behind n j = omega arith
-
 take_asked : (front : List Ty) (cs : List Constraint) (j : ℕ) → take (length front + j) (map asked front ++ cs) ≡ map asked front ++ take j cs
 take_asked [] cs j = ap (λ n. take n cs) (none_more j)
-take_asked (t ∷ front) cs j = ap (λ n. take n (map asked (t ∷ front) ++ cs)) (one_behind (length front) j) ∙ ap (λ zs. asked t ∷ zs) (take_asked front cs j)
+take_asked (t ∷ front) cs j = ap (λ n. take n (map asked (t ∷ front) ++ cs)) (suc-add (length front) j) ∙ ap (λ zs. asked t ∷ zs) (take_asked front cs j)
 
 length_asked : (front : List Ty) (cs : List Constraint) → length (map asked front ++ cs) ≡ length front + length cs
 length_asked [] cs = sym (none_more (length cs))
-length_asked (t ∷ front) cs = ap suc (length_asked front cs) ∙ sym (one_behind (length front) (length cs))
+length_asked (t ∷ front) cs = ap suc (length_asked front cs) ∙ sym (suc-add (length front) (length cs))
 
 -- a first part that ends among types that are only read back can be met
 front_met : (σ : Grounding) (front : List Ty) → Each IsPlain front → (cs : List Constraint) (k : ℕ) → k < length front → Solves σ (equations_of (take (suc k) (map asked front ++ cs)))
@@ -44,19 +44,7 @@ front_met σ (t ∷ front) plain cs (suc k) below = let one = asked_met σ (t �
 beyond : (n k : ℕ) → n ≤ k → (j : ℕ) × (k ≡ n + j)
 beyond zero k le = (k, sym (none_more k))
 beyond (suc n) zero le = absurd (omega arith)
-beyond (suc n) (suc k) le = let rest = beyond n k (omega arith) in (rest.0, ap suc rest.1 ∙ sym (one_behind n rest.0))
-
-below_or : (k n : ℕ) → (k < n) ⊎ (n ≤ k)
-below_or k zero = inr (omega arith)
-below_or zero (suc n) = inl (omega arith)
-below_or (suc k) (suc n) = by_case (below_or k n)
-  where
-    by_case : (k < n) ⊎ (n ≤ k) → (suc k < suc n) ⊎ (suc n ≤ suc k)
-    by_case (inl less) = inl (omega arith)
-    by_case (inr le) = inr (omega arith)
-
-one_more : (k : ℕ) → k + 1 ≡ suc k
-one_more k = omega arith
+beyond (suc n) (suc k) le = let rest = beyond n k (omega arith) in (rest.0, ap suc rest.1 ∙ sym (suc-add n rest.0))
 
 -- ---- without the types that are only read back
 
@@ -65,13 +53,13 @@ all_fine_left front plain cs fine k le =
     fine_left front plain (take k cs) (subst AreFine (take_asked front cs k) (fine (length front + k) (let n : length (map asked front ++ cs) ≡ length front + length cs = length_asked front cs in omega arith)))
 
 behind_front : (front : List Ty) → Each IsPlain front → (cs : List Constraint) (k : ℕ) → (HasSolution (equations_of (take (k + 1) (map asked front ++ cs))) → ⊥) → length front ≤ k
-behind_front front plain cs k none = by_case (below_or k (length front))
+behind_front front plain cs k none = by_case (cases_lt k (length front))
   where
     σ : Grounding
     σ = record { plain = λ n. Rattle.lk_types.specs.declared.ground.Ground.TheVariants.Int; rows = λ n. Rattle.lk_types.specs.Rows.no_fields; effects = λ n. Rattle.lk_types.specs.Rows.no_effects }
 
     by_case : (k < length front) ⊎ (length front ≤ k) → length front ≤ k
-    by_case (inl less) = absurd (none (σ, subst (λ n. Solves σ (equations_of (take n (map asked front ++ cs)))) (sym (one_more k)) (front_met σ front plain cs k less)))
+    by_case (inl less) = absurd (none (σ, subst (λ n. Solves σ (equations_of (take n (map asked front ++ cs)))) (sym (add-one k)) (front_met σ front plain cs k less)))
     by_case (inr le) = le
 
 -- the constraint of that number among those of the steps
@@ -121,18 +109,18 @@ front_few end (t ∷ front) cs (suc k) (u ∷ types) below (inl wrong) = never_m
 front_few end (t ∷ front) cs (suc k) (u ∷ types) below (inr many) = front_few end front cs k types (omega arith) many
 
 large_behind : (front : List Ty) (cs : List Constraint) (k : ℕ) → AreLarge (take (k + 1) (map asked front ++ cs)) → length front ≤ k
-large_behind front cs k large = by_case (below_or k (length front))
+large_behind front cs k large = by_case (cases_lt k (length front))
   where
     by_case : (k < length front) ⊎ (length front ≤ k) → length front ≤ k
     by_case (inl less) =
-        let here : AreLarge (take (suc k) (map asked front ++ cs)) = subst (λ n. AreLarge (take n (map asked front ++ cs))) (one_more k) large in
+        let here : AreLarge (take (suc k) (map asked front ++ cs)) = subst (λ n. AreLarge (take n (map asked front ++ cs))) (add-one k) large in
         absurd (front_few (end_of (take (suc k) (map asked front ++ cs))) front cs k here.0 less here.2)
     by_case (inr le) = le
 
 -- a first part with one constraint at least begins with one
 taken_first : (cs : List Constraint) (j : ℕ) → j < length cs → (c : Constraint) × (rest : List Constraint) × (take (j + 1) cs ≡ c ∷ rest)
 taken_first [] j below = absurd (let wrong : j < 0 = below in omega arith)
-taken_first (c ∷ cs) j below = (c, take j cs, ap (λ n. take n (c ∷ cs)) (one_more j))
+taken_first (c ∷ cs) j below = (c, take j cs, ap (λ n. take n (c ∷ cs)) (add-one j))
 
 pub first_large_left : (front : List Ty) → Each IsPlain front → (cs : List Constraint) (k : ℕ) → IsFirstLarge (map asked front ++ cs) k → IsBehind front k (IsFirstLarge cs)
 first_large_left front plain cs k large =

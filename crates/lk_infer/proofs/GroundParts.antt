@@ -34,9 +34,6 @@ abbrev answer_in : Ground → Ground-F Ground GroundField → Ground
 answer_in d (Ground-F.Fun params es answer) = answer
 answer_in d other = d
 
-pub same_element : (a b : Ground) → known.List a ≡ known.List b → a ≡ b
-same_element a b is = sym (ap (element_in a) (known.outs-List a)) ∙ ap (λ t. element_in a (out-Ground t)) is ∙ ap (element_in a) (known.outs-List b)
-
 fields_back : (es : List (Label × Ground)) → map (λ (f : GroundField). (f.label, f.ty)) (map (λ (e : Label × Ground). record { label = e.0; ty = e.1 }) es) ≡ es
 fields_back [] = refl
 fields_back (e ∷ es) = ap (λ rest. e ∷ rest) (fields_back es)

@@ -3,7 +3,7 @@ use Rattle.std.proofs.Common.{◌≡◌, ◌⊎◌, ◌↔◌, inl, inr, refl, s
 use Rattle.std.proofs.lemmas.Bool.{and_parts, eqb-true}
 use Rattle.std.specs.Prelude.{flat_map}
 use Rattle.std.specs.BTreeSet.{BTreeSet, IsFromIterResult, contains}
-use Rattle.std.specs.Cmp.{IsTotalOrder}
+use Rattle.std.specs.Cmp.{IsTotalOrder, unsigned_tied}
 use Rattle.std.specs.Cmp.Lexicographic.{slice_cmp}
 use Rattle.std.specs.FinMap.{nat_cmp-IsAntisymmetric, slice_cmp-IsAntisymmetric}
 use Rattle.std.specs.List.{AllByRecursion, filter, filter_map, list_any}
@@ -13,6 +13,7 @@ use Rattle.std.specs.declared.cmp.Ordering.{Ordering}
 use Rattle.std.specs.declared.cmp.Ordering.TheVariants.{Less, Equal, Greater}
 use Rattle.std.proofs.lemmas.Bool.Decides.{nat_tests}
 use Rattle.std.proofs.lemmas.Cmp.{nat_cmp_total, nat_list_cmp_total, on_total, then_total, tied_itself}
+use Rattle.std.proofs.Math.Bool.{or-true}
 use Rattle.lk_types.specs.Each.{Each, OneOf}
 use Rattle.lk_types.specs.Variables.{same_variable, variables_of}
 use Rattle.lk_types.specs.declared.scheme.Lack.{Lack}
@@ -54,14 +55,10 @@ any_is {P = P} test is (x ∷ xs) e = elim (test x) as (λ b. test x ≡ b → (
   | false ↦ λ p e. inr (any_is test is xs e)
 ] refl e
 
-or_right : (b : Bool) → (b || true) ≡ true
-or_right true = refl
-or_right false = refl
-
 is_any : {A : Type 0} {P : A → Type 0} (test : A → Bool) → ((x : A) → P x → test x ≡ true) → (xs : List A) → OneOf P xs → list_any test xs ≡ true
 is_any test is [] none = elim none [ ]
 is_any test is (x ∷ xs) (inl here) = ap (λ b. b || list_any test xs) (is x here)
-is_any test is (x ∷ xs) (inr there) = ap (λ b. test x || b) (is_any test is xs there) ∙ or_right (test x)
+is_any test is (x ∷ xs) (inr there) = ap (λ b. test x || b) (is_any test is xs there) ∙ or-true (test x)
 
 has_is : (lacks : List Lack) (q : Lack) → has_lack lacks q ≡ true → IsIn q lacks
 has_is lacks q = any_is (eq_by_cmp lack_cmp q) (λ x e. sym (one_lack q x (equal_is (lack_cmp q x) e))) lacks
@@ -82,9 +79,6 @@ has_row_is n t = any_is (same_variable (variable.Row n)) (row_is n) (variables_o
 
 pub is_has_row : (n : ℕ) (t : Ty) → HasRow n t → has_row n t ≡ true
 is_has_row n t = is_any (same_variable (variable.Row n)) (λ x e. ap (same_variable (variable.Row n)) e ∙ number_same n) (variables_of t)
-
-number_test : (n m : ℕ) → eq_by_cmp nat_cmp n m ≡ (n == m)
-number_test n m = grind (arith, nat_tests)
 
 -- ---- members of a list in order
 
@@ -237,7 +231,7 @@ schemes_in_order all rise (body ∷ bodies) = (order_kept (λ lack. has_row lack
 numbers_is : (n : ℕ) (xs : List Variable) → list_any (eq_by_cmp nat_cmp n) (filter_map row_number xs) ≡ list_any (same_variable (variable.Row n)) xs
 numbers_is n [] = refl
 numbers_is n (variable.Plain m ∷ xs) = numbers_is n xs
-numbers_is n (variable.Row m ∷ xs) = (λ i. number_test n m i || numbers_is n xs i)
+numbers_is n (variable.Row m ∷ xs) = (λ i. unsigned_tied n m i || numbers_is n xs i)
 numbers_is n (variable.Effects m ∷ xs) = numbers_is n xs
 
 pub rows_are : (n : ℕ) (t : Ty) (xs : List Variable) (rows : BTreeSet ℕ) → xs ≡ [] ++ variables_of t → IsFromIterResult nat_cmp (filter_map row_number xs) rows → contains nat_cmp rows n ≡ has_row n t

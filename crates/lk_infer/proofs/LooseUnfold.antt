@@ -95,10 +95,6 @@ pub rows_text : rows_of ty.Text ≡ []
 unfolding rows_of
 rows_text = search the_lemmas
 
-pub rows_variable : (n : ℕ) → rows_of (ty.Var n) ≡ []
-unfolding rows_of
-rows_variable n = search the_lemmas
-
 pub rows_list : (t : Ty) → rows_of (ty.List t) ≡ rows_of t
 unfolding rows_of
 rows_list t = search the_lemmas

@@ -25,7 +25,6 @@ use Rattle.lk_types.specs.declared.ty.Effect.TheVariants as effect
 use Rattle.lk_types.specs.declared.ty.Effects.{Effects}
 use Rattle.lk_types.specs.declared.ty.RowTail.TheVariants.{Closed, Var}
 use Rattle.lk_types.specs.declared.ty.Ty.{Ty}
-use Rattle.lk_types.specs.declared.ty.Ty.TheFolds.{the_lemmas}
 use Rattle.lk_types.specs.declared.ty.Ty.TheVariants as ty
 use Rattle.lk_typing.specs.EffectRows.{IsEven, HasBefore, rows_of}
 use Rattle.lk_typing.specs.Groups.{Unknown, unknowns, type_of, own_entries, scheme_entries, functions_walked, function_walked, after_unknowns, group_walked, is_mutual}
@@ -40,6 +39,7 @@ use Rattle.lk_typing.specs.Walk.{Walking, WalkedAll, Walked, Told, has_if, param
 use Rattle.lk_typing.specs.Walk.{switch_ended, set_own, change_ended, plain_walked, walk, walk_case, walk_change, walk_part, lambda_walked, var_walked, switch_walked, for_list_walked}
 use Rattle.lk_typing.specs.Walk.{for_table_walked, query_walked, change_in, CaseWalk, ChangeWalk}
 use Rattle.lk_typing.specs.declared.step.Step.{Step}
+use Rattle.lk_typing.proofs.Even.Loose.{rows_variable}
 
 abbrev pub IsVariable : Ty → Type 0
 IsVariable t = (n : ℕ) × (t ≡ ty.Var n)
@@ -222,9 +222,5 @@ nodes_named earlier tables decl =
     let us : List Unknown = unknowns (functions_in decl) 0 in
     functions_named (own_entries (functions_in decl) (map type_of us) ++ scheme_entries earlier) tables (is_mutual decl) (functions_in decl) us (after_unknowns (functions_in decl) 0)
 
-variable_rows : (n : ℕ) → rows_of (ty.Var n) ≡ []
-unfolding rows_of
-variable_rows n = search the_lemmas
-
 pub variable_even : (before : ℕ → EffectSet) (t : Ty) → IsVariable t → IsEven before t
-variable_even before t is = subst (λ rows. Each (λ es. HasBefore before es.labels es.tail) rows) (sym (ap rows_of is.1 ∙ variable_rows is.0)) tt
+variable_even before t is = subst (λ rows. Each (λ es. HasBefore before es.labels es.tail) rows) (sym (ap rows_of is.1 ∙ rows_variable is.0)) tt

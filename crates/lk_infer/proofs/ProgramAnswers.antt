@@ -1,5 +1,6 @@
 -- What the loop over the declarations of a program keeps, and what it comes to.
 use Rattle.std.proofs.Common.{◌≡◌, ℕ, zero, suc, ◌+◌, ◌<◌, ◌≤◌, Bool, false, ◌||◌, List, [], ◌∷◌, ◌++◌, length, take, drop, get_or, refl, sym, ap, subst}
+use Rattle.lk_unify.proofs.Loadeds.{taken}
 use native.Mathlib.Omega.{arith}
 use Rattle.lk_ast.specs.Functions.{functions_in}
 use Rattle.lk_ast.specs.declared.declaration.Decl.{Decl}
@@ -7,7 +8,7 @@ use Rattle.lk_ast.specs.declared.declaration.Program.{Program}
 use Rattle.lk_ast.specs.declared.declaration.TableDecl.{TableDecl}
 use Rattle.lk_ast.specs.declared.place.Span.{Span}
 use Rattle.lk_infer.proofs.Accepting.{Accepted}
-use Rattle.lk_infer.proofs.Continued.{accepted_none, accepted_more, accepted_types, accepted_principal, ends_behind, ends_ill_typed, ends_not_well_typed, ends_too_large, taken_more, taken_at}
+use Rattle.lk_infer.proofs.Continued.{accepted_none, accepted_more, accepted_types, accepted_principal, ends_behind, ends_ill_typed, ends_not_well_typed, ends_too_large, taken_at}
 use Rattle.lk_infer.proofs.EvenEntries.{even_entries}
 use Rattle.lk_types.proofs.Members.{each_both}
 use Rattle.lk_infer.specs.Inferred.{IsInferred, HasTypes}
@@ -49,7 +50,7 @@ module _ (program : Program) (tables : List TableDecl) (tables_are : tables ≡ 
   one_more own inside inferred even in_order fine then later all nodes later_is all_is nodes_is then_is = record {
     accepted = accepted_more (tables_of program) (take n program.decls) (take (n + 1) program.decls) large then earlier later schemes own all types inside nodes decl done.accepted
         (subst (λ ts. IsInferred earlier ts decl own inside) tables_are inferred) (subst (λ ts. AllFine large (group_walked earlier ts decl).steps) tables_are fine)
-        (taken_more program.decls n decl within is) then_is later_is all_is nodes_is;
+        (taken program.decls n decl within is) then_is later_is all_is nodes_is;
     even = subst (Each (λ entry. IsEvenScheme entry.1)) (sym later_is) (even_entries (functions_in decl) own earlier even done.even);
     in_order = subst (Each IsSchemeInOrder) (sym all_is) (each_both IsSchemeInOrder schemes own done.in_order in_order);
     all_even = subst (Each IsEvenScheme) (sym all_is) (each_both IsEvenScheme schemes own done.all_even even);

@@ -1,6 +1,7 @@
 -- What variables of rows lack because of a type, and which variables stand in it, on each form of type.
 use Rattle.std.proofs.Common.{◌≡◌, ℕ, List, [], ◌∷◌, ◌++◌, map, refl, ◌∙◌, ap}
 use Rattle.std.specs.Prelude.{flat_map}
+use Rattle.lk_unify.proofs.OpenVariables.{variables_rolled as by_variables}
 use Rattle.lk_types.proofs.Lists.{joined_map}
 use Rattle.lk_types.proofs.Unfold.{variables_field}
 use Rattle.lk_types.specs.Variables.{before_tail, joined, variables_of, variables_of_field, variables_of_row}
@@ -85,10 +86,6 @@ shown_rolled fs tail = by_rolled fs tail ∙ (λ i. insides fs i ++ tail_lacks (
 each_variables : (fs : List TyField) → joined (map variables_of_field fs) ≡ flat_map (λ f. variables_of f.ty) fs
 each_variables [] = refl
 each_variables (f ∷ fs) = λ i. variables_field f i ++ each_variables fs i
-
-by_variables : (fs : List TyField) (tail : RowTail) → variables_of_row (roll-TyRow (record { fields = fs; tail = tail })) ≡ before_tail (joined (map variables_of_field fs)) variable.Row tail
-unfolding variables_of_row variables_of_field
-by_variables fs tail = search the_lemmas
 
 pub variables_rolled : (fs : List TyField) (tail : RowTail)
     → variables_of_row (roll-TyRow (record { fields = fs; tail = tail })) ≡ before_tail (flat_map (λ f. variables_of f.ty) fs) variable.Row tail

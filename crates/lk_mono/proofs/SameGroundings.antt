@@ -1,8 +1,9 @@
 -- Groundings under which a type becomes the same say the same of its variables.
-use Rattle.lk_infer.proofs.GroundParts.{same_element, same_row}
+use Rattle.lk_infer.proofs.GroundParts.{same_row}
 use Rattle.std.proofs.Common.{◌≡◌, ℕ, List, [], ◌∷◌, ◌++◌, map, Option, Some, refl, sym, ap, subst, ◌∙◌}
 use Rattle.std.specs.List.{cons_option}
 use Rattle.std.specs.Prelude.{flat_map}
+use Rattle.lk_typing.proofs.Sound.Queries.{list_same}
 use Rattle.lk_ground_types.proofs.Arms.{rest_is}
 use Rattle.lk_ground_types.proofs.EffectLists.{left_of}
 use Rattle.lk_types.proofs.Agreement.{variables_rolled_row}
@@ -66,7 +67,7 @@ module _ (τ σ : Grounding) where
   at_list t same g e f =
       let x = mapped known.List (under τ t) g (sym (under_list τ t) ∙ e) in
       let y = mapped known.List (under σ t) g (sym (under_list σ t) ∙ f) in
-      let item : y.0 ≡ x.0 = same_element y.0 x.0 (sym y.2 ∙ x.2) in
+      let item : y.0 ≡ x.0 = list_same y.0 x.0 (sym y.2 ∙ x.2) in
       subst Same (sym (variables_list t)) (same x.0 x.1 (y.1 ∙ ap (λ k. Some k) item))
 
   at_fields : (r : TyRow) → SameRow r → SameType (ty.Fields r)

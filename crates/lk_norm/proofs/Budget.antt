@@ -7,6 +7,7 @@ use Rattle.lk_sql.specs.declared.tree.Scalar.TheVariants as scalar
 use Rattle.lk_sql.specs.declared.tree.SqlOp.{SqlOp}
 use Rattle.lk_sql.proofs.TextForms.{operation_of_one, scalar_case, scalar_lit, scalar_op}
 use Rattle.std.proofs.lemmas.Fmt.{decimal_digit}
+use Rattle.std.proofs.Math.Nat.{suc-add}
 use Rattle.lk_ast.specs.declared.table.Base.TheVariants as base
 use Rattle.lk_norm.specs.Made.{behind, paid, taken}
 use Rattle.lk_norm.specs.Normal.{always, no_scalar}
@@ -16,14 +17,11 @@ use Rattle.lk_norm.specs.Normal.{always, no_scalar}
 zero_first : (b : ℕ) → 0 + b ≡ b
 zero_first b = omega arith
 
-suc_first : (a b : ℕ) → suc a + b ≡ suc (a + b)
-suc_first a b = omega arith
-
 pub taken_both : (a b left : ℕ) → taken (a + b) left ≡ behind (taken a left) (taken b)
 unfolding taken
 taken_both zero b left = ap (λ n. taken n left) (zero_first b)
-taken_both (suc a) b zero = ap (λ n. taken n 0) (suc_first a b)
-taken_both (suc a) b (suc left) = ap (λ n. taken n (suc left)) (suc_first a b) ∙ taken_both a b left
+taken_both (suc a) b zero = ap (λ n. taken n 0) (suc-add a b)
+taken_both (suc a) b (suc left) = ap (λ n. taken n (suc left)) (suc-add a b) ∙ taken_both a b left
 
 pub taken_nothing : (left : ℕ) → taken 0 left ≡ Some left
 unfolding taken

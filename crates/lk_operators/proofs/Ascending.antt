@@ -1,5 +1,5 @@
 -- The entries of a `BTreeMap` whose keys are texts, as a finite map.
-use Rattle.std.proofs.Common.{◌≡◌, ℕ, Bool, true, false, ◌&&◌, T, List, [], ◌∷◌, map, length, Less, Equal, Greater, is_lt, nat_cmp, refl, sym, ap, subst, ◌∙◌, String, string_bytes, string_cmp}
+use Rattle.std.proofs.Common.{◌≡◌, ℕ, ◌&&◌, T, List, [], ◌∷◌, map, length, Less, Equal, Greater, is_lt, nat_cmp, refl, sym, ap, subst, ◌∙◌, String, string_bytes, string_cmp}
 use Rattle.std.proofs.lemmas.List.{length-map}
 use Rattle.std.specs.BTreeMap.{insert_entry}
 use Rattle.std.specs.Cmp.Lexicographic.{slice_cmp, nat_list_cmp_total}
@@ -8,13 +8,10 @@ use Rattle.std.specs.FinMap.Entries.{below_all, by_order}
 use Rattle.std.specs.List.{AllByRecursion}
 use Rattle.std.specs.List.Sorted.{IsStrictlySortedBy}
 use Rattle.std.specs.Ordering.{match_ordering}
+use Rattle.std.proofs.Math.Facts.{yes_and}
 use Rattle.lk_ast.specs.declared.value.Value.{Value}
 use Rattle.lk_operators.specs.Records.{fields_in_order}
 use Rattle.lk_operators.specs.Values.{field}
-
-both : (a b : Bool) → T a → T b → T (a && b)
-both true b p q = q
-both false b p q = p
 
 module _ {X Z : Type 0} where
   abbrev pub keyed : String Z × X → List ℕ × X
@@ -30,7 +27,7 @@ module _ {X Z : Type 0} where
   sorted_keyed : (es : List (String Z × X)) → AreAscending es → T (is_sorted (slice_cmp nat_cmp) (map keyed es))
   unfolding IsStrictlySortedBy
   sorted_keyed [] s = tt
-  sorted_keyed (e ∷ es) s = both _ _ (below e.0 es s.0) (sorted_keyed es s.1)
+  sorted_keyed (e ∷ es) s = yes_and _ _ (below e.0 es s.0) (sorted_keyed es s.1)
 
   put_keyed : (k : String Z) (v : X) (es : List (String Z × X)) → put (slice_cmp nat_cmp) (string_bytes k) v (map keyed es) ≡ map keyed (insert_entry string_cmp es k v)
   put_keyed k v [] = refl

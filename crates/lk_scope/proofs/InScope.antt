@@ -89,11 +89,3 @@ insert-again names x there = alone (λ q. set.contains-insert nat_list_cmp_total
 
     there_too : (q : List ℕ) → eq_by_cmp (slice_cmp nat_cmp) q x ≡ true → set.contains names q ≡ true
     there_too q same = subst (λ y. set.contains names y ≡ true) (sym (bytes_same q x (sym (is_eq-slice_cmp q x) ∙ same))) there
-
-pub is_absent : (there : Bool) → not there ≡ true → there ≡ false
-is_absent true p = cc
-is_absent false p = refl
-
-pub is_there : (there : Bool) → not there ≡ false → there ≡ true
-is_there true p = refl
-is_there false p = cc

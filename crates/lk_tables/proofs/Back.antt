@@ -9,6 +9,8 @@ use Rattle.std.proofs.lemmas.List.{length-map, map-set}
 use Rattle.std.proofs.lemmas.List.Elements.{All-tail}
 use Rattle.std.proofs.lemmas.List.Sorted.{All-permutation}
 use Rattle.std.proofs.lemmas.Slice.Eq.{bytes_eq-Decides}
+use Rattle.std.specs.Cmp.{first_so, second_so}
+use Rattle.std.proofs.lemmas.Bool.{not-true}
 use Rattle.serde_json.specs.Data.{Data, array, object, Members, no_members, put}
 use Rattle.serde_json.specs.Find.{get}
 use Rattle.serde_json.specs.View.{items_of}
@@ -26,7 +28,7 @@ use Rattle.lk_tables.specs.Law.{are_distinct}
 use Rattle.lk_tables.specs.Words.{fits_word, cells_fit_words}
 use Rattle.lk_tables.specs.Printing.{cell_entry, row_data}
 use Rattle.lk_tables.specs.Reading.{elements, base_of, cell_of, row_of, rows_of}
-use Rattle.lk_tables.proofs.Puts.{put_all, key_of, both_left, both_right, not_true, get_put_first, len_of_all}
+use Rattle.lk_tables.proofs.Puts.{put_all, key_of, get_put_first, len_of_all}
 
 never : {X : Type 0} → false ≡ true → X
 never e = absurd (true≢false (sym e))
@@ -64,14 +66,14 @@ abbrev label_of : Column → List ℕ
 label_of column = column.label
 
 same_label : (column : Column) (cell : Cell) (rest : Bool) → ((bytes_eq column.label cell.label && is_of_kind column.kind cell.value) && rest) ≡ true → column.label ≡ cell.label
-same_label column cell rest fit = (bytes_eq-Decides column.label cell.label).0 (both_left _ _ (both_left _ _ fit))
+same_label column cell rest fit = (bytes_eq-Decides column.label cell.label).0 (first_so _ _ (first_so _ _ fit))
 
 -- the cells have the labels of the columns
 same_labels : (columns : List Column) (cells : List Cell) → cells_fit columns cells ≡ true → map key_of (map cell_entry cells) ≡ map label_of columns
 same_labels [] [] fit = refl
 same_labels [] (cell ∷ cells) fit = never fit
 same_labels (column ∷ columns) [] fit = never fit
-same_labels (column ∷ columns) (cell ∷ cells) fit = ap₂ (λ l ls. l ∷ ls) (sym (same_label column cell _ fit)) (same_labels columns cells (both_right _ _ fit))
+same_labels (column ∷ columns) (cell ∷ cells) fit = ap₂ (λ l ls. l ∷ ls) (sym (same_label column cell _ fit)) (same_labels columns cells (second_so _ _ fit))
 
 cells_back : (now : Members) (columns : List Column) (cells : List Cell) → cells_fit columns cells ≡ true → list_all (λ cell. fits_word cell.value) cells ≡ true → are_distinct (map key_of (map cell_entry cells)) ≡ true
     → all_some (cell_of (object (put_all now (map cell_entry cells)))) columns ≡ Some cells
@@ -80,10 +82,10 @@ cells_back now [] (cell ∷ cells) fit low distinct = never fit
 cells_back now (column ∷ columns) [] fit low distinct = never fit
 cells_back now (column ∷ columns) (cell ∷ cells) fit low distinct =
     let same : column.label ≡ cell.label = same_label column cell _ fit in
-    let found = get_put_first cell.label (base_data cell.value) now (map cell_entry cells) (not_true _ (both_left _ _ distinct)) in
+    let found = get_put_first cell.label (base_data cell.value) now (map cell_entry cells) (not-true _ (first_so _ _ distinct)) in
     let members = put_all now (map cell_entry (cell ∷ cells)) in
-    let here = cell_back (object members) column cell same (ap (λ (l : List ℕ). get l (object members)) same ∙ found) (both_right _ _ (both_left _ _ fit)) (both_left _ _ low) in
-    some_more _ _ cell cells here (cells_back (put cell.label (base_data cell.value) now) columns cells (both_right _ _ fit) (both_right _ _ low) (both_right _ _ distinct))
+    let here = cell_back (object members) column cell same (ap (λ (l : List ℕ). get l (object members)) same ∙ found) (second_so _ _ (first_so _ _ fit)) (first_so _ _ low) in
+    some_more _ _ cell cells here (cells_back (put cell.label (base_data cell.value) now) columns cells (second_so _ _ fit) (second_so _ _ low) (second_so _ _ distinct))
 
 same_test : (m n : ℕ) → m ≡ n → (m == n) ≡ true
 same_test m n e = grind (arith, nat_tests)

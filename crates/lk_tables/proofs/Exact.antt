@@ -1,11 +1,12 @@
 -- What is printed holds no float, and nests three levels deep at most.
-use Rattle.std.proofs.Common.{◌≡◌, ◌≤◌, ℕ, suc, List, [], ◌∷◌, map, fold, Bool, false, ◌||◌, Ordering, Less, Equal, Greater, pos, negsuc, All, get_or, refl, sym, ap₂, subst, arith}
+use Rattle.std.proofs.Common.{◌≡◌, ◌≤◌, ℕ, suc, List, [], ◌∷◌, map, fold, false, Ordering, Less, Equal, Greater, pos, negsuc, All, get_or, refl, sym, subst, arith}
 use Rattle.std.specs.Prelude.{⊤}
 use Rattle.std.specs.List.{AllZip}
 use Rattle.std.proofs.lemmas.List.Elements.{All-map, All-tail}
 use Rattle.std.proofs.lemmas.List.Sorted.{All-permutation}
 use Rattle.std.specs.Ordering.{nat_cmp, match_ordering}
 use Rattle.std.specs.Cmp.Lexicographic.{slice_cmp}
+use Rattle.std.proofs.lemmas.Bool.{or_from}
 use Rattle.serde_json.specs.Data.{Data, array, Members, no_members, member, put, depth, items_depth, members_depth}
 use Rattle.serde_json.specs.Written.{has_float, items_have_float, members_have_float}
 use Rattle.serde_json.specs.View.{items_of}
@@ -27,16 +28,13 @@ pub record AreFlat (n : ℕ) (ms : Members) : Type 0 where
   pub exact : members_have_float ms ≡ false
   pub low : members_depth ms ≤ n
 
-either_false : (a b : Bool) → a ≡ false → b ≡ false → (a || b) ≡ false
-either_false a b p q = ap₂ (λ x y. x || y) p q
-
 chosen : (n : ℕ) (o : Ordering) (a b c : Members) → AreFlat n a → AreFlat n b → AreFlat n c → AreFlat n (match_ordering o a b c)
 chosen n Less a b c p q r = p
 chosen n Equal a b c p q r = q
 chosen n Greater a b c p q r = r
 
 flat_cons : (n : ℕ) (k : List ℕ) (d : Data) (ms : Members) → IsFlat n d → AreFlat n ms → AreFlat n (member k d ms)
-flat_cons n k d ms p q = record { exact = either_false _ _ p.exact q.exact; low = omega (arith, p.low, q.low) }
+flat_cons n k d ms p q = record { exact = or_from _ _ p.exact q.exact; low = omega (arith, p.low, q.low) }
 
 flat_first : (n : ℕ) (k : List ℕ) (d : Data) (ms : Members) → AreFlat n (member k d ms) → IsFlat n d
 flat_first n k d ms p = record { exact = left_false _ _ p.exact; low = omega (arith, p.low) }
@@ -79,7 +77,7 @@ row-flat row =
 
 items-exact : (n : ℕ) (ds : List Data) → All (IsFlat n) ds → items_have_float (items_of ds) ≡ false
 items-exact n [] q = refl
-items-exact n (d ∷ ds) q = either_false _ _ (q 0 d (omega arith)).exact (items-exact n ds (All-tail (IsFlat n) d ds q))
+items-exact n (d ∷ ds) q = or_from _ _ (q 0 d (omega arith)).exact (items-exact n ds (All-tail (IsFlat n) d ds q))
 
 items-low : (n : ℕ) (ds : List Data) → All (IsFlat n) ds → items_depth (items_of ds) ≤ n
 items-low n [] q = omega arith

@@ -1,8 +1,9 @@
 -- Rows that were read are ones that the table may hold.
-use Rattle.std.proofs.Common.{◌≡◌, ℕ, ℤ, List, [], ◌∷◌, Bool, true, false, ◌&&◌, Option, Some, None, option_map, bytes_eq, if◌then◌else◌, refl, ap₂}
+use Rattle.std.proofs.Common.{◌≡◌, ℕ, ℤ, List, [], ◌∷◌, Bool, true, false, ◌&&◌, Option, Some, None, option_map, bytes_eq, if◌then◌else◌, refl}
 use Rattle.std.specs.Prelude.{option_and_then, IfSome}
 use Rattle.std.specs.List.{list_all}
 use Rattle.std.proofs.lemmas.Slice.Eq.{bytes_eq-Decides}
+use Rattle.std.proofs.lemmas.Bool.{and_from}
 use Rattle.serde_json.specs.Data.{Data, Items}
 use Rattle.serde_json.specs.Find.{get, as_array, as_number, as_i64, as_bool, as_str}
 use Rattle.lk_ast.specs.Tables.{is_of_kind, cells_fit}
@@ -15,9 +16,6 @@ use Rattle.lk_ast.specs.declared.table.Column.{Column}
 use Rattle.lk_ast.specs.declared.table.Row.{Row}
 use Rattle.lk_tables.specs.Choices.{all_some}
 use Rattle.lk_tables.specs.Reading.{elements, base_of, cell_of, row_of, rows_of}
-
-both_true : (a b : Bool) → a ≡ true → b ≡ true → (a && b) ≡ true
-both_true a b p q = ap₂ (λ x y. x && y) p q
 
 int_fits : (n : Option ℤ) → IfSome (option_map Int n) (λ value. is_of_kind kind.Int value ≡ true)
 int_fits None = tt
@@ -42,7 +40,7 @@ IsCellOf column cell = (bytes_eq column.label cell.label && is_of_kind column.ki
 in_column : (column : Column) (value : Option Base) → IfSome value (λ value. is_of_kind column.kind value ≡ true)
     → IfSome (option_map {U = Cell} (λ value. record { label = column.label; value = value }) value) (IsCellOf column)
 in_column column None fits = tt
-in_column column (Some value) fits = both_true _ _ ((bytes_eq-Decides column.label column.label).1 refl) fits
+in_column column (Some value) fits = and_from _ _ ((bytes_eq-Decides column.label column.label).1 refl) fits
 
 read_at : (k : BaseKind) (found : Option Data) → IfSome (option_and_then (base_of k) found) (λ value. is_of_kind k value ≡ true)
 read_at k None = tt
@@ -55,7 +53,7 @@ cells_next : (column : Column) (columns : List Column) (cell : Option Cell) (cel
     → IfSome (option_and_then (λ y. option_map (λ ys. y ∷ ys) cells) cell) (λ cells. cells_fit (column ∷ columns) cells ≡ true)
 cells_next column columns None cells here later = tt
 cells_next column columns (Some cell) None here later = tt
-cells_next column columns (Some cell) (Some cells) here later = both_true _ _ here later
+cells_next column columns (Some cell) (Some cells) here later = and_from _ _ here later
 
 cells_fit_of : (d : Data) (columns : List Column) → IfSome (all_some (cell_of d) columns) (λ cells. cells_fit columns cells ≡ true)
 cells_fit_of d [] = refl
@@ -80,7 +78,7 @@ rows_next : (columns : List Column) (row : Option Row) (rows : Option (List Row)
     → IfSome (option_and_then (λ y. option_map (λ ys. y ∷ ys) rows) row) (AreRows columns)
 rows_next columns None rows here later = tt
 rows_next columns (Some row) None here later = tt
-rows_next columns (Some row) (Some rows) here later = both_true _ _ here later
+rows_next columns (Some row) (Some rows) here later = and_from _ _ here later
 
 rows_fit_from : (columns : List Column) (ds : List Data) → IfSome (all_some (row_of columns) ds) (AreRows columns)
 rows_fit_from columns [] = refl

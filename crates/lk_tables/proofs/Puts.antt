@@ -1,9 +1,11 @@
 -- Members that are put in one after the other, each at a key of its own.
-use Rattle.std.proofs.Common.{◌≡◌, ◌+◌, ℕ, suc, List, [], ◌∷◌, map, length, fold, Bool, true, false, ◌&&◌, ◌||◌, not, bytes_eq, Some, None, is_some, Ordering, Less, Equal, Greater, refl, sym, ap, ◌∙◌, true≢false, arith}
+use Rattle.std.proofs.Common.{◌≡◌, ◌+◌, ℕ, suc, List, [], ◌∷◌, map, length, fold, Bool, true, false, ◌||◌, bytes_eq, Some, None, is_some, Ordering, Less, Equal, Greater, refl, sym, ap, ◌∙◌, true≢false, arith}
 use Rattle.std.specs.List.{list_any}
 use Rattle.std.specs.Ordering.{nat_cmp, match_ordering}
 use Rattle.std.specs.Cmp.Lexicographic.{slice_cmp}
 use Rattle.std.proofs.lemmas.Slice.Eq.{bytes_eq-Decides}
+use Rattle.std.specs.Cmp.{first_so, second_so}
+use Rattle.std.proofs.lemmas.Bool.{or_right, not-true}
 use Rattle.serde_json.specs.Data.{Data, Members, no_members, member, put}
 use Rattle.serde_json.specs.Events.{members_len}
 use Rattle.serde_json.specs.Find.{get_member}
@@ -27,22 +29,6 @@ left_false false b p = refl
 pub right_false : (a b : Bool) → (a || b) ≡ false → b ≡ false
 right_false true b p = absurd (true≢false p)
 right_false false b p = p
-
-pub right_true : (a b : Bool) → b ≡ true → (a || b) ≡ true
-right_true true b p = refl
-right_true false b p = p
-
-pub both_left : (a b : Bool) → (a && b) ≡ true → a ≡ true
-both_left true b p = refl
-both_left false b p = p
-
-pub both_right : (a b : Bool) → (a && b) ≡ true → b ≡ true
-both_right true b p = p
-both_right false b p = absurd (true≢false (sym p))
-
-pub not_true : (a : Bool) → not a ≡ true → a ≡ false
-not_true true p = absurd (true≢false (sym p))
-not_true false p = refl
 
 pub differ : (k l : List ℕ) → bytes_eq k l ≡ false → k ≡ l → ⊥
 differ k l e same = true≢false (sym ((bytes_eq-Decides k l).1 same) ∙ e)
@@ -74,11 +60,11 @@ AreNew es now = (k : List ℕ) → is_among k es ≡ true → get_member k now �
 len_put_all : (now : Members) (es : List Entry) → are_distinct (map key_of es) ≡ true → AreNew es now → members_len (put_all now es) ≡ length es + members_len now
 len_put_all now [] distinct new = omega arith
 len_put_all now (f ∷ es) distinct new =
-    let other : is_among f.0 es ≡ false = not_true _ (both_left _ _ distinct) in
+    let other : is_among f.0 es ≡ false = not-true _ (first_so _ _ distinct) in
     let here : members_len (put f.0 f.1 now) ≡ suc (members_len now) = one_longer f.0 f.1 now (new f.0 (ap (λ b. b || is_among f.0 es) (itself f.0))) in
     let later : members_len (put_all (put f.0 f.1 now) es) ≡ length es + members_len (put f.0 f.1 now) =
-    len_put_all (put f.0 f.1 now) es (both_right _ _ distinct)
-    (λ k among. get_member-put_other k f.0 f.1 now (λ same. true≢false (sym among ∙ ap (λ k. is_among k es) same ∙ other)) ∙ new k (right_true _ _ among)) in
+    len_put_all (put f.0 f.1 now) es (second_so _ _ distinct)
+    (λ k among. get_member-put_other k f.0 f.1 now (λ same. true≢false (sym among ∙ ap (λ k. is_among k es) same ∙ other)) ∙ new k (or_right _ _ among)) in
     omega (arith, here, later)
 
 -- there are as many members as entries

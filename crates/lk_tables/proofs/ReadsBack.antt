@@ -15,6 +15,8 @@ use Rattle.lk_tables.proofs.Objects.{object_of}
 use Rattle.std.specs.Ordering.{nat_cmp, match_ordering}
 use Rattle.std.proofs.lemmas.Map.Text.{is_eq-slice_cmp}
 use Rattle.std.specs.Cmp.Lexicographic.{slice_cmp}
+use Rattle.std.specs.Cmp.{first_so, second_so}
+use Rattle.std.proofs.lemmas.Bool.{or_right, not-true}
 use Rattle.lk_ast.specs.JsonText.{Entry}
 use Rattle.lk_ast.specs.Limits.{most_rows}
 use Rattle.lk_ast.specs.Tables.{cells_fit}
@@ -29,7 +31,7 @@ use Rattle.lk_tables.specs.Words.{cells_fit_words, table_fits_words}
 use Rattle.lk_tables.specs.Printing.{IsPrinted, IsTableEntry}
 use Rattle.lk_tables.specs.Reading.{max_bytes, entries, rows_of, rows_refusal, is_named, table_refusal, member_refusal, object_refusal, object_in, rows_for, table_of, AreRowsOf}
 use Rattle.lk_tables.proofs.Back.{IsGood, AreBack, sorted_back, some_more}
-use Rattle.lk_tables.proofs.Puts.{put_all, key_of, is_among, right_true, both_left, both_right, not_true, left_false, right_false, get_put_first}
+use Rattle.lk_tables.proofs.Puts.{put_all, key_of, is_among, left_false, right_false, get_put_first}
 
 -- one table with the rows that are printed of it
 record IsPair (table : TableDef) (printed : TableRows) : Type 0 where
@@ -42,7 +44,7 @@ all_pairs [] [] rows distinct low = tt
 all_pairs [] (p ∷ ps) rows distinct low = absurd rows
 all_pairs (t ∷ ts) [] rows distinct low = absurd rows
 all_pairs (t ∷ ts) (p ∷ ps) rows distinct low =
-    (record { rows = rows.0; distinct = both_left _ _ distinct; low = both_left _ _ low }, all_pairs ts ps rows.1 (both_right _ _ distinct) (both_right _ _ low))
+    (record { rows = rows.0; distinct = first_so _ _ distinct; low = first_so _ _ low }, all_pairs ts ps rows.1 (second_so _ _ distinct) (second_so _ _ low))
 
 abbrev name_of : TableDef → List ℕ
 name_of table = table.name
@@ -84,10 +86,10 @@ tables_back now (t ∷ ts) (p ∷ ps) (e ∷ es) pairs written distinct =
     let back = entry_back t p e pairs.0 written.0 in
     let named : e.0 ≡ t.name = ap key_of written.0.2 ∙ pairs.0.rows.0 in
     let members = put_all now (e ∷ es) in
-    let found : get t.name (object members) ≡ Some e.1 = ap (λ (k : List ℕ). get k (object members)) (sym named) ∙ get_put_first e.0 e.1 now es (not_true _ (both_left _ _ distinct)) in
+    let found : get t.name (object members) ≡ Some e.1 = ap (λ (k : List ℕ). get k (object members)) (sym named) ∙ get_put_first e.0 e.1 now es (not-true _ (first_so _ _ distinct)) in
     let rows : rows_for (object members) t ≡ Some back.read = ap (λ o. unwrap_or (option_map (rows_of t.columns) o) (Some [])) found ∙ back.is in
     read_next (object members) t p ts ps back.read _ (ap (option_map {U = TableRows} (λ rows. record { name = t.name; rows = rows })) rows) (sym pairs.0.rows.0, back.same) refl
-    (tables_back (put e.0 e.1 now) ts ps es pairs.1 written.1 (both_right _ _ distinct))
+    (tables_back (put e.0 e.1 now) ts ps es pairs.1 written.1 (second_so _ _ distinct))
 
 -- ---- that nothing is refused
 
@@ -103,7 +105,7 @@ apart_refusal false o rest e is = is
 taken_behind : (table : TableDef) (tables : List TableDef) (es : List Entry) → is_among table.name es ≡ false → AllByRecursion (IsTaken tables) es → AllByRecursion (IsTaken (table ∷ tables)) es
 taken_behind table tables [] apart taken = tt
 taken_behind table tables (e ∷ es) apart taken =
-    ((right_true (bytes_eq table.name e.0) _ taken.0.0, apart_refusal (bytes_eq table.name e.0) (rows_refusal (rows_of table.columns e.1)) _ (left_false _ (is_among table.name es) apart) taken.0.1), taken_behind table tables es (right_false (bytes_eq table.name e.0) _ apart) taken.1)
+    ((or_right (bytes_eq table.name e.0) _ taken.0.0, apart_refusal (bytes_eq table.name e.0) (rows_refusal (rows_of table.columns e.1)) _ (left_false _ (is_among table.name es) apart) taken.0.1), taken_behind table tables es (right_false (bytes_eq table.name e.0) _ apart) taken.1)
 
 turned_at : (k l : List ℕ) (b : Bool) → bytes_eq k l ≡ b → bytes_eq l k ≡ false → b ≡ false
 turned_at k l true is e = absurd (true≢false (sym ((bytes_eq-Decides l k).1 (sym ((bytes_eq-Decides k l).0 is))) ∙ e))
@@ -145,13 +147,13 @@ all_taken (t ∷ ts) (p ∷ ps) [] pairs written names distinct = absurd written
 all_taken (t ∷ ts) (p ∷ ps) (e ∷ es) pairs written names distinct =
     let named : e.0 ≡ t.name = ap key_of written.0.2 ∙ pairs.0.rows.0 in
     let later : map key_of es ≡ map name_of ts = ap tail_of names in
-    let apart : is_among e.0 es ≡ false = not_true _ (both_left _ _ distinct) in
+    let apart : is_among e.0 es ≡ false = not-true _ (first_so _ _ distinct) in
     let known : bytes_eq t.name e.0 ≡ true = (bytes_eq-Decides t.name e.0).1 (sym named) in (
       (
         ap (λ b. b || list_any (is_named e.0) ts) known,
         here_refusal _ _ _ (not_refused t p e.1 pairs.0.rows.2 (entry_back t p e pairs.0 written.0)) (none_named e.0 e.1 ts (sym (ap (list_any (bytes_eq e.0)) later) ∙ apart)),
       ),
-      taken_behind t ts es (sym (ap (λ (k : List ℕ). is_among k es) named) ∙ apart) (all_taken ts ps es pairs.1 written.1 later (both_right _ _ distinct)),
+      taken_behind t ts es (sym (ap (λ (k : List ℕ). is_among k es) named) ∙ apart) (all_taken ts ps es pairs.1 written.1 later (second_so _ _ distinct)),
     )
 
 -- each member of an object
@@ -199,9 +201,9 @@ found_in (Some x) P h = (x, refl, h)
 reads_back : (printed : List TableRows) (file : Data) (text : List ℕ) → IsPrinted printed file → list_all table_fits_words printed ≡ true → object_in text ≡ Some file → ReadsBack printed text
 reads_back printed file text is low found tables declared rows short =
     let es : List Entry = is.0 in
-    let pairs = all_pairs tables printed rows (both_right (are_distinct (map name_of tables)) _ declared) low in
+    let pairs = all_pairs tables printed rows (second_so (are_distinct (map name_of tables)) _ declared) low in
     let names = same_names tables printed es rows is.1 in
-    let distinct : are_distinct (map key_of es) ≡ true = ap are_distinct names ∙ both_left _ (list_all has_distinct_labels tables) declared in
+    let distinct : are_distinct (map key_of es) ≡ true = ap are_distinct names ∙ first_so _ (list_all has_distinct_labels tables) declared in
     let members = put_all no_members es in
     let object_read : object_in text ≡ Some (object members) = found ∙ ap Some is.2 in
     let taken = no_refusal tables (entries members) (put_all_each (IsTaken tables) no_members es tt (all_taken tables printed es pairs is.1 names distinct)) in

@@ -7,6 +7,7 @@ use Rattle.std.specs.Ordering.{eq_by_cmp, is_eq, is_lt, ordering_reverse}
 use Rattle.std.specs.Prelude.{T}
 use Rattle.std.specs.declared.cmp.Ordering.{Ordering}
 use Rattle.std.specs.declared.cmp.Ordering.TheVariants.{Less, Equal, Greater}
+use Rattle.std.proofs.Math.Facts.{yes_and}
 use Rattle.lk_types.specs.Rows.{Label, label_order}
 
 -- ---- equal labels tie, and no others
@@ -48,10 +49,6 @@ tie_cases l k = by_order (label_order l k) refl
     by_order Greater is = inr (ap is_eq is, λ same. true_false (sym (labels_tie l k same) ∙ ap is_eq is))
 
 -- ---- tests
-
-pub both_hold : (a b : Bool) → T a → T b → T (a && b)
-both_hold true b p q = q
-both_hold false b p q = p
 
 pub first_holds : (a b : Bool) → T (a && b) → T a
 first_holds true b p = tt
@@ -125,7 +122,7 @@ module _ {X : Type 0} where
       let below = first_holds (is_below l (e ∷ es)) (in_order (e ∷ es)) h in
       let rest = second_holds (is_below l (e ∷ es)) (in_order (e ∷ es)) h in
       ap (λ b. cond b (Some e.1) (fin.find label_order l es)) (less_differs (label_order l e.0) (first_holds (is_lt (label_order l e.0)) (is_below l es) below))
-      ∙ find_rest l x es (both_hold (is_below l es) (in_order es) (second_holds (is_lt (label_order l e.0)) (is_below l es) below) (second_holds (is_below e.0 es) (in_order es) rest))
+      ∙ find_rest l x es (yes_and (is_below l es) (in_order es) (second_holds (is_lt (label_order l e.0)) (is_below l es) below) (second_holds (is_below e.0 es) (in_order es) rest))
 
   pub sorted_rest : (e : Label × X) (es : List (Label × X)) → T (fin.is_sorted label_order (e ∷ es)) → T (fin.is_sorted label_order es)
   sorted_rest e es h = second_holds (is_below e.0 es) (in_order es) h
@@ -164,10 +161,10 @@ module _ {X Y : Type 0} (f : X → Y) where
       let below = first_holds (is_below k (e ∷ es)) (in_order (e ∷ es)) h in
       let rest = second_holds (is_below k (e ∷ es)) (in_order (e ∷ es)) h in
       let lower = first_holds (is_lt (label_order k e.0)) (is_below k es) below in
-      let a = sorted_after k x es (both_hold (is_below k es) (in_order es) (second_holds (is_lt (label_order k e.0)) (is_below k es) below) (second_holds (is_below e.0 es) (in_order es) rest)) in
+      let a = sorted_after k x es (yes_and (is_below k es) (in_order es) (second_holds (is_lt (label_order k e.0)) (is_below k es) below) (second_holds (is_below e.0 es) (in_order es) rest)) in
       let b = sorted_after e.0 e.1 es rest in
       let others = first_holds (is_below k (map with_value es)) (in_order (map with_value es)) a in
-      both_hold (is_below k (map with_value (e ∷ es))) (in_order (map with_value (e ∷ es))) (both_hold (is_lt (label_order k e.0)) (is_below k (map with_value es)) lower others) b
+      yes_and (is_below k (map with_value (e ∷ es))) (in_order (map with_value (e ∷ es))) (yes_and (is_lt (label_order k e.0)) (is_below k (map with_value es)) lower others) b
 
   pub sorted_mapped : (es : List (Label × X)) → T (fin.is_sorted label_order es) → T (fin.is_sorted label_order (map with_value es))
   sorted_mapped [] h = tt
@@ -180,10 +177,10 @@ module _ {X Y : Type 0} (f : X → Y) where
       let below = first_holds (is_below k (map with_value (e ∷ es))) (in_order (map with_value (e ∷ es))) h in
       let rest = second_holds (is_below k (map with_value (e ∷ es))) (in_order (map with_value (e ∷ es))) h in
       let lower = first_holds (is_lt (label_order k e.0)) (is_below k fs) below in
-      let a = sorted_before k x es (both_hold (is_below k fs) (in_order fs) (second_holds (is_lt (label_order k e.0)) (is_below k fs) below) (second_holds (is_below e.0 fs) (in_order fs) rest)) in
+      let a = sorted_before k x es (yes_and (is_below k fs) (in_order fs) (second_holds (is_lt (label_order k e.0)) (is_below k fs) below) (second_holds (is_below e.0 fs) (in_order fs) rest)) in
       let b = sorted_before e.0 e.1 es rest in
       let others = first_holds (is_below k es) (in_order es) a in
-      both_hold (is_below k (e ∷ es)) (in_order (e ∷ es)) (both_hold (is_lt (label_order k e.0)) (is_below k es) lower others) b
+      yes_and (is_below k (e ∷ es)) (in_order (e ∷ es)) (yes_and (is_lt (label_order k e.0)) (is_below k es) lower others) b
 
   pub sorted_back : (es : List (Label × X)) → T (fin.is_sorted label_order (map with_value es)) → T (fin.is_sorted label_order es)
   sorted_back [] h = tt

@@ -4,6 +4,7 @@ use Rattle.std.specs.BTreeMap.{get, is_at, btree_map_len}
 use Rattle.std.specs.List.{position_from, position_or_len, list_any}
 use Rattle.std.specs.Map.{lookup}
 use Rattle.std.specs.Option.{unwrap_or, option_or}
+use Rattle.std.proofs.lemmas.List.{length_push}
 use Rattle.lk_types.proofs.SameVariable.{agrees, test_is, same_is, same_self, same_turned}
 use Rattle.lk_types.specs.Names.{number, name}
 use Rattle.lk_types.specs.TypeText.{number_in, name_of, type_text, written}
@@ -30,10 +31,6 @@ plus_none n = omega arith
 
 one_behind : (n : ℕ) → suc (n + 1) ≡ suc n + 1
 one_behind n = omega arith
-
-length_last : {X : Type 0} (xs : List X) (y : X) → length (xs ++ y ∷ []) ≡ length xs + 1
-length_last [] y = refl
-length_last (x ∷ xs) y = ap suc (length_last xs y) ∙ one_behind (length xs)
 
 module _ {X : Type 0} (p : X → Bool) where
   place_or_next : (xs : List X) (i : ℕ) → unwrap_or (position_from p i xs) (i + length xs) ≡ i + position_or_len p xs
@@ -106,7 +103,7 @@ module _ (old new : Names) (seen : List Variable) (x : Variable) (numbered : IsN
 
   counted : (there : Bool) → list_any (same_variable x) seen ≡ there → length old.numbers.entries + (if there then 0 else 1) ≡ length (if there then seen else seen ++ x ∷ [])
   counted true is = plus_none _ ∙ numbered.count
-  counted false is = ap (λ n. n + 1) numbered.count ∙ sym (length_last seen x)
+  counted false is = ap (λ n. n + 1) numbered.count ∙ sym (length_push seen x)
 
   old_at : (q : Variable) → get cmp-value.it old.numbers q ≡ position_from (same_variable q) 1 seen
   old_at q = ap (λ test. lookup test old.numbers.entries) (test_is q) ∙ numbered.at q

@@ -1,6 +1,6 @@
 -- Rows with fields before them: no label twice, and the order of fields says nothing.
 use Rattle.std.proofs.Common.{◌≡◌, Bool, true, false, cond, ◌||◌, refl, sym, ap, ◌∙◌, Option, Some, None, is_some, if◌then◌else◌}
-use Rattle.std.proofs.lemmas.Bool.{or_from, or_right}
+use Rattle.std.proofs.lemmas.Bool.{or_from, or_right, or_left}
 use Rattle.std.proofs.lemmas.Cmp.{nat_list_cmp_total}
 use Rattle.std.specs.Cmp.{eq_by_cmp_equiv}
 use Rattle.std.specs.FinMap as fin
@@ -65,11 +65,8 @@ some_both : (l m : Label) (t u : Ground) (row : Row) → (same_label l m || has_
 unfolding with_both
 some_both l m t u row missing = ap (λ b. if b then None else Some (fin.insert (fin.insert row m u) l t)) (found row m u l ∙ missing)
 
-or_same : (a b : Bool) → a ≡ true → (a || b) ≡ true
-or_same a b p = ap (λ z. z || b) p
-
 both_swap : (l m : Label) (t u : Ground) (row : Row) → has_label row l ≡ false → has_label row m ≡ false → (same : Bool) → same_label l m ≡ same → with_both l m t u row ≡ with_both m l u t row
-both_swap l m t u row p q true is = none_both l m t u row (or_same _ _ is) ∙ sym (none_both m l u t row (or_same _ _ (same_turned m l ∙ is)))
+both_swap l m t u row p q true is = none_both l m t u row (or_left _ _ is) ∙ sym (none_both m l u t row (or_left _ _ (same_turned m l ∙ is)))
 both_swap l m t u row p q false is =
     some_both l m t u row (or_from _ _ is p) ∙ ap Some (inserted l m t u row is) ∙ sym (some_both m l u t row (or_from _ _ (same_turned m l ∙ is) q))
 

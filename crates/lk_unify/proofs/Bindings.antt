@@ -1,6 +1,6 @@
 -- What a substitution that is read back of the nodes puts for a variable.
 use Rattle.std.proofs.Common.{◌≡◌, ℕ, Bool, true, false, List, [], ◌∷◌, ◌++◌, ◌⊎◌, inl, inr, Option, Some, None, cond, refl, sym, ◌∙◌, ap}
-use Rattle.std.proofs.lemmas.Bool.{eqb-true, eq-eqb}
+use Rattle.std.proofs.lemmas.Bool.{eqb-true, eq-eqb, cases_Bool}
 use Rattle.std.specs.FinMap as fin
 use Rattle.std.specs.Map.{lookup}
 use Rattle.std.specs.Option.{option_or}
@@ -17,7 +17,6 @@ use Rattle.lk_types.specs.declared.ty.RowTail.TheVariants.{Var}
 use Rattle.lk_types.specs.declared.ty.Ty.TheVariants as ty
 use Rattle.lk_types.specs.declared.ty.Variable.{Variable}
 use Rattle.lk_types.specs.declared.ty.Variable.TheVariants as variable
-use Rattle.lk_arena.proofs.RowAlgebra.{bool_cases}
 use Rattle.lk_unify.proofs.Instances.{PutsAt}
 use Rattle.lk_types.proofs.SameVariable.{same_is}
 use Rattle.lk_unify.specs.Loading.{node_for}
@@ -56,7 +55,7 @@ module _ (l : Loader) (u : ℕ → Value) {A : Type 0} (of_kind : Image → Opti
   without : (xs : List Variable) → node_for l x ≡ None → first_image of_kind (binds xs) (number_of x) ≡ None
   unfolding binds
   without [] none = refl
-  without (y ∷ xs) none = by_test (bool_cases (same_variable x y)) (without xs none)
+  without (y ∷ xs) none = by_test (cases_Bool (same_variable x y)) (without xs none)
     where
       by_test : ((same_variable x y ≡ true) ⊎ (same_variable x y ≡ false)) → first_image of_kind (binds xs) (number_of x) ≡ None → first_image of_kind (binds (y ∷ xs)) (number_of x) ≡ None
       by_test (inl t) ih =
@@ -68,7 +67,7 @@ module _ (l : Loader) (u : ℕ → Value) {A : Type 0} (of_kind : Image → Opti
   unfolding binds
   with_node [] n some one = absurd one
   with_node (y ∷ xs) n some (inl is) = ap (λ y. first_image of_kind (binding_by y u (node_for l y) ++ binds xs) (number_of x)) is ∙ own n (node_for l x) (binds xs) some
-  with_node (y ∷ xs) n some (inr one) = by_test (bool_cases (same_variable x y)) (with_node xs n some one)
+  with_node (y ∷ xs) n some (inr one) = by_test (cases_Bool (same_variable x y)) (with_node xs n some one)
     where
       by_test : ((same_variable x y ≡ true) ⊎ (same_variable x y ≡ false)) → first_image of_kind (binds xs) (number_of x) ≡ Some (value (u n)) →
           first_image of_kind (binds (y ∷ xs)) (number_of x) ≡ Some (value (u n))
@@ -156,7 +155,7 @@ names_of l = map (λ e. e.0) l.names.entries
 
 found_there : (x : Variable) (es : List (Variable × ℕ)) (n : ℕ) → lookup (same_variable x) es ≡ Some n → OneOf (λ y. y ≡ x) (map (λ e. e.0) es)
 found_there x [] n is = let f : None ≡ Some n = is in cc
-found_there x (e ∷ es) n is = by_test (bool_cases (same_variable x e.0)) (found_there x es n)
+found_there x (e ∷ es) n is = by_test (cases_Bool (same_variable x e.0)) (found_there x es n)
   where
     by_test : ((same_variable x e.0 ≡ true) ⊎ (same_variable x e.0 ≡ false)) → (lookup (same_variable x) es ≡ Some n → OneOf (λ y. y ≡ x) (map (λ e. e.0) es)) → OneOf (λ y. y ≡ x) (map (λ e. e.0) (e ∷ es))
     by_test (inl t) ih = inl (sym (same_is x e.0 t))

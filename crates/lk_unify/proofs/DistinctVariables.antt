@@ -3,13 +3,13 @@ use Rattle.std.proofs.Common.{◌≡◌, ◌⊎◌, inl, inr, Bool, true, false,
 use Rattle.std.specs.BTreeSet.{BTreeSet, IsFromIterResult}
 use Rattle.std.specs.List.{list_any}
 use Rattle.std.specs.Ordering.{eq_by_cmp}
+use Rattle.std.proofs.lemmas.Bool.{cases_Bool}
 use Rattle.lk_types.proofs.Members.{each_of_in}
 use Rattle.lk_types.proofs.SameVariable.{agrees, same_self, same_sym}
 use Rattle.lk_types.specs.Each.{Each, OneOf}
 use Rattle.lk_types.specs.Variables.{same_variable}
 use Rattle.lk_types.specs.declared.ty.Variable.{Variable}
 use Rattle.lk_unify.specs.Images.{variable_order}
-use Rattle.lk_arena.proofs.RowAlgebra.{bool_cases}
 
 abbrev has : Variable → List Variable → Bool
 has x xs = list_any (eq_by_cmp variable_order x) xs
@@ -25,7 +25,7 @@ there x (y ∷ xs) (inr one) = ap (λ b. eq_by_cmp variable_order x y || b) (the
 
 back : (x : Variable) (xs : List Variable) → has x xs ≡ true → OneOf (λ y. y ≡ x) xs
 back x [] is = let f : false ≡ true = is in cc
-back x (y ∷ xs) is = by_test (bool_cases (same_variable x y)) (back x xs)
+back x (y ∷ xs) is = by_test (cases_Bool (same_variable x y)) (back x xs)
   where
     by_test : ((same_variable x y ≡ true) ⊎ (same_variable x y ≡ false)) → (has x xs ≡ true → OneOf (λ y. y ≡ x) xs) → OneOf (λ y. y ≡ x) (y ∷ xs)
     by_test (inl t) ih = inl (same_sym x y t)

@@ -6,6 +6,7 @@ use Rattle.std.specs.List.{filter}
 use Rattle.std.specs.Ordering.{eq_by_cmp}
 use Rattle.std.specs.Prelude.{is_some, cond}
 use Rattle.std.specs.Str.{bytes_eq}
+use Rattle.std.proofs.lemmas.Bool.{cases_Bool}
 use Rattle.lk_types.proofs.LabelMaps.{labels_tie, labels_differ}
 use Rattle.lk_types.specs.Each.{OneOf}
 use Rattle.lk_types.specs.Rows.{Label, EffectSet, label_order}
@@ -14,7 +15,7 @@ use Rattle.lk_types.specs.declared.ty.Effect.{Effect}
 use Rattle.lk_types.specs.declared.ty.Effect.TheVariants.{Local, Move, Print, Rec, Scan, Trap, Write}
 use Rattle.lk_types.specs.declared.ty.RowTail.{RowTail}
 use Rattle.lk_types.specs.declared.ty.Ty.{Ty}
-use Rattle.lk_arena.proofs.RowAlgebra.{RowFields, one_more, bool_cases, same_rows, label_cases}
+use Rattle.lk_arena.proofs.RowAlgebra.{RowFields, one_more, same_rows, label_cases}
 use Rattle.lk_arena.specs.Kinds.{IsEffectName}
 use Rattle.lk_arena.specs.Openings.{OpenRow, only_tail, unit_type}
 use Rattle.lk_unify.specs.Reading.{effects_in}
@@ -71,7 +72,7 @@ get-none s (e ∷ es) l n =
     (λ (h : s e ≡ true).
     ap (λ m. fin.get m l) (taken s e es h) ∙ miss (row_of s es) (effect_word e) unit_type l (labels_differ l (effect_word e) (n e h)) ∙ get-none s es l n)
     (λ (h : s e ≡ false). ap (λ m. fin.get m l) (left s e es h) ∙ get-none s es l n)
-    (bool_cases (s e))
+    (cases_Bool (s e))
 
 get-some : (s : EffectSet) (es : List Effect) (l : Label) (x : Effect) → OneOf (λ e. e ≡ x) es → s x ≡ true → l ≡ effect_word x → fin.get (row_of s es) l ≡ Some unit_type
 get-some s [] l x o h is = absurd o
@@ -87,7 +88,7 @@ get-some s (e ∷ es) l x (inr o) h is =
     miss (row_of s es) (effect_word e) unit_type l a.0 ∙ get-some s es l x o h is)
     (tie_cases l (effect_word e)))
     (λ (f : s e ≡ false). ap (λ m. fin.get m l) (left s e es f) ∙ get-some s es l x o h is)
-    (bool_cases (s e))
+    (cases_Bool (s e))
 
 all_effects : (x : Effect) → OneOf (λ e. e ≡ x) (Local ∷ Move ∷ Print ∷ Rec ∷ Scan ∷ Trap ∷ Write ∷ [])
 all_effects Local = inl refl

@@ -1,6 +1,7 @@
 -- How large the sides of equations are under what is read back of the nodes.
 use Rattle.std.proofs.Common.{◌≡◌, ℕ, ◌+◌, ◌<◌, ◌≤◌, List, inl, inr, map, Some, sym, ◌∙◌, ap, subst, arith}
 use Rattle.std.specs.FinMap as fin
+use Rattle.std.proofs.lemmas.Option.{same_Some}
 use Rattle.lk_types.proofs.Members.{each_of_in}
 use Rattle.lk_types.proofs.Unfold.{nodes_variable}
 use Rattle.lk_types.specs.Each.{Each, OneOf}
@@ -29,9 +30,6 @@ use Rattle.lk_unify.specs.Reading.{opening_by, subst_of}
 use Rattle.lk_unify.specs.Small.{OwnNodes}
 use Rattle.lk_arena.specs.Values.{Value}
 use Rattle.lk_unify.specs.declared.loader.Loader.{Loader}
-
-some_once : {A : Type 0} (a b : A) → Some a ≡ Some b → a ≡ b
-some_once a b e = cc
 
 -- ---- how large the sides are
 
@@ -66,7 +64,7 @@ module _ (es : List Equation) (o : OwnNodes es) where
   sizes_are : (e : Equation) (t : Ty) → IsOpenMet (opening_by o.loader o.values) e → opened (opening_by o.loader o.values) e.left ≡ Some t →
       (size_under (subst_by o.loader o.values) e.left ≡ count 0 t) × (size_under (subst_by o.loader o.values) e.right ≡ count 0 t)
   sizes_are e t met is =
-      let same : met.0 ≡ t = (let f : Some met.0 ≡ Some t = sym met.1 ∙ is in some_once met.0 t f) in (
+      let same : met.0 ≡ t = (let f : Some met.0 ≡ Some t = sym met.1 ∙ is in same_Some met.0 t f) in (
         size_is (subst_by o.loader o.values) (opening_by o.loader o.values) (puts_all o.loader o.values) e.left t is,
         size_is (subst_by o.loader o.values) (opening_by o.loader o.values) (puts_all o.loader o.values) e.right t (met.2 ∙ ap Some same),
       )

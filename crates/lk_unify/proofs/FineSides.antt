@@ -3,12 +3,12 @@
 use Rattle.std.proofs.Common.{◌≡◌, ℕ, suc, ◌+◌, ◌<◌, ◌≤◌, true, List, [], ◌∷◌, ◌++◌, length, map, take, Option, Some, refl, sym, ◌∙◌, ap, subst, arith}
 use Rattle.std.proofs.lemmas.List.{take-map}
 use Rattle.std.specs.Option.{option_map}
+use Rattle.std.proofs.lemmas.Option.{same_Some}
 use Rattle.lk_types.specs.Each.{Each}
 use Rattle.lk_types.specs.Sizes.{most_nodes}
 use Rattle.lk_types.specs.Solutions.{HasSolution}
 use Rattle.lk_types.specs.declared.equation.Equation.{Equation}
 use Rattle.lk_unify.proofs.Firsts.{solution_first}
-use Rattle.lk_unify.proofs.LoadSteps.{some_once}
 use Rattle.lk_unify.proofs.SideCounts.{few, too_many, most_late, within_first, within_less}
 use Rattle.lk_unify.proofs.SideTypes.{are_sides, its_opening, own_sides, side_made, type_at}
 use Rattle.lk_unify.proofs.SolvedForm.{own_solves}
@@ -60,7 +60,7 @@ module _ (l : Loader) (kind : ℕ → Kind) (sides : List ℕ) (c of : ℕ → �
     side_within : (e : Equation) (n : ℕ) → IsSide part.loader e n → part.kind n ≡ OfTypes → IsOpenMet (its_opening p) e → of n ≤ most_nodes → count 0 (type_at p n) ≤ most_nodes
     side_within e n side types met within =
         let meaning = side.meaning p.values (its_opening p) p.own.fits (own_agrees p) in
-        let is : p.values n ≡ Plain (type_at p n) = sym (some_once (Plain (type_at p n)) (p.values n) (sym (ap (option_map Plain) (side_made p e n side met).0) ∙ meaning)) in
+        let is : p.values n ≡ Plain (type_at p n) = sym (same_Some (Plain (type_at p n)) (p.values n) (sym (ap (option_map Plain) (side_made p e n side met).0) ∙ meaning)) in
         let least : value_count 0 OfTypes (p.values n) ≤ c n = subst (λ k. value_count 0 k (p.values n) ≤ c n) types (node_below n side.below) in
         let here : value_count 0 OfTypes (p.values n) ≡ count 0 (type_at p n) = ap (value_count 0 OfTypes) is in
         let there = counts n (omega (arith, side.below, had.1.longer)) (had.1.kinds n side.below ∙ types) in

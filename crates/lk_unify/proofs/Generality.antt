@@ -1,6 +1,6 @@
 -- Each solution is an instance of what the values of the nodes put for the variables, where each class of which nothing is known
 -- stands for a variable of its own.
-use Rattle.std.proofs.Common.{◌≡◌, ℕ, ◌<◌, true, false, List, [], ◌∷◌, length, Option, Some, None, refl, ◌∙◌, ap, subst, arith}
+use Rattle.std.proofs.Common.{◌≡◌, ℕ, ◌<◌, true, false, List, [], ◌∷◌, length, Some, refl, ◌∙◌, ap, subst}
 use Rattle.std.specs.Prelude.{IsSome}
 use Rattle.lk_classes.specs.Classes.{class_at}
 use Rattle.lk_types.proofs.Unfold.{under_variable}
@@ -32,6 +32,7 @@ use Rattle.lk_unify.specs.declared.loader.Loader.{Loader}
 use Rattle.lk_arena.specs.declared.node.Shape.{Shape}
 use Rattle.lk_arena.specs.declared.node.Shape.TheVariants.{Free, Open, Empty, Made}
 use Rattle.lk_arena.specs.declared.node.Shape.TheVariants as shape
+use Rattle.lk_arena.proofs.Ranks.{some_of}
 
 -- ---- at a class of which nothing is known
 
@@ -84,10 +85,6 @@ module _ (l : Loader) (kind : ℕ → Kind) (kinded : IsKinded l kind) (rank : �
     reads : (i : ℕ) → i < length l.arena.shapes → Reads instance_by (kind i) (u i) (values.0 i)
     reads = reads_all l.arena.shapes l.arena.classes kind rank instance_by u values.0 says.whole.arena kinded.nodes ranked own.fits
         (weak l values.0 values.1) loose
-
-    some_of : (o : Option ℕ) → IsSome o → (n : ℕ) × (o ≡ Some n)
-    some_of None h = absurd (grind arith)
-    some_of (Some n) h = (n, refl)
 
     read_at : (x : Variable) (n : ℕ) → node_for l x ≡ Some n → Reads instance_by (kind_of x) (u n) (value_of (as_opening σ) x)
     read_at x n is =

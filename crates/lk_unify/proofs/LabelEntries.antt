@@ -7,7 +7,7 @@ use Rattle.std.specs.FinMap.Entries.{below_all, by_order}
 use Rattle.std.specs.List.{AllByRecursion}
 use Rattle.std.specs.List.Sorted.{IsStrictlySortedBy}
 use Rattle.std.specs.Ordering.{match_ordering}
-use Rattle.lk_types.proofs.LabelMaps.{both_hold}
+use Rattle.std.proofs.Math.Facts.{yes_and}
 use Rattle.lk_types.specs.Rows.{Label, label_order}
 use Rattle.lk_types.specs.declared.ty.Ty.{Ty}
 use Rattle.lk_types.specs.declared.ty.TyField.{TyField}
@@ -26,7 +26,7 @@ module _ {X : Type 0} where
   sorted : (es : List (Label × X)) → AreAscending es → T (fin.is_sorted label_order es)
   unfolding IsStrictlySortedBy
   sorted [] s = tt
-  sorted (e ∷ es) s = both_hold _ _ (below e.0 es s.0) (sorted es s.1)
+  sorted (e ∷ es) s = yes_and _ _ (below e.0 es s.0) (sorted es s.1)
 
   put_is : (k : Label) (v : X) (es : List (Label × X)) → fin.put label_order k v es ≡ insert_entry label_order es k v
   put_is k v [] = refl

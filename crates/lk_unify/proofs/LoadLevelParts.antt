@@ -2,6 +2,7 @@
 use Rattle.std.proofs.Common.{◌≡◌, ℕ, ◌<◌, List, [], ◌∷◌, length, map, refl, sym, ◌∙◌, ap, subst, arith, Option, Some, None}
 use Rattle.std.proofs.lemmas.List.{length-map}
 use Rattle.std.specs.Option.{option_map}
+use Rattle.std.proofs.lemmas.Option.{same_Some}
 use Rattle.lk_types.proofs.Members.{each_to_map}
 use Rattle.lk_types.proofs.Parts.{mapped}
 use Rattle.lk_types.specs.Each.{Each}
@@ -32,7 +33,7 @@ use Rattle.lk_arena.specs.declared.node.Shape.TheVariants as shape
 use Rattle.lk_unify.proofs.LoadLists.{loads_no_fields}
 use Rattle.lk_unify.proofs.LoadOn.{on_loads, on_made, on_more, on_through, part_at}
 use Rattle.lk_unify.proofs.LoadRows.{all_meaning, end, end_meaning, entry, loads_row_end, never_twice, none_left, row_is, row_known, row_says, row_stands}
-use Rattle.lk_unify.proofs.LoadSteps.{both, both_some, none_of, some_once}
+use Rattle.lk_unify.proofs.LoadSteps.{both, both_some, none_of}
 use Rattle.lk_unify.proofs.LoadTypes.{function_builds, function_says, loads_bool, loads_int, loads_text, loads_var, meaning, means, never_first}
 use Rattle.lk_unify.proofs.OpenUnfold.{opened_fields, opened_list, opened_tags}
 use Rattle.lk_unify.specs.LevelLoading.{level_field, node_at, LoadedOn, LoadsOn}
@@ -69,7 +70,7 @@ module _ {A : Type 0} (part : Opening → Option A) (wrap : A → Value) (make :
       let s = mapped Plain (option_map make (part ρ)) x (sym (is ρ) ∙ o) in
       let q = mapped make (part ρ) s.0 s.1 in
       let u = mapped wrap (part ρ) (v p) e in
-      let same : u.0 ≡ q.0 = some_once u.0 q.0 (sym u.1 ∙ q.1) in
+      let same : u.0 ≡ q.0 = same_Some u.0 q.0 (sym u.1 ∙ q.1) in
       subst (λ y. IsMadeOf h (y ∷ []) x) (sym (u.2 ∙ ap wrap same)) (subst (IsMadeOf h (wrap q.0 ∷ [])) (sym (s.2 ∙ ap Plain q.2)) (made q.0)))
 
   part_there : (ρ : Opening) (z : Value) → n ρ ≡ Some z → (w : Value) × (option_map wrap (part ρ) ≡ Some w)
@@ -114,7 +115,7 @@ module _ (params : List Ty) (es : Effects) (answer : Ty) where
       (λ v x ρ is built. function_says params es answer x (v first) (v second) (map v others) ρ is built)
       (λ v x ρ is o.
       let y = function_builds params es answer x ρ o in
-      subst (λ (z : (Value × List Value) × Value). IsMadeOf head.Fun (z.1 ∷ (z.0.0 ∷ z.0.1)) x) (some_once y.0 ((v second, map v others), v first) (sym y.1 ∙ is)) y.2))
+      subst (λ (z : (Value × List Value) × Value). IsMadeOf head.Fun (z.1 ∷ (z.0.0 ∷ z.0.1)) x) (same_Some y.0 ((v second, map v others), v first) (sym y.1 ∙ is)) y.2))
       (λ ρ z is.
       let y = function_builds params es answer z ρ is in
       let u = both_some (both (type_meaning answer ρ) (types_meaning params ρ)) (effects_meaning es ρ) y.0 y.1 in

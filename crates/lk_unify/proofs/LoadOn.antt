@@ -1,6 +1,7 @@
 -- A node more on nodes that were loaded, whatever was loaded beside them.
 use Rattle.std.proofs.Common.{◌≡◌, ℕ, zero, suc, ◌+◌, ◌<◌, List, [], ◌∷◌, ◌++◌, length, map, sym, ◌∙◌, ap, arith, Option, Some}
 use Rattle.std.proofs.lemmas.List.{map-append}
+use Rattle.std.proofs.lemmas.Option.{same_Some}
 use Rattle.lk_types.proofs.Members.{each_both, each_front, each_back, each_weaker}
 use Rattle.lk_types.proofs.Parts.{all_some}
 use Rattle.lk_types.specs.Each.{Each}
@@ -14,7 +15,7 @@ use Rattle.lk_arena.specs.Values.{Value}
 use Rattle.lk_arena.specs.declared.node.Shape.{Shape}
 use Rattle.lk_unify.proofs.LoadKinds.{kinds_as}
 use Rattle.lk_unify.proofs.LoadLists.{with_last, all_more}
-use Rattle.lk_unify.proofs.LoadSteps.{some_once, both, both_some, agrees_before, loads_as}
+use Rattle.lk_unify.proofs.LoadSteps.{both, both_some, agrees_before, loads_as}
 use Rattle.lk_unify.specs.LevelLoading.{node_at, LoadsOn}
 use Rattle.lk_unify.specs.Loading.{types_meaning, type_meaning, Agrees, IsLoader, KindsTo, Loads, LoadsAll, LoadsTo, Makes, SameKinds}
 use Rattle.lk_unify.specs.declared.loader.Loader.{Loader}
@@ -188,6 +189,6 @@ module _ (a c : Loader) (ts : List Ty) (ns : List ℕ) (p : ℕ) (l : LoadsAll a
           forth = λ v ρ x fits agrees e.
               let all = there ρ x e in
               let q = l.to.forth v ρ all.0 fits agrees all.1 in
-              (q.0, q.1, q.2, q.3, some_once (q.0 (node_at ns p)) x (sym (part_at q.0 ρ ts ns p (all.1 ∙ ap Some (sym q.4)) less) ∙ e));
+              (q.0, q.1, q.2, q.3, same_Some (q.0 (node_at ns p)) x (sym (part_at q.0 ρ ts ns p (all.1 ∙ ap Some (sym q.4)) less) ∙ e));
         };
       }

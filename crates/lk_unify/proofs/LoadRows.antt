@@ -4,6 +4,7 @@ use Rattle.std.specs.FinMap as fin
 use Rattle.std.specs.Option.{option_map}
 use Rattle.std.specs.Prelude.{is_some}
 use Rattle.std.specs.Str.{bytes_eq}
+use Rattle.std.proofs.lemmas.Option.{same_Some}
 use Rattle.lk_types.proofs.Parts.{mapped}
 use Rattle.lk_types.specs.Each.{Each}
 use Rattle.lk_types.specs.Grounding.{all_of}
@@ -22,7 +23,7 @@ use Rattle.lk_types.specs.declared.ty.Variable.TheVariants as variable
 use Rattle.lk_unify.proofs.LoadEffects.{known_effect, before_effect_row}
 use Rattle.lk_arena.proofs.Distinct.{lacks}
 use Rattle.lk_unify.proofs.LoadKinds.{kinds_nothing, kinds_both, kinds_behind, loads_more}
-use Rattle.lk_unify.proofs.LoadSteps.{some_once, none_of, both, both_some, loads_nothing, loads_both, loads_as}
+use Rattle.lk_unify.proofs.LoadSteps.{none_of, both, both_some, loads_nothing, loads_both, loads_as}
 use Rattle.lk_unify.proofs.OpenUnfold.{opened_row}
 use Rattle.lk_arena.proofs.RowAlgebra.{label_cases, found_below, row_same}
 use Rattle.lk_unify.proofs.RowsBefore.{AreKnown, before_is, before_some, before_once, with_one, hit, miss}
@@ -108,7 +109,7 @@ pub loads_closed : (b c : Loader) (k : ℕ) (kind : Kind) → ((j : ℕ → Kind
 loads_closed b c k kind fits whole add =
     loads_more {A = Unit {0}} b b c (λ ρ. Some (tt {0})) (λ v. tt {0}) Empty k (λ ρ. Some (OfRow (only_tail Closed))) (loads_nothing {A = Unit {0}} b (tt {0}) whole) (λ j. Unit {0}) kind add (kinds_nothing b) (λ j p. fits j)
     (λ v x ρ e built. ap Some (sym built))
-    (λ x ρ e. (tt {0}, refl {0}, λ w r. sym (some_once (OfRow (only_tail Closed)) x e)))
+    (λ x ρ e. (tt {0}, refl {0}, λ w r. sym (same_Some (OfRow (only_tail Closed)) x e)))
 
 row_end : (ρ : Opening) (tail : RowTail) → end_value (tail_variable variable.Row tail) ρ ≡ OfRow (tail_opened ρ tail)
 row_end ρ Closed = refl
@@ -181,7 +182,7 @@ module _ (r : TyRow) where
       → AreKnown v fields (map (entry ρ) fs) × (v tail ≡ OfRow (end ρ))
   row_known fields tail labels v ρ is =
       let s = both_some (fields_meaning fs ρ) (end_meaning ρ) (map (λ f. v f.node) fields, v tail) is in
-      (fields_known v ρ fs fields labels s.0, sym (some_once (end_value (tail_variable variable.Row (out-TyRow r).tail) ρ) (v tail) s.1) ∙ row_end ρ (out-TyRow r).tail)
+      (fields_known v ρ fs fields labels s.0, sym (same_Some (end_value (tail_variable variable.Row (out-TyRow r).tail) ρ) (v tail) s.1) ∙ row_end ρ (out-TyRow r).tail)
 
   pub loads_row_fields : (a b c d : Loader) (fields : List Field) (tail k : ℕ) → LoadsFields a b fs fields → Loads b c OfFields end_meaning tail → IsDistinct fields → Makes c d OfFields (shape.Row fields tail) k
       → Loads a d OfFields (row_meaning r) k
@@ -261,9 +262,9 @@ pub loads_unit : (a b c : Loader) (p k : ℕ) → Loads a b OfNothing (λ ρ. So
 loads_unit a b c p k l add =
     loads_more a b c (λ ρ. Some (OfRow (only_tail Closed))) (λ v. v p) (Made head.Fields (p ∷ [])) k (λ ρ. Some (Plain unit_type)) l.to (λ j. j p ≡ OfNothing) OfUnit add l.kinds (λ j e. e)
     (λ v x ρ e built.
-    let q : IsMadeOf head.Fields (OfRow (only_tail Closed) ∷ []) x = subst (λ y. IsMadeOf head.Fields (y ∷ []) x) (sym (some_once (OfRow (only_tail Closed)) (v p) e)) built in
+    let q : IsMadeOf head.Fields (OfRow (only_tail Closed) ∷ []) x = subst (λ y. IsMadeOf head.Fields (y ∷ []) x) (sym (same_Some (OfRow (only_tail Closed)) (v p) e)) built in
     ap Some (sym (q ∙ ap Plain unit_is)))
-    (λ x ρ e. (OfRow (only_tail Closed), refl, λ w r. subst (λ y. IsMadeOf head.Fields (y ∷ []) x) (sym r) (sym (some_once (Plain unit_type) x e) ∙ sym (ap Plain unit_is))))
+    (λ x ρ e. (OfRow (only_tail Closed), refl, λ w r. subst (λ y. IsMadeOf head.Fields (y ∷ []) x) (sym r) (sym (same_Some (Plain unit_type) x e) ∙ sym (ap Plain unit_is))))
 
 module _ (es : Effects) where
   abbrev effects_end : Opening → Option Value
@@ -290,8 +291,8 @@ module _ (es : Effects) where
       (λ ρ. effect_row (effects_tail_opened ρ es.tail)) (effects_is es)
       (λ v ρ s.
       let p = both_some (effects_end ρ) (Some (Plain unit_type)) (v tail, v unit) s in (
-        subst (λ fs. AreKnown v fs (map known_effect es.labels)) (sym is) (effects_known v unit es.labels (sym (some_once (Plain unit_type) (v unit) p.1))),
-        sym (some_once (end_value (tail_variable variable.Effects es.tail) ρ) (v tail) p.0) ∙ effect_end ρ es.tail,
+        subst (λ fs. AreKnown v fs (map known_effect es.labels)) (sym is) (effects_known v unit es.labels (sym (same_Some (Plain unit_type) (v unit) p.1))),
+        sym (same_Some (end_value (tail_variable variable.Effects es.tail) ρ) (v tail) p.0) ∙ effect_end ρ es.tail,
       ))
       (λ ρ x s. ((end_value (tail_variable variable.Effects es.tail) ρ, Plain unit_type), refl))
       (loads_both a b c effects_end (λ v. v tail) (λ ρ. Some (Plain unit_type)) (λ v. v unit) l.to u.to)

@@ -3,16 +3,18 @@ use Rattle.std.proofs.Common.{◌≡◌, ℕ, ◌<◌, true, false, ◌⊎◌, i
 use Rattle.std.specs.BTreeMap.{get, is_at}
 use Rattle.std.specs.Map.{lookup}
 use Rattle.std.specs.Ordering.{nat_cmp}
+use Rattle.std.proofs.lemmas.Bool.{cases_Bool}
+use Rattle.std.proofs.lemmas.Option.{same_Some}
 use Rattle.lk_types.specs.Variables.{same_variable}
 use Rattle.lk_types.specs.declared.ty.Ty.{Ty}
 use Rattle.lk_types.specs.declared.ty.Ty.TheVariants as ty
 use Rattle.lk_types.specs.declared.ty.Variable.{Variable}
 use Rattle.lk_unify.proofs.EffectSets.{same_set}
 use Rattle.lk_unify.proofs.LoadKinds.{put, kinded_nodes, new_kind, old_kind}
-use Rattle.lk_unify.proofs.LoadSteps.{some_once, added_arena, added_back, added_covers, added_below, added_built, added_made, added_node, one_longer, same_names, weak}
+use Rattle.lk_unify.proofs.LoadSteps.{added_arena, added_back, added_covers, added_below, added_built, added_made, added_node, one_longer, same_names, weak}
 use Rattle.lk_unify.proofs.LoadTypes.{plains_once}
 use Rattle.lk_unify.proofs.RowsBefore.{before_once}
-use Rattle.lk_arena.proofs.RowAlgebra.{bool_cases, row_same}
+use Rattle.lk_arena.proofs.RowAlgebra.{row_same}
 use Rattle.lk_arena.specs.Kinds.{Kind, HasKind}
 use Rattle.lk_arena.specs.Openings.{OpenRow, effects_type}
 use Rattle.lk_arena.specs.Shapes.{is_loose_shape, IsBuilt, IsRowOf}
@@ -158,6 +160,6 @@ makes_kept b c d kind s k key can add arena names made =
     (λ q m e.
     let one : MadeNode = record { kind = kind; shape = s; node = k } in
     ⊎_elim
-    (λ (t : is_at (nat_cmp key) q ≡ true). inl (some_once one m (sym (ap (λ b. cond b (Some one) (made_at c q)) t) ∙ sym (made q) ∙ e)))
+    (λ (t : is_at (nat_cmp key) q ≡ true). inl (same_Some one m (sym (ap (λ b. cond b (Some one) (made_at c q)) t) ∙ sym (made q) ∙ e)))
     (λ (f : is_at (nat_cmp key) q ≡ false). inr (sym (ap (λ b. cond b (Some one) (made_at c q)) f) ∙ sym (made q) ∙ e))
-    (bool_cases (is_at (nat_cmp key) q)))
+    (cases_Bool (is_at (nat_cmp key) q)))

@@ -5,6 +5,7 @@ use Rattle.std.specs.Map.{lookup}
 use Rattle.std.specs.Option.{option_map}
 use Rattle.std.specs.Ordering.{nat_cmp}
 use Rattle.std.specs.Prelude.{Err, IfOk, IsOkAnd, MatchResult, Ok, Result}
+use Rattle.std.proofs.lemmas.Option.{same_Some}
 use Rattle.lk_types.proofs.Parts.{mapped}
 use Rattle.lk_types.specs.Each.{Each}
 use Rattle.lk_arena.specs.Openings.{Opening}
@@ -24,9 +25,6 @@ use Rattle.lk_arena.specs.declared.node.Shape.{Shape}
 
 -- ---- options
 
-pub some_once : {A : Type 0} (a b : A) → Some a ≡ Some b → a ≡ b
-some_once a b e = cc
-
 pub none_of : {A : Type 0} (o : Option A) → ((a : A) → o ≡ Some a → ⊥) → o ≡ None
 none_of None n = refl
 none_of (Some a) n = absurd (n a refl)
@@ -39,7 +37,7 @@ both (Some a) q = option_map (λ b. (a, b)) q
 pub both_some : {A B : Type 0} (p : Option A) (q : Option B) (x : A × B) → both p q ≡ Some x → (p ≡ Some x.0) × (q ≡ Some x.1)
 both_some None q x e = cc
 both_some (Some a) None x e = cc
-both_some (Some a) (Some b) x e = (λ i. Some ((some_once (a, b) x e i).0), λ i. Some ((some_once (a, b) x e i).1))
+both_some (Some a) (Some b) x e = (λ i. Some ((same_Some (a, b) x e i).0), λ i. Some ((same_Some (a, b) x e i).1))
 
 -- ---- loads
 
@@ -56,7 +54,7 @@ loads_nothing l a whole = record {
   back = λ v f. f;
   covers = λ c f. f;
   is = λ v ρ f g. refl;
-  forth = λ v ρ x fits agrees e. (v, (λ i h. refl), fits, agrees, some_once a x e);
+  forth = λ v ρ x fits agrees e. (v, (λ i h. refl), fits, agrees, same_Some a x e);
 }
 
 pub loads_both : {A B : Type 0} (a b c : Loader) (m : Opening → Option A) (r : (ℕ → Value) → A) (n : Opening → Option B) (q : (ℕ → Value) → B)

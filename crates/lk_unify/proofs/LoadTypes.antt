@@ -1,6 +1,7 @@
 -- A node for a constructor on what stands for its parts.
 use Rattle.std.proofs.Common.{◌≡◌, ℕ, List, [], ◌∷◌, map, refl, sym, ◌∙◌, ap, subst, arith, Option, Some, None}
 use Rattle.std.specs.Option.{option_map}
+use Rattle.std.proofs.lemmas.Option.{same_Some}
 use Rattle.lk_types.proofs.Members.{each_to_map}
 use Rattle.lk_types.proofs.Parts.{mapped}
 use Rattle.lk_types.specs.Each.{Each}
@@ -11,7 +12,7 @@ use Rattle.lk_types.specs.declared.ty.Ty.TheVariants as ty
 use Rattle.lk_types.specs.declared.ty.TyRow.{TyRow}
 use Rattle.lk_unify.proofs.EffectSets.{same_set}
 use Rattle.lk_unify.proofs.LoadKinds.{kinds_nothing, kinds_both, loads_more}
-use Rattle.lk_unify.proofs.LoadSteps.{some_once, none_of, both, both_some, loads_nothing, loads_both, loads_as}
+use Rattle.lk_unify.proofs.LoadSteps.{none_of, both, both_some, loads_nothing, loads_both, loads_as}
 use Rattle.lk_unify.proofs.OpenUnfold.{opened_int, opened_bool, opened_text, opened_list, opened_fields, opened_tags, opened_function, opened_variable}
 use Rattle.lk_arena.proofs.Heads.{plain_injective}
 use Rattle.lk_arena.specs.Kinds.{Kind, OfTypes, OfFields, OfEffects, TakesKinds}
@@ -30,7 +31,7 @@ pub loads_base : (b c : Loader) (n : Opening → Option Value) (g : Ty) (h : Hea
 loads_base b c n g h k whole add is says made takes =
     loads_more {A = Unit {0}} b b c (λ ρ. Some (tt {0})) (λ v. tt {0}) (Made h []) k n (loads_nothing {A = Unit {0}} b (tt {0}) whole) (λ j. Unit {0}) OfTypes add (kinds_nothing b) (λ j p. takes)
     (λ v x ρ e built. is ρ ∙ ap Some (sym (says x built)))
-    (λ x ρ e. (tt {0}, refl {0}, λ w r. subst (IsMadeOf h []) (some_once (Plain g) x (sym (is ρ) ∙ e)) made))
+    (λ x ρ e. (tt {0}, refl {0}, λ w r. subst (IsMadeOf h []) (same_Some (Plain g) x (sym (is ρ) ∙ e)) made))
 
 pub loads_int : (b c : Loader) (k : ℕ) (t : Ty) → t ≡ ty.Int → IsLoader b → Makes b c OfTypes (Made head.Int []) k → Loads b c OfTypes (type_meaning t) k
 loads_int b c k t is whole add = loads_base b c (type_meaning t) ty.Int head.Int k whole add (λ ρ. ap (λ t. type_meaning t ρ) is ∙ ap (option_map Plain) (opened_int ρ)) (λ x e. e) refl tt
@@ -125,7 +126,7 @@ function_some : (o : Option (List Ty)) (p : Option OpenEffects) (q : Option Ty) 
 function_some None p q g e = cc
 function_some (Some ts) None q g e = cc
 function_some (Some ts) (Some s) None g e = cc
-function_some (Some ts) (Some s) (Some t) g e = (ts, s, t, refl, refl, refl, sym (some_once (ty.Fun ts (effects_type s) t) g e))
+function_some (Some ts) (Some s) (Some t) g e = (ts, s, t, refl, refl, refl, sym (same_Some (ty.Fun ts (effects_type s) t) g e))
 
 module _ (params : List Ty) (es : Effects) (answer : Ty) where
   types_are : (ρ : Opening) → types_meaning params ρ ≡ option_map (map Plain) (all_of (map (opened ρ) params))

@@ -3,8 +3,9 @@ use Rattle.std.proofs.Common.{◌≡◌, ℕ, ◌+◌, ◌<◌, true, false, ◌
 use Rattle.std.specs.BTreeMap.{get, is_at}
 use Rattle.std.specs.Map.{lookup}
 use Rattle.std.specs.Ordering.{nat_cmp}
+use Rattle.std.proofs.lemmas.Bool.{cases_Bool}
+use Rattle.std.proofs.lemmas.Option.{same_Some}
 use Rattle.lk_types.specs.Each.{Each}
-use Rattle.lk_arena.proofs.RowAlgebra.{bool_cases}
 use Rattle.lk_arena.specs.Openings.{Opening}
 use Rattle.lk_types.specs.Variables.{same_variable}
 use Rattle.lk_types.specs.contracts.ty.VariableOrd.TheImpl.{cmp-value}
@@ -12,7 +13,7 @@ use Rattle.lk_types.specs.declared.ty.Variable.{Variable}
 use Rattle.lk_types.specs.declared.ty.Variable.TheVariants as variable
 use Rattle.lk_unify.proofs.LoadKinds.{put, old_kind, new_kind, kinded_nodes}
 use Rattle.lk_types.proofs.SameVariable.{agrees, test_is, same_is, same_self}
-use Rattle.lk_unify.proofs.LoadSteps.{some_once, one_longer, same_names, added_below, added_back, added_covers, added_made, added_node, added_arena}
+use Rattle.lk_unify.proofs.LoadSteps.{one_longer, same_names, added_below, added_back, added_covers, added_made, added_node, added_arena}
 use Rattle.lk_arena.specs.Covering.{Covers}
 use Rattle.lk_arena.specs.Kinds.{Kind, HasKind, AreKinded}
 use Rattle.lk_unify.specs.Loading.{KindsTo, kind_of, made_at, node_for, value_of, shape_for, IsLoader, IsMade, Loads, Adds}
@@ -67,7 +68,7 @@ loads_known l x n whole is = record {
     back = λ v h. h;
     covers = λ c h. h;
     is = λ v ρ h agrees. ap Some (sym (agrees.at x n is));
-    forth = λ v ρ y fits agrees e. (v, (λ i h. refl), fits, agrees, agrees.at x n is ∙ some_once (value_of ρ x) y e);
+    forth = λ v ρ y fits agrees e. (v, (λ i h. refl), fits, agrees, agrees.at x n is ∙ same_Some (value_of ρ x) y e);
   };
 }
 
@@ -90,16 +91,16 @@ module _ (b c d : Loader) (x : Variable) (k : ℕ) (whole : IsLoader b) (none : 
   name_cases : (q : Variable) (n : ℕ) → node_for d q ≡ Some n → ((x ≡ q) × (n ≡ k)) ⊎ (node_for b q ≡ Some n)
   name_cases q n e =
       ⊎_elim
-      (λ (t : same_variable x q ≡ true). inl (same_is x q t, some_once n k (sym e ∙ now_named q ∙ ap (λ t. cond t (Some k) (node_for b q)) t)))
+      (λ (t : same_variable x q ≡ true). inl (same_is x q t, same_Some n k (sym e ∙ now_named q ∙ ap (λ t. cond t (Some k) (node_for b q)) t)))
       (λ (f : same_variable x q ≡ false). inr (sym (ap (λ t. cond t (Some k) (node_for b q)) f) ∙ sym (now_named q) ∙ e))
-      (bool_cases (same_variable x q))
+      (cases_Bool (same_variable x q))
 
   kept_names : (q : Variable) (n : ℕ) → node_for b q ≡ Some n → node_for d q ≡ Some n
   kept_names q n e =
       ⊎_elim
       (λ (t : same_variable x q ≡ true). (let h : None ≡ Some n = sym none ∙ ap (node_for b) (same_is x q t) ∙ e in cc))
       (λ (f : same_variable x q ≡ false). now_named q ∙ ap (λ t. cond t (Some k) (node_for b q)) f ∙ e)
-      (bool_cases (same_variable x q))
+      (cases_Bool (same_variable x q))
 
   longer : length d.arena.shapes ≡ length b.arena.shapes + 1
   longer = ap (λ a. length a.shapes) arena ∙ one_longer b c (shape_for x) k whole add parts
@@ -158,7 +159,7 @@ module _ (b c d : Loader) (x : Variable) (k : ℕ) (whole : IsLoader b) (none : 
       covers = λ q h. added_covers b c (shape_for x) k whole add parts q (subst (λ a. Covers a.shapes a.classes q) arena h);
       is = λ v ρ h agrees. ap Some (sym (agrees.at x k new_name));
       forth = λ v ρ y fits agrees e.
-          let s : value_of ρ x ≡ y = some_once (value_of ρ x) y e in
+          let s : value_of ρ x ≡ y = same_Some (value_of ρ x) y e in
           let h = added_node b c (shape_for x) k whole add parts v (value_of ρ x) fits (shape_fits x ρ v) in (
             h.0,
             h.1,

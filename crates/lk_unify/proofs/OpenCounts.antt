@@ -14,7 +14,7 @@ use Rattle.lk_types.specs.declared.ty.TyField.{TyField}
 use Rattle.lk_types.specs.declared.ty.TyRow.{TyRow, roll-TyRow, out-TyRow}
 use Rattle.lk_types.specs.declared.ty.Variable.{Variable}
 use Rattle.lk_types.specs.declared.ty.Variable.TheVariants as variable
-use Rattle.lk_unify.proofs.OpenUnfold.{count_int, count_bool, count_text, count_list, count_fields, count_tags, count_function, count_variable, count_row, count_rolled}
+use Rattle.lk_unify.proofs.OpenUnfold.{count_int, count_bool, count_text, count_list, count_fields, count_tags, count_function, count_variable, count_rolled}
 use Rattle.lk_types.proofs.TypeInduction.{Hereditary, every_type, every_row}
 use Rattle.lk_arena.specs.Counting.{sum_of}
 use Rattle.lk_unify.specs.Nodes.{count, row_count, end_count, effects_count}

@@ -5,6 +5,7 @@ use Rattle.std.specs.FinMap as fin
 use Rattle.std.specs.List.{filter}
 use Rattle.std.specs.Option.{option_map}
 use Rattle.std.specs.Ordering.{eq_by_cmp}
+use Rattle.std.proofs.lemmas.Bool.{cases_Bool}
 use Rattle.lk_types.proofs.SameEffect.{for_each_effect}
 use Rattle.lk_types.specs.Rows.{Label, EffectSet, label_order, same_effect, effects_of}
 use Rattle.lk_types.specs.TypeText.{effect_word}
@@ -15,7 +16,6 @@ use Rattle.lk_types.specs.declared.ty.Ty.{Ty}
 use Rattle.lk_types.proofs.LabelMaps.{Tied, Differ, tie_cases, same_maps, labels_differ}
 use Rattle.lk_unify.proofs.OpenEffectSets.{effect_cases}
 use Rattle.lk_unify.proofs.OpenGround.{get-as_row}
-use Rattle.lk_arena.proofs.RowAlgebra.{bool_cases}
 use Rattle.lk_arena.specs.Kinds.{IsEffectName}
 use Rattle.lk_arena.specs.Openings.{OpenRow, OpenEffects, unit_type, as_type, as_row, as_effects}
 use Rattle.lk_arena.specs.Values.{effect_row}
@@ -108,7 +108,7 @@ at_effect s x =
     ∙ ⊎_elim
     (λ (h : s.labels x ≡ true). kept s.labels x all h ∙ ap unit_if (for_each_effect (λ x. among x all ≡ true) refl refl refl refl refl refl refl x ∙ sym h))
     (λ (h : s.labels x ≡ false). left_out s.labels x all h ∙ ap unit_if (sym h))
-    (bool_cases (s.labels x))
+    (cases_Bool (s.labels x))
 
 pub at_other : (s : OpenEffects) (l : Label) → IsNoEffect l → fin.get (effect_row s).fields l ≡ None
 at_other s l n = fin.get-from_entries nat_list_cmp_total (map pair (effects_of s.labels)) l ∙ no_name s.labels l all n

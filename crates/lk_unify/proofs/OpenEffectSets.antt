@@ -1,6 +1,6 @@
 -- Sets of effects with an end, under a grounding: what one effect more becomes, and what a set becomes at each effect.
 use Rattle.std.proofs.Common.{◌≡◌, Bool, true, false, ◌||◌, ◌⊎◌, inl, inr, ⊎_elim, List, [], ◌∷◌, refl, sym, ◌∙◌, ap, subst, Option, Some, None, cond}
-use Rattle.std.proofs.lemmas.Bool.{or_parts}
+use Rattle.std.proofs.lemmas.Bool.{or_parts, cases_Bool}
 use Rattle.std.specs.List.{filter}
 use Rattle.std.specs.Prelude.{if◌then◌else◌}
 use Rattle.lk_types.proofs.Parts.{same_some}
@@ -10,7 +10,6 @@ use Rattle.lk_types.specs.Rows.{EffectSet, same_effect, with_effect, effects_of}
 use Rattle.lk_types.specs.declared.ty.Effect.{Effect}
 use Rattle.lk_types.specs.declared.ty.Effect.TheVariants.{Local, Move, Print, Rec, Scan, Trap, Write}
 use Rattle.lk_types.specs.declared.ty.RowTail.{RowTail}
-use Rattle.lk_arena.proofs.RowAlgebra.{bool_cases}
 use Rattle.lk_arena.specs.Openings.{OpenEffects, only_effects_tail, effects_type}
 
 -- ---- effects
@@ -176,7 +175,7 @@ module _ (s : EffectSet) where
   listed : (x : Effect) → has x (effects_of s) ≡ s x
   listed x =
       ⊎_elim (λ (h : s x ≡ true). in_set x seven h (for_each_effect (λ x. has x seven ≡ true) refl refl refl refl refl refl refl x) ∙ sym h)
-      (λ (h : s x ≡ false). out_of_set x seven h ∙ sym h) (bool_cases (s x))
+      (λ (h : s x ≡ false). out_of_set x seven h ∙ sym h) (cases_Bool (s x))
 
   listed_once : Distinct (effects_of s)
   listed_once = filtered seven (refl, (refl, (refl, (refl, (refl, (refl, (refl, tt)))))))

@@ -3,6 +3,7 @@ use Rattle.std.proofs.Common.{◌≡◌, ℕ, zero, suc, ◌<◌, ◌≤◌, tru
 use Rattle.std.proofs.lemmas.List.{length-take-le, take-map, take_all}
 use Rattle.std.specs.Option.{option_map}
 use Rattle.std.specs.Prelude.{IfOk, Result, Ok, Err}
+use Rattle.std.proofs.lemmas.Option.{same_Some}
 use Rattle.lk_types.specs.Each.{Each}
 use Rattle.lk_types.specs.Solutions.{HasSolution}
 use Rattle.lk_types.specs.Variables.{equation_variables}
@@ -38,9 +39,6 @@ first_each P zero xs each = tt
 first_each P (suc n) [] each = tt
 first_each P (suc n) (x ∷ xs) each = (each.0, first_each P n xs each.1)
 
-some_once : {A : Type 0} (a b : A) → Some a ≡ Some b → a ≡ b
-some_once a b e = cc
-
 -- ---- what the sides become
 
 module _ {es : List Equation} (o : OwnNodes es) where
@@ -51,7 +49,7 @@ module _ {es : List Equation} (o : OwnNodes es) where
   type_at n = type_in (o.values n)
 
   pub type_is : (e : Equation) (n : ℕ) (t : Ty) → IsSide o.loader e n → opened its_opening e.left ≡ Some t → t ≡ type_at n
-  type_is e n t side is = ap type_in (some_once (Plain t) (o.values n) (sym (ap (option_map Plain) is) ∙ side.meaning o.values its_opening o.own.fits (own_agrees o)))
+  type_is e n t side is = ap type_in (same_Some (Plain t) (o.values n) (sym (ap (option_map Plain) is) ∙ side.meaning o.values its_opening o.own.fits (own_agrees o)))
 
   pub side_made : (e : Equation) (n : ℕ) → IsSide o.loader e n → IsOpenMet its_opening e → (opened its_opening e.left ≡ Some (type_at n)) × (opened its_opening e.right ≡ Some (type_at n))
   side_made e n side met =

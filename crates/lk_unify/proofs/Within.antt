@@ -1,7 +1,7 @@
 -- Nodes that say equations with a solution have values where each class of which nothing is known is a variable of its own; what
 -- these values put for the variables agrees with them, and the counts of the classes tell how large the sides become.
 use Rattle.std.proofs.Common.{◌≡◌, ℕ, zero, suc, ◌+◌, ◌<◌, ◌≤◌, true, false, ◌⊎◌, inl, inr, List, [], ◌∷◌, length, take, Option, Some, None, refl, sym, ◌∙◌, ap, subst, arith}
-use Rattle.std.proofs.lemmas.Bool.{eqb-true}
+use Rattle.std.proofs.lemmas.Bool.{eqb-true, cases_Bool}
 use Rattle.std.proofs.lemmas.List.{take_all, length-take-le}
 use Rattle.std.specs.Map.{lookup}
 use Rattle.std.specs.Option.{option_map}
@@ -25,7 +25,6 @@ use Rattle.lk_unify.proofs.OwnModel.{own_exists, ranks_exist}
 use Rattle.lk_unify.proofs.Shaping.{HasValue}
 use Rattle.lk_unify.proofs.ValueKinds.{own_kinds}
 use Rattle.lk_unify.proofs.ValueCounts.{own_counted}
-use Rattle.lk_arena.proofs.RowAlgebra.{bool_cases}
 use Rattle.lk_arena.specs.Counting.{saturated, count_at, AreCountsOf, IsCountOf}
 use Rattle.lk_arena.specs.Kinds.{Kind, OfTypes, OfFields, OfEffects, OfUnit, OfNothing}
 use Rattle.lk_unify.specs.Loading.{node_for, value_of, kind_of, Agrees, IsKinded}
@@ -80,7 +79,7 @@ apart (variable.Effects m) (variable.Row n) less (inl e) = refl
 not_found : (x : Variable) (es : List (Variable × ℕ)) → above es ≤ number_of x → lookup (same_variable x) es ≡ None
 not_found x [] h = refl
 not_found x (e ∷ es) h =
-    ap (λ b. cond b (Some e.1) (lookup (same_variable x) es)) (apart x e.0 (omega arith) (bool_cases (same_variable x e.0))) ∙ not_found x es (omega arith)
+    ap (λ b. cond b (Some e.1) (lookup (same_variable x) es)) (apart x e.0 (omega arith) (cases_Bool (same_variable x e.0))) ∙ not_found x es (omega arith)
 
 abbrev pub base : Loader → ℕ
 base l = above l.names.entries

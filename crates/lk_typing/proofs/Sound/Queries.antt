@@ -1,7 +1,8 @@
 -- Where all that is said of a query, an update or a deletion holds, it has types by the rules if its parts have them.
-use Rattle.std.proofs.Common.{◌≡◌, ℕ, ◌+◌, Bool, true, false, ◌||◌, List, [], ◌∷◌, ◌++◌, map, refl, sym, subst, ap, ◌∙◌, Option, Some, None, is_some, if◌then◌else◌}
+use Rattle.std.proofs.Common.{◌≡◌, ℕ, ◌+◌, Bool, true, List, [], ◌∷◌, ◌++◌, map, refl, sym, subst, ap, ◌∙◌, Option, Some, None, is_some, if◌then◌else◌}
 use Rattle.std.specs.Option.{option_map}
 use Rattle.std.specs.Prelude.{find, bytes_eq}
+use Rattle.std.proofs.Math.Bool.{or-false}
 use Rattle.lk_ast.specs.Children.{exprs_of}
 use Rattle.lk_ast.specs.Layers.{layer}
 use Rattle.lk_ast.specs.declared.declaration.TableDecl.{TableDecl}
@@ -84,12 +85,8 @@ module _ (σ : Grounding) where
       let more : seen (under σ) sets ≡ seen (λ a. Some a) known_sets = cc in
       (subst (λ l. HasField g l known_set.1) label (field_sound t g set.0 set.1 known_set.1 n ty value met_all.0), sets_sound t g sets known_sets (1 + n) ty more met_all.1)
 
-  or_false : (b : Bool) → (b || false) ≡ b
-  or_false true = refl
-  or_false false = refl
-
   pub scan_only : HasEffects σ (unknown.effects_of (effect.Scan ∷ []) Closed) only_scan
-  scan_only = record { same = ap (λ s. Some s) (λ i e. or_false (same_effect effect.Scan e) i) }
+  scan_only = record { same = ap (λ s. Some s) (λ i e. or-false (same_effect effect.Scan e) i) }
 
   pub none_at_all : HasEffects σ (unknown.effects_of [] Closed) no_effects
   none_at_all = record { same = refl }
