@@ -25,7 +25,6 @@ ranking_start shapes classes = record {
 
 module _ (shapes : List Shape) (classes : List ℕ) (ranks : List (Option ℕ)) (order : List ℕ) (ranking : IsRanking shapes classes ranks order) where
   module _ (i : ℕ) (below : i < length shapes) (free : rank_at ranks i ≡ None) where
-
     place : i < length ranks
     place = let e : length ranks ≡ length shapes = ranking.count in omega arith
 

@@ -187,7 +187,6 @@ unmarked-set (false ∷ bs) (suc i) h e = let t = unmarked-set bs i (omega arith
 unmarked-set (true ∷ bs) (suc i) h e = unmarked-set bs i (omega arith) e
 
 module _ (shapes : List Shape) (classes : List ℕ) where
-
   pub marks_more : (marks : List Bool) (i : ℕ) → i < length shapes → AreMarked shapes classes marks → HasDistinctWay shapes classes i → AreMarked shapes classes (set marks i true)
   marks_more marks i b are way = record {
     count = length-set marks i true ∙ are.count;

@@ -106,4 +106,3 @@ given_local tables f g n same (part.Where c list) l = ap₂ (λ c list. λ value
 pub gives-at : (tables : Tables) (parts : List Part) (i : ℕ) (x : Part) → AreOrdered parts → Some x ≡ slice_get parts i → gives tables parts i ≡ given_level tables (gives tables parts) i x
 unfolding gives
 gives-at tables parts i x ordered e = filled-at (given_level tables) (given_local tables) _ parts i x ordered e
-

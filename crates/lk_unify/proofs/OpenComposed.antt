@@ -167,4 +167,3 @@ module _ (τ : Grounding) (ρ : Opening) (σ : Grounding) where
 
   pub type_composed : (t : Ty) (u : Ty) (g : Ground) → Each (OpensTo τ ρ σ) (variables_of t) → opened ρ t ≡ Some u → under σ t ≡ Some g → under τ u ≡ Some g
   type_composed = every_type Composed RowComposed steps
-
