@@ -39,9 +39,3 @@ read_again lines good = record {
   utf8 = text_utf8 lines good;
   read = text_read lines 0 (All-weaker IsGood IsSpelled (λ k h. h.spelled) (kinds_of lines) good);
 }
-
--- ---- what is written of a text's own tokens and of constant ones
-
-    good : (k : TokenKind) → ComesFrom tokens k → IsGood k
-    good k (inl among) = All-contains IsGood (map (λ (token : Token). token.kind) tokens) k own among
-    good k (inr constant) = constant_good k constant

@@ -138,19 +138,3 @@ effect_row-once s t e =
     let labels : s.labels ≡ t.labels = λ i x. unit_once (s.labels x) (t.labels x) (sym (at_effect s x) ∙ ap (λ m. fin.get m.fields (effect_word x)) e ∙ at_effect t x) i in
     let ends : s.tail ≡ t.tail = ap (λ m. m.tail) e in
     λ i. record { labels = labels i; tail = ends i }
-
--- ---- sets without a variable
-
-    found : (l : Label) (es : List Effect)
-        → fin.find label_order l (map (λ e. (effect_word e, unit_type)) es) ≡ option_map as_type (fin.find label_order l (map (λ e. (effect_word e, known.Fields [])) es))
-    found l [] = refl
-    found l (e ∷ es) =
-        ap (cond (eq_by_cmp label_order l (effect_word e)) (Some unit_type)) (found l es)
-        ∙ sym (by_test (eq_by_cmp label_order l (effect_word e)) (fin.find label_order l (map (λ e. (effect_word e, known.Fields [])) es)))
-
-    at : (l : Label) → fin.get (effect_row (as_effects s)).fields l ≡ fin.get (as_row (unit_row s)).fields l
-    at l =
-        fin.get-from_entries nat_list_cmp_total (map (λ e. (effect_word e, unit_type)) (effects_of s)) l
-        ∙ found l (effects_of s)
-        ∙ ap (option_map as_type) (sym (fin.get-from_entries nat_list_cmp_total (map (λ e. (effect_word e, known.Fields [])) (effects_of s)) l))
-        ∙ sym (get-as_row (unit_row s) l)
