@@ -1,5 +1,5 @@
 -- What a substitution that is read back of the nodes puts for a variable.
-use Rattle.std.proofs.Common.{◌≡◌, ℕ, Bool, true, false, List, [], ◌∷◌, ◌++◌, ◌⊎◌, inl, inr, Option, Some, None, cond, refl, sym, ◌∙◌, ap}
+use Rattle.std.proofs.Common.{◌≡◌, ℕ, Bool, true, false, List, [], ◌∷◌, ◌++◌, ◌⊎◌, inl, inr, Option, Some, None, cond, get_or, zero, suc, refl, sym, ◌∙◌, ap, subst}
 use Rattle.std.proofs.lemmas.Bool.{eqb-true, eq-eqb, cases_Bool}
 use Rattle.std.specs.FinMap as fin
 use Rattle.std.specs.Map.{lookup}
@@ -21,9 +21,11 @@ use Rattle.lk_unify.proofs.Instances.{PutsAt}
 use Rattle.lk_types.proofs.SameVariable.{same_is}
 use Rattle.lk_unify.specs.Loading.{node_for}
 use Rattle.lk_arena.specs.Openings.{only_tail, only_effects_tail, row_type, effects_type}
-use Rattle.lk_unify.specs.Reading.{type_in, row_in, effects_in, value_or, opening_by, image_of, number_of, binding_by, subst_of}
+use Rattle.lk_unify.specs.NamedNodes.{node_at, number_of}
+use Rattle.lk_unify.specs.Reading.{type_in, row_in, effects_in, value_or, opening_by, image_of, binding_by, subst_of}
 use Rattle.lk_arena.specs.Values.{Value, Plain, OfRow}
 use Rattle.lk_unify.specs.declared.loader.Loader.{Loader}
+use Rattle.lk_unify.specs.declared.named_nodes.NamedNode.{NamedNode}
 
 same_none : {A : Type 0} (b : Bool) → cond {A = Option A} b None None ≡ None
 same_none true = refl
@@ -150,8 +152,14 @@ module _ (xs : List Variable) (l : Loader) (u : ℕ → Value) where
 
 -- ---- for all variables that have nodes
 
+-- the variables that have places, and these
+abbrev pub placed : List (Option NamedNode) → List Variable → List Variable
+placed [] xs = xs
+placed (None ∷ places) xs = placed places xs
+placed (Some found ∷ places) xs = found.variable ∷ placed places xs
+
 abbrev pub names_of : Loader → List Variable
-names_of l = map (λ e. e.0) l.names.entries
+names_of l = placed l.names.places.items (map (λ e. e.0) l.names.others.entries)
 
 found_there : (x : Variable) (es : List (Variable × ℕ)) (n : ℕ) → lookup (same_variable x) es ≡ Some n → OneOf (λ y. y ≡ x) (map (λ e. e.0) es)
 found_there x [] n is = let f : None ≡ Some n = is in cc
@@ -161,5 +169,33 @@ found_there x (e ∷ es) n is = by_test (cases_Bool (same_variable x e.0)) (foun
     by_test (inl t) ih = inl (sym (same_is x e.0 t))
     by_test (inr f) ih = inr (ih (sym (ap (λ b. cond b (Some e.1) (lookup (same_variable x) es)) f) ∙ is))
 
+behind_places : (P : Variable → Type 0) (places : List (Option NamedNode)) (xs : List Variable) → OneOf P xs → OneOf P (placed places xs)
+behind_places P [] xs one = one
+behind_places P (None ∷ places) xs one = behind_places P places xs one
+behind_places P (Some found ∷ places) xs one = inr (behind_places P places xs one)
+
+at_place : (places : List (Option NamedNode)) (xs : List Variable) (i : ℕ) (found : NamedNode) → get_or places i None ≡ Some found → OneOf (λ y. y ≡ found.variable) (placed places xs)
+at_place [] xs zero found is = let f : None ≡ Some found = is in cc
+at_place [] xs (suc i) found is = let f : None ≡ Some found = is in cc
+at_place (None ∷ places) xs zero found is = let f : None ≡ Some found = is in cc
+at_place (Some other ∷ places) xs zero found is = inl (ap (λ f. f.variable) (let same : other ≡ found = cc in same))
+at_place (None ∷ places) xs (suc i) found is = at_place places xs i found is
+at_place (Some other ∷ places) xs (suc i) found is = inr (at_place places xs i found is)
+
+in_map : (places : List (Option NamedNode)) (others : List (Variable × ℕ)) (x : Variable) (n : ℕ) → lookup (same_variable x) others ≡ Some n →
+    OneOf (λ y. y ≡ x) (placed places (map (λ e. e.0) others))
+in_map places others x n is = behind_places (λ y. y ≡ x) places (map (λ e. e.0) others) (found_there x others n is)
+
+by_place : (places : List (Option NamedNode)) (others : List (Variable × ℕ)) (x : Variable) (n : ℕ) (o : Option NamedNode) → get_or places (number_of x) None ≡ o →
+    node_at o x (lookup (same_variable x) others) ≡ Some n → OneOf (λ y. y ≡ x) (placed places (map (λ e. e.0) others))
+by_place places others x n None at is = in_map places others x n is
+by_place places others x n (Some found) at is = by_test (cases_Bool (same_variable x found.variable))
+  where
+    by_test : ((same_variable x found.variable ≡ true) ⊎ (same_variable x found.variable ≡ false)) → OneOf (λ y. y ≡ x) (placed places (map (λ e. e.0) others))
+    by_test (inl t) =
+        subst (λ z. OneOf (λ y. y ≡ z) (placed places (map (λ e. e.0) others))) (sym (same_is x found.variable t))
+        (at_place places (map (λ e. e.0) others) (number_of x) found at)
+    by_test (inr f) = in_map places others x n (sym (ap (λ b. cond b (Some found.node) (lookup (same_variable x) others)) f) ∙ is)
+
 pub all_read : (l : Loader) (x : Variable) → IsRead (names_of l) l x
-all_read l x n is = found_there x l.names.entries n is
+all_read l x n is = by_place l.names.places.items l.names.others.entries x n (get_or l.names.places.items (number_of x) None) refl is

@@ -1,18 +1,18 @@
 -- The first of constraints whose equations and sizings are lists of their own: which of their first parts make no size too large that
 -- matters, and what is first of theirs is first of all.
-use Rattle.std.proofs.Common.{◌≡◌, ℕ, ◌+◌, ◌<◌, ◌≤◌, List, [], length, map, take, get_or, Option, Some, None, sym, ◌∙◌, ap, subst, arith}
-use Rattle.std.proofs.lemmas.List.{length-take-le, take_all}
-use Rattle.std.specs.Prelude.{IfNone, IfSome}
+use Rattle.std.proofs.Common.{◌≡◌, ℕ, ◌+◌, ◌<◌, ◌≤◌, Bool, true, List, length, map, take, get_or, Option, Some, None, sym, ◌∙◌, ap, subst, arith}
+use Rattle.std.proofs.lemmas.List.{length-take-le}
+use Rattle.std.specs.Prelude.{is_some, not, IfNone, IfSome}
 use Rattle.lk_types.specs.Solutions.{HasSolution}
 use Rattle.lk_types.specs.declared.equation.Equation.{Equation}
-use Rattle.lk_unify.proofs.Decided.{any_solution, says_all}
+use Rattle.lk_unify.proofs.Decided.{says_all}
 use Rattle.lk_unify.proofs.FineSides.{all_few}
 use Rattle.lk_unify.proofs.FineSides as sides
-use Rattle.lk_unify.proofs.Firsts.{all_first, first_of_first, none_first, one_more, solution_first}
+use Rattle.lk_unify.proofs.Firsts.{all_first, first_of_first, one_more, solution_first}
 use Rattle.lk_unify.proofs.Joined.{end_first, equations_first, equations_joined, joined_first, joined_length, sizings_first, sizings_joined}
 use Rattle.lk_unify.proofs.SideCounts.{beyond_more, by_late, within_less}
-use Rattle.lk_unify.proofs.SideTypes.{has_few, has_many, own_sides}
-use Rattle.lk_unify.proofs.Within.{loaded_first, own_of_nodes, ranking}
+use Rattle.lk_unify.proofs.SideTypes.{has_few, has_many}
+use Rattle.lk_unify.proofs.Within.{loaded_first, ranking}
 use Rattle.lk_arena.proofs.Counted.{count_by, counts_cover, counts_exist, types_some}
 use Rattle.lk_arena.specs.Counting.{count_at, saturated, AreCounted, CountOnceOpen, IsCountOf}
 use Rattle.lk_arena.specs.Kinds.{Kind, OfTypes}
@@ -23,7 +23,7 @@ use Rattle.lk_arena.specs.declared.node.Shape.{Shape}
 use Rattle.lk_unify.specs.Constraints.{end_of, equations_of, matters, AllFine, AreLarge, IsFirstLarge, IsFirstUnmet}
 use Rattle.lk_unify.specs.Nodes.{count}
 use Rattle.lk_unify.specs.SideSizes.{is_late, joined, last_by, sizings_of, AllMakeFew, AreAllWithin, CountFew, CountMany, HasFew, HasMany, IsFirstMany, MakeFew}
-use Rattle.lk_unify.specs.Solving.{AreLoaded, HadNodes, HasNodes, IsFirstWithout}
+use Rattle.lk_unify.specs.Solving.{AreLoaded, HadNodes, IsFirstWithout}
 use Rattle.lk_unify.specs.declared.constraint.Constraint.{Constraint}
 use Rattle.lk_unify.specs.declared.constraint.Sizing.{Sizing}
 use Rattle.lk_unify.specs.declared.constraint.Sizing.TheVariants.{Late}
@@ -37,9 +37,13 @@ pub if_some : {A : Type 0} {P Q : A → Type 0} → ((a : A) → P a → Q a) �
 if_some f None is = tt
 if_some f (Some a) is = f a is
 
--- no constraints make none too large
-pub none_few : HasNodes [] → (cs : List Constraint) → AllMakeFew (take 0 cs)
-none_few nodes cs = none_first MakeFew cs (own_sides (own_of_nodes nodes any_solution) [] tt, tt)
+pub if_both : {A : Type 0} {P Q R : A → Type 0} → ((a : A) → P a → Q a → R a) → (o : Option A) → IfSome o P → IfSome o Q → IfSome o R
+if_both f None first second = tt
+if_both f (Some a) first second = f a first second
+
+pub where_none : {A P : Type 0} (o : Option A) (b : Bool) → is_some o ≡ not b → b ≡ true → IfNone o P → P
+where_none None b told is found = found
+where_none (Some a) b told is found = cc
 
 module _ (es : List Equation) (ss : List Sizing) (same : length ss ≡ length es) where
   abbrev cs : List Constraint
@@ -80,8 +84,18 @@ module _ (es : List Equation) (ss : List Sizing) (same : length ss ≡ length es
         (subst (λ ss. AreAllWithin (Some Late) ss (map (λ n. (count_at classes few.0 n).as_type) all.sides)) (sym (sizings_joined es ss same)) few.2)
         (solved solution) (subst (λ es. (j : ℕ) → j ≤ length es → HadNodes (take j es) all.loader loaded.kind all.sides) (sym (equations_joined es ss same)) loaded.before)
 
-  pub whole_few : AllMakeFew (joined es ss) → AllMakeFew (take (length es) (joined es ss))
-  whole_few few = subst AllMakeFew (sym (take_all (length es) cs (let l = joined_length es ss same in omega arith))) few
+    -- of the first of them none has one too large where it is none of theirs that is too large in all
+    pub surely_first : (i : ℕ) → i ≤ length es → CountFew ends (Some Late) all (take i ss) → AllMakeFew (joined (take i es) (take i ss))
+    surely_first i within few =
+        let as_many : length (take i es) ≡ i = length-take-le i es within in
+        let same_first : length (take i ss) ≡ length (take i es) = length-take-le i ss (omega arith) ∙ sym as_many in
+        all_few all.loader loaded.kind all.sides c (λ n. (count_at classes few.0 n).as_type)
+        (counts_cover shapes classes arena loaded.kind loaded.kinded.nodes ends c counted once) (types_some shapes classes arena loaded.kind loaded.kinded.nodes ends c counted)
+        (λ n below is. of_kind (loaded.kind n) (count_at classes few.0 n) (c n) is (few.1 loaded.kind c loaded.kinded.nodes counted n below)) (joined (take i es) (take i ss))
+        (subst (λ ss. AreAllWithin (Some Late) ss (map (λ n. (count_at classes few.0 n).as_type) all.sides)) (sym (sizings_joined (take i es) (take i ss) same_first)) few.2)
+        (subst HasSolution (sym (equations_joined (take i es) (take i ss) same_first)) (solution_first es i solution))
+        (subst (λ es. (j : ℕ) → j ≤ length es → HadNodes (take j es) all.loader loaded.kind all.sides) (sym (equations_joined (take i es) (take i ss) same_first))
+        (λ j h. subst (λ es. HadNodes es all.loader loaded.kind all.sides) (sym (first_of_first es j i (omega arith))) (loaded.before j (omega arith))))
 
   pub all_are_few : (k : ℕ) → length es ≤ k → AllMakeFew (take k (joined es ss)) → AllMakeFew (joined es ss)
   all_are_few k end few = all_first MakeFew cs k (let l = joined_length es ss same in omega arith) few

@@ -23,10 +23,6 @@ module _ {A : Type 0} (P : List A → Type 0) where
   abbrev pub AllFirst : List A → Type 0
   AllFirst xs = (k : ℕ) → k ≤ length xs → P (take k xs)
 
-  pub none_first : (xs : List A) → P [] → AllFirst (take 0 xs)
-  none_first xs none zero h = none
-  none_first xs none (suc j) h = absurd (omega arith)
-
   -- one element more
   pub one_more : (xs : List A) (k : ℕ) → k < length xs → AllFirst (take k xs) → P (take (k + 1) xs) → AllFirst (take (k + 1) xs)
   one_more xs k below before last j h =

@@ -37,6 +37,7 @@ pub mod LoadTypes
 pub mod LoadVariables
 pub mod Loadeds
 pub mod Models
+pub mod NodesFound
 pub mod Numbering
 pub mod OpenAsGround
 pub mod OpenComposed

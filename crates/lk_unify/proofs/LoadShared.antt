@@ -1,11 +1,9 @@
 -- Nodes that are used again: what they were made for determines their values, so they serve as well as new ones.
 use Rattle.std.proofs.Common.{◌≡◌, ℕ, ◌<◌, true, false, ◌⊎◌, inl, inr, ⊎_elim, List, [], ◌∷◌, length, map, refl, sym, ◌∙◌, ap, subst, arith, Some, cond}
 use Rattle.std.specs.BTreeMap.{get, is_at}
-use Rattle.std.specs.Map.{lookup}
 use Rattle.std.specs.Ordering.{nat_cmp}
 use Rattle.std.proofs.lemmas.Bool.{cases_Bool}
 use Rattle.std.proofs.lemmas.Option.{same_Some}
-use Rattle.lk_types.specs.Variables.{same_variable}
 use Rattle.lk_types.specs.declared.ty.Ty.{Ty}
 use Rattle.lk_types.specs.declared.ty.Ty.TheVariants as ty
 use Rattle.lk_types.specs.declared.ty.Variable.{Variable}
@@ -25,6 +23,7 @@ use Rattle.lk_arena.specs.declared.node.Head.TheVariants as head
 use Rattle.lk_arena.specs.declared.node.Shape.{Shape}
 use Rattle.lk_arena.specs.declared.node.Shape.TheVariants.{Free, Open, Empty, Made}
 use Rattle.lk_arena.specs.declared.node.Shape.TheVariants as shape
+use Rattle.lk_unify.specs.NamedNodes.{node_in}
 use Rattle.lk_unify.specs.Loading.{kind_for, made_at, node_for, Adds, BringsKinds, CanMake, IsFound, IsKinded, IsLoader, IsMade, Makes}
 use Rattle.lk_unify.specs.declared.loader.Loader.{Loader}
 use Rattle.lk_unify.specs.declared.loader.MadeNode.{MadeNode}
@@ -100,7 +99,7 @@ module _ (b c d : Loader) (kind : NodeKind) (s : Shape) (k : ℕ) (can : CanMake
       (made q m is)
 
   same_names_all : (x : Variable) → node_for d x ≡ node_for b x
-  same_names_all x = ap (λ n. lookup (same_variable x) n.entries) names ∙ same_names b c s k can.whole add can.parts x
+  same_names_all x = ap (λ n. node_in n x) names ∙ same_names b c s k can.whole add can.parts x
 
   whole : IsLoader e
   whole = record {

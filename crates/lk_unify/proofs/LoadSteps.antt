@@ -1,7 +1,6 @@
 -- Loads one after another, a load under another reading, and a node that is put on what was loaded.
 use Rattle.std.proofs.Common.{[], ◌∷◌, ◌++◌, ◌≡◌, ℕ, ◌+◌, ◌<◌, ◌≤◌, List, length, refl, sym, ◌∙◌, ap, subst, arith, Option, Some, None}
 use Rattle.std.specs.BTreeMap.{get}
-use Rattle.std.specs.Map.{lookup}
 use Rattle.std.specs.Option.{option_map}
 use Rattle.std.specs.Ordering.{nat_cmp}
 use Rattle.std.specs.Prelude.{Err, IfOk, IsOkAnd, MatchResult, Ok, Result}
@@ -9,12 +8,12 @@ use Rattle.std.proofs.lemmas.Option.{same_Some}
 use Rattle.lk_types.proofs.Parts.{mapped}
 use Rattle.lk_types.specs.Each.{Each}
 use Rattle.lk_arena.specs.Openings.{Opening}
-use Rattle.lk_types.specs.Variables.{same_variable}
 use Rattle.lk_types.specs.declared.ty.TyField.{TyField}
 use Rattle.lk_types.specs.declared.ty.Variable.{Variable}
 use Rattle.lk_arena.proofs.Covering.{covers_push}
 use Rattle.lk_arena.proofs.Growth.{HasNode-push, WeakNodes-push, built_push, IsArena-push, more_count}
 use Rattle.lk_arena.specs.Kinds.{Kind}
+use Rattle.lk_unify.specs.NamedNodes.{node_in}
 use Rattle.lk_unify.specs.Loading.{node_for, made_at, Agrees, CoversBack, IsLoader, IsMade, LoadsTo, Loads, LoadsAll, LoadsFields, Loaded, LoadedAll, LoadedFields, Makes, NeverMeans, Adds, fields_meaning}
 use Rattle.lk_arena.specs.Shapes.{parts_of, fields_in, IsArena, IsBuilt, IsDistinct, HasFields, HasNode, FitsNodes, WeakNodes, SameBelow}
 use Rattle.lk_arena.specs.Values.{Value}
@@ -129,7 +128,7 @@ module _ (b c : Loader) (s : Shape) (k : ℕ) (whole : IsLoader b) (add : Adds b
   one_longer = ap length add.shapes ∙ more_count b.arena.shapes b.arena.classes s whole.arena parts
 
   pub same_names : (x : Variable) → node_for c x ≡ node_for b x
-  same_names x = ap (λ n. lookup (same_variable x) n.entries) add.names
+  same_names x = ap (λ n. node_in n x) add.names
 
   pub added_below : k < length c.arena.shapes
   added_below = let n = add.number in omega (arith, one_longer)

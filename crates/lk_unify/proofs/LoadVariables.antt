@@ -1,30 +1,25 @@
 -- The node of a variable.
 use Rattle.std.proofs.Common.{◌≡◌, ℕ, ◌+◌, ◌<◌, true, false, ◌⊎◌, inl, inr, ⊎_elim, length, refl, sym, ◌∙◌, ap, subst, arith, Some, None, cond}
-use Rattle.std.specs.BTreeMap.{get, is_at}
-use Rattle.std.specs.Map.{lookup}
+use Rattle.std.specs.BTreeMap.{get}
 use Rattle.std.specs.Ordering.{nat_cmp}
 use Rattle.std.proofs.lemmas.Bool.{cases_Bool}
 use Rattle.std.proofs.lemmas.Option.{same_Some}
 use Rattle.lk_types.specs.Each.{Each}
 use Rattle.lk_arena.specs.Openings.{Opening}
 use Rattle.lk_types.specs.Variables.{same_variable}
-use Rattle.lk_types.specs.contracts.ty.VariableOrd.TheImpl.{cmp-value}
 use Rattle.lk_types.specs.declared.ty.Variable.{Variable}
 use Rattle.lk_types.specs.declared.ty.Variable.TheVariants as variable
 use Rattle.lk_unify.proofs.LoadKinds.{put, old_kind, new_kind, kinded_nodes}
-use Rattle.lk_types.proofs.SameVariable.{agrees, test_is, same_is, same_self}
+use Rattle.lk_types.proofs.SameVariable.{same_is, same_self}
 use Rattle.lk_unify.proofs.LoadSteps.{one_longer, same_names, added_below, added_back, added_covers, added_made, added_node, added_arena}
 use Rattle.lk_arena.specs.Covering.{Covers}
 use Rattle.lk_arena.specs.Kinds.{Kind, HasKind, AreKinded}
+use Rattle.lk_unify.specs.NamedNodes.{node_in}
 use Rattle.lk_unify.specs.Loading.{KindsTo, kind_of, made_at, node_for, value_of, shape_for, IsLoader, IsMade, Loads, Adds}
 use Rattle.lk_arena.specs.Shapes.{parts_of, fields_in, IsArena, IsBuilt, IsDistinct, HasFields, FitsNodes, WeakNodes}
 use Rattle.lk_arena.specs.Values.{Value}
 use Rattle.lk_unify.specs.declared.loader.Loader.{Loader}
 use Rattle.lk_unify.specs.declared.loader.MadeNode.{MadeNode}
-
--- what the map finds
-pub found_is : (l : Loader) (x : Variable) → get cmp-value.it l.names x ≡ node_for l x
-found_is l x = ap (λ test. lookup test l.names.entries) (test_is x)
 
 -- ---- shapes of variables
 
@@ -75,14 +70,12 @@ loads_known l x n whole is = record {
 -- ---- a variable that gets one
 
 module _ (b c d : Loader) (x : Variable) (k : ℕ) (whole : IsLoader b) (none : node_for b x ≡ None) (add : Adds b c (shape_for x) k) (arena : d.arena ≡ c.arena) (made : d.made ≡ c.made)
-    (names : (q : Variable) → get cmp-value.it d.names q ≡ cond (is_at (cmp-value.it x) q) (Some k) (get cmp-value.it c.names q)) where
+    (names : (q : Variable) → node_in d.names q ≡ cond (same_variable x q) (Some k) (node_in c.names q)) where
   parts : Each (λ p. p < length b.arena.shapes) (parts_of (shape_for x))
   parts = shape_parts x (λ p. p < length b.arena.shapes)
 
   now_named : (q : Variable) → node_for d q ≡ cond (same_variable x q) (Some k) (node_for b q)
-  now_named q =
-      sym (found_is d q) ∙ names q ∙ ap (λ t. cond t (Some k) (get cmp-value.it c.names q)) (agrees x q)
-      ∙ ap (cond (same_variable x q) (Some k)) (found_is c q ∙ same_names b c (shape_for x) k whole add parts q)
+  now_named q = names q ∙ ap (cond (same_variable x q) (Some k)) (same_names b c (shape_for x) k whole add parts q)
 
   pub new_name : node_for d x ≡ Some k
   new_name = now_named x ∙ ap (λ t. cond t (Some k) (node_for b x)) (same_self x)

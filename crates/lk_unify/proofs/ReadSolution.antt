@@ -20,7 +20,8 @@ use Rattle.lk_arena.specs.Kinds.{Kind}
 use Rattle.lk_unify.specs.Images.{variable_of, IsImageInOrder}
 use Rattle.lk_unify.specs.Loading.{node_for, IsKinded}
 use Rattle.lk_unify.specs.Models.{IsOwn}
-use Rattle.lk_unify.specs.Reading.{binding_by, image_of, number_of, subst_of, IsNaming}
+use Rattle.lk_unify.specs.NamedNodes.{number_of}
+use Rattle.lk_unify.specs.Reading.{binding_by, image_of, subst_of, IsNaming}
 use Rattle.lk_unify.specs.Small.{OwnNodes}
 use Rattle.lk_unify.specs.Solving.{AreLoaded}
 use Rattle.lk_arena.specs.Values.{Value}

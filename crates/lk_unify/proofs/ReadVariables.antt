@@ -8,7 +8,8 @@ use Rattle.lk_types.specs.declared.ty.Variable.{Variable}
 use Rattle.lk_arena.specs.Kinds.{Kind}
 use Rattle.lk_unify.specs.Loading.{node_for, kind_of, IsLoader, IsKinded}
 use Rattle.lk_arena.specs.Order.{IsRanked}
-use Rattle.lk_unify.specs.Reading.{CanRead, binding_by, image_of, number_of, subst_of}
+use Rattle.lk_unify.specs.NamedNodes.{number_of}
+use Rattle.lk_unify.specs.Reading.{CanRead, binding_by, image_of, subst_of}
 use Rattle.lk_arena.specs.Values.{Value}
 use Rattle.lk_unify.specs.declared.loader.Loader.{Loader}
 

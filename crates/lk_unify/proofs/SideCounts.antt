@@ -68,6 +68,13 @@ within_first end f (suc k) [] ns rest all = tt
 within_first end f (suc k) (s ∷ ss) [] rest all = tt
 within_first end f (suc k) (s ∷ ss) (n ∷ ns) rest all = (all.0, within_first end f k ss ns rest all.1)
 
+-- it is enough to look at as many numbers
+pub within_of_first : (end : Option Sizing) (f : ℕ → ℕ) (i : ℕ) (ss : List Sizing) (ns : List ℕ) → AreAllWithin end (take i ss) (map f (take i ns)) → AreAllWithin end (take i ss) (map f ns)
+within_of_first end f zero ss ns all = tt
+within_of_first end f (suc i) [] ns all = tt
+within_of_first end f (suc i) (s ∷ ss) [] all = tt
+within_of_first end f (suc i) (s ∷ ss) (n ∷ ns) all = (all.0, within_of_first end f i ss ns all.1)
+
 -- where fewer sizes matter
 module _ (end less : Option Sizing) (fewer : (s : Sizing) → matters less s ≡ true → matters end s ≡ true) where
   pub within_less : (ss : List Sizing) (ns : List ℕ) → AreAllWithin end ss ns → AreAllWithin less ss ns

@@ -1,16 +1,15 @@
 -- What nodes say when variables get nodes, when one equation more is made into nodes, and when its sides are merged.
 use Rattle.std.proofs.Common.{◌≡◌, ℕ, refl, ◌<◌, List, [], ◌∷◌, ◌++◌, length, sym, subst, ◌∙◌, ap, arith, Option, Some, None}
 use Rattle.std.specs.BTreeMap.{get}
-use Rattle.std.specs.Map.{lookup}
 use Rattle.std.specs.Ordering.{nat_cmp}
 use Rattle.std.specs.Prelude.{IsSome}
 use Rattle.lk_types.specs.declared.ty.RowTail.TheVariants.{Closed}
-use Rattle.lk_types.specs.Variables.{same_variable}
 use Rattle.lk_types.specs.declared.equation.Equation.{Equation}
 use Rattle.lk_types.specs.declared.ty.Variable.{Variable}
 use Rattle.lk_arena.proofs.Ranks.{some_of}
 use Rattle.lk_unify.proofs.LoadSteps.{made_still}
 use Rattle.lk_arena.specs.Kinds.{Kind, OfTypes}
+use Rattle.lk_unify.specs.NamedNodes.{node_in}
 use Rattle.lk_unify.specs.Loading.{node_for, kind_of, end_value, made_at, Agrees, IsLoader, IsKinded, Loads, LoadsEquation}
 use Rattle.lk_arena.specs.Openings.{Opening, only_tail}
 use Rattle.lk_arena.specs.Shapes.{WeakNodes, NeverSame}
@@ -31,7 +30,7 @@ module _ (b m : Loader) (e : Equation) (p : Pair) (loads : LoadsEquation b m e p
 
   module _ (c : Loader) (same : c.names ≡ m.names) (made : c.made ≡ m.made) (leads : Leads p.left p.right m.arena.shapes m.arena.classes c.arena.shapes c.arena.classes []) where
     named : (x : Variable) (n : ℕ) → node_for c x ≡ Some n → node_for m x ≡ Some n
-    named x n is = ap (λ names. lookup (same_variable x) names.entries) (sym same) ∙ is
+    named x n is = ap (λ names. node_in names x) (sym same) ∙ is
 
     below : (x : Variable) (n : ℕ) → node_for c x ≡ Some n → n < length m.arena.shapes
     below x n is = loads.whole.named x n (named x n is)
@@ -39,7 +38,7 @@ module _ (b m : Loader) (e : Equation) (p : Pair) (loads : LoadsEquation b m e p
     back : (v : ℕ → Value) (ρ : Opening) → WeakNodes c.arena.shapes c.arena.classes v → Agrees c ρ v → WeakNodes m.arena.shapes m.arena.classes v × (v p.left ≡ v p.right) × Agrees m ρ v
     back v ρ fits agrees =
         let at_m = leads.back v (record { nodes = fits; equates = tt }) in
-        (at_m.0, at_m.1, record { at = λ x n is. agrees.at x n (ap (λ names. lookup (same_variable x) names.entries) same ∙ is) })
+        (at_m.0, at_m.1, record { at = λ x n is. agrees.at x n (ap (λ names. node_in names x) same ∙ is) })
 
     made_before : (key : ℕ) (n : MadeNode) → made_at c key ≡ Some n → made_at m key ≡ Some n
     made_before key n is = sym (ap (λ made. get nat_cmp made key) made) ∙ is
@@ -49,7 +48,7 @@ module _ (b m : Loader) (e : Equation) (p : Pair) (loads : LoadsEquation b m e p
       whole = record { arena = leads.arena; named = λ x n is. let under = below x n is in omega (arith, leads.longer); made = made_still m c loads.whole leads.longer (λ v fits. (leads.back v (record { nodes = fits; equates = tt })).0) made };
       longer = omega (arith, loads.longer, leads.longer);
       below = omega (arith, loads.left_below, leads.longer);
-      kept = λ x n is. ap (λ names. lookup (same_variable x) names.entries) same ∙ loads.kept x n is;
+      kept = λ x n is. ap (λ names. node_in names x) same ∙ loads.kept x n is;
       kinds = λ k kinded.
           let loaded = loads.kinds.kinds k kinded in
           let merged = leads.kinds loaded.0 loaded.2.nodes (loaded.3.0 ∙ sym loaded.3.1) in (

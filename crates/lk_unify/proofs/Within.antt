@@ -2,7 +2,7 @@
 -- these values put for the variables agrees with them, and the counts of the classes tell how large the sides become.
 use Rattle.std.proofs.Common.{◌≡◌, ℕ, zero, suc, ◌+◌, ◌<◌, ◌≤◌, true, false, ◌⊎◌, inl, inr, List, [], ◌∷◌, length, take, Option, Some, None, refl, sym, ◌∙◌, ap, subst, arith}
 use Rattle.std.proofs.lemmas.Bool.{eqb-true, cases_Bool}
-use Rattle.std.proofs.lemmas.List.{take_all, length-take-le}
+use Rattle.std.proofs.lemmas.List.{get_or_past, take_all, length-take-le}
 use Rattle.std.specs.Map.{lookup}
 use Rattle.std.specs.Option.{option_map}
 use Rattle.std.specs.Prelude.{cond, IsSome}
@@ -32,7 +32,8 @@ use Rattle.lk_unify.specs.Models.{IsOwn}
 use Rattle.lk_unify.specs.Nodes.{count, value_count}
 use Rattle.lk_arena.specs.Openings.{IsOpenMet, as_opening, only_tail, opened}
 use Rattle.lk_arena.specs.Order.{IsRanked}
-use Rattle.lk_unify.specs.Reading.{type_in, row_in, effects_in, value_or, opening_by, own_variable, number_of, IsNaming}
+use Rattle.lk_unify.specs.NamedNodes.{node_at, number_of}
+use Rattle.lk_unify.specs.Reading.{type_in, row_in, effects_in, value_or, opening_by, own_variable, IsNaming}
 use Rattle.lk_arena.specs.Shapes.{WeakNodes}
 use Rattle.lk_unify.specs.Small.{OwnNodes}
 use Rattle.lk_unify.specs.Solving.{Says, HadNodes, HasNodes, HasValues, AreBound, AreLoaded, AreSides, IsSide}
@@ -82,7 +83,13 @@ not_found x (e ∷ es) h =
     ap (λ b. cond b (Some e.1) (lookup (same_variable x) es)) (apart x e.0 (omega arith) (cases_Bool (same_variable x e.0))) ∙ not_found x es (omega arith)
 
 abbrev pub base : Loader → ℕ
-base l = above l.names.entries
+base l = above l.names.others.entries + length l.names.places.items
+
+-- from there on no variable has a node
+no_node : (l : Loader) (x : Variable) → base l ≤ number_of x → node_for l x ≡ None
+no_node l x h =
+    ap (λ o. node_at o x (lookup (same_variable x) l.names.others.entries)) (get_or_past l.names.places.items (number_of x) None (omega arith)) ∙
+    not_found x l.names.others.entries (omega arith)
 
 number_own : (k : Kind) (n : ℕ) → number_of (own_variable k n) ≡ n
 number_own OfTypes n = refl
@@ -97,7 +104,7 @@ named_above l kind = record {
   unused = λ i h c s.
       (let above = plus-above (base l) i in
       let is = number_own (kind i) (plus (base l) i) in
-      not_found (own_variable (kind i) (plus (base l) i)) l.names.entries (omega arith));
+      no_node l (own_variable (kind i) (plus (base l) i)) (omega arith));
 }
 
 -- ---- values of one's own

@@ -6,6 +6,7 @@ pub mod LevelLoading
 pub mod Levels
 pub mod Loading
 pub mod Models
+pub mod NamedNodes
 pub mod Nodes
 pub mod Reading
 pub mod SideSizes

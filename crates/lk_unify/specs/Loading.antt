@@ -1,14 +1,12 @@
 -- Types as nodes: a node for each variable, the same one wherever it stands again, one for each constructor, for each row with
 -- fields and for each end of a row without a variable. What nodes and values have to do with what types become (`Opening`).
 use Rattle.std.specs.BTreeMap.{get}
-use Rattle.std.specs.Map.{lookup}
 use Rattle.std.specs.Option.{option_map}
 use Rattle.std.specs.Ordering.{nat_cmp}
 use Rattle.std.specs.Prelude.{◌≡◌, ◌≢◌, ℕ, ◌<◌, ◌≤◌, false, List, ◌∷◌, [], ◌++◌, length, map, Option, Some, None}
 use Rattle.lk_types.specs.Each.{Each}
 use Rattle.lk_types.specs.Grounding.{all_of}
 use Rattle.lk_types.specs.TypeText.{effect_word}
-use Rattle.lk_types.specs.Variables.{same_variable}
 use Rattle.lk_types.specs.declared.equation.Equation.{Equation}
 use Rattle.lk_types.specs.declared.ty.Effect.{Effect}
 use Rattle.lk_types.specs.declared.ty.Effects.{Effects}
@@ -23,6 +21,7 @@ use Rattle.lk_arena.specs.Kinds.{Kind, OfTypes, OfFields, OfEffects, OfUnit, OfN
 use Rattle.lk_arena.specs.Openings.{Opening, IsOpenMet, opened, row_opened, effects_opened, only_tail}
 use Rattle.lk_arena.specs.Shapes.{fields_in, is_loose_shape, parts_of, AllBelow, HasFields, HasNode, IsArena, IsBuilt, IsDistinct, SameBelow, FitsNodes, WeakNodes}
 use Rattle.lk_arena.specs.Values.{Value, Plain, OfRow, effect_row}
+use Rattle.lk_unify.specs.NamedNodes.{node_in}
 use Rattle.lk_unify.specs.declared.loader.Loader.{Loader}
 use Rattle.lk_unify.specs.declared.loader.MadeNode.{MadeNode}
 use Rattle.lk_unify.specs.declared.loader.NodeKind.{NodeKind}
@@ -65,7 +64,7 @@ end_value (Some x) ρ = value_of ρ x
 -- ---- nodes for variables
 
 abbrev pub node_for : Loader → Variable → Option ℕ
-node_for l x = lookup (same_variable x) l.names.entries
+node_for l x = node_in l.names x
 
 -- what is known of a variable before anything is merged
 abbrev pub shape_for : Variable → Shape

@@ -16,6 +16,7 @@ use Rattle.lk_types.specs.declared.ty.Variable.{Variable}
 use Rattle.lk_types.specs.declared.ty.Variable.TheVariants as variable
 use Rattle.lk_arena.specs.Kinds.{Kind, OfTypes, OfFields, OfEffects, OfUnit, OfNothing, AreKinded}
 use Rattle.lk_unify.specs.Loading.{node_for}
+use Rattle.lk_unify.specs.NamedNodes.{number_of}
 use Rattle.lk_arena.specs.Openings.{OpenRow, OpenEffects, Opening, only_tail, row_type, effects_type}
 use Rattle.lk_arena.specs.Order.{IsRanked}
 use Rattle.lk_arena.specs.Shapes.{shape_at, is_loose_shape, IsArena, IsDistinct, IsPlain}
@@ -57,11 +58,6 @@ abbrev pub image_of : Variable → Value → Image
 image_of (variable.Plain n) x = image.Plain (type_in x)
 image_of (variable.Row n) x = image.Row (row_type (row_in x))
 image_of (variable.Effects n) x = image.Effects (effects_type (effects_in (row_in x)))
-
-abbrev pub number_of : Variable → ℕ
-number_of (variable.Plain n) = n
-number_of (variable.Row n) = n
-number_of (variable.Effects n) = n
 
 -- what is put for a variable, by the value of its node
 abbrev pub binding_by : Variable → (ℕ → Value) → Option ℕ → List Binding

@@ -14,6 +14,7 @@ mod load;
 mod load_levels;
 mod load_sides;
 mod loader;
+mod named_nodes;
 mod numbers;
 mod ordered;
 mod reading;

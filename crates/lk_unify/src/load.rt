@@ -53,7 +53,7 @@ pub fn load_variable(loader: &mut Loader, variable: Variable) -> Result<usize, N
         Some(node) => Ok(node),
         None => {
             let node = add_node(loader, shape_for(variable))?;
-            drop(loader.names.insert(variable, node)?);
+            loader.names.insert(variable, node)?;
             Ok(node)
         }
     }

@@ -1,5 +1,6 @@
 //! Nodes, which of them stand for variables, and which are used again where the same is to be made.
 
+use crate::named_nodes::NamedNodes;
 use lk_arena::{Arena, Shape};
 use lk_ast::List;
 use lk_types::Variable;
@@ -30,7 +31,7 @@ pub struct MadeNode {
 #[derive(Drop)]
 pub struct Loader {
     pub arena: Arena,
-    pub names: BTreeMap<Variable, usize>,
+    pub names: NamedNodes,
     pub made: BTreeMap<u64, MadeNode>,
     pub closed: List<bool>,
 }
@@ -51,7 +52,7 @@ impl Loader {
     {
         Loader {
             arena: Arena::new(alloc),
-            names: BTreeMap::new(alloc),
+            names: NamedNodes::new(alloc),
             made: BTreeMap::new(alloc),
             closed: List::new(alloc),
         }
@@ -61,6 +62,6 @@ impl Loader {
     pub fn node_for(&self, variable: Variable) -> Option<usize>
         ensures { result ≡ node_for self.now variable }
     {
-        self.names.get(&variable).copied()
+        self.names.get(variable)
     }
 }

@@ -7,11 +7,12 @@ ghost use Rattle.lk_unify.specs.Loading.{kind_of, IsKinded, IsLoader};
 ghost use Rattle.lk_unify.specs.Models.{IsOwn};
 ghost use Rattle.lk_arena.specs.Openings.{row_type};
 ghost use Rattle.lk_arena.specs.Order.{IsRanked};
-ghost use Rattle.lk_unify.specs.Reading.{as_open, image_of, name_in, number_of, row_in, subst_of, type_in, with_fields, CanRead, CanReadParts};
+ghost use Rattle.lk_unify.specs.Reading.{as_open, image_of, name_in, row_in, subst_of, type_in, with_fields, CanRead, CanReadParts};
 ghost use Rattle.lk_arena.specs.Values.{IsMadeOf, Value};
 
 use crate::chain::read_effects;
 use crate::loader::Loader;
+use crate::named_nodes::number_of;
 use crate::row_fields::{MadeRow, into_row, only_end, with_field};
 use lk_arena::{Arena, Field, Head, Shape};
 use lk_ast::{Boxed, List, NoMemory};
@@ -156,17 +157,6 @@ fn read_fields(
         row = with_field(alloc, row, &field.label, ty)?;
     }
     Ok(row)
-}
-
-/// The number of a variable.
-fn number_of(variable: Variable) -> u32
-    ensures { result ≡ number_of variable }
-{
-    match variable {
-        Variable::Plain(number) => number,
-        Variable::Row(number) => number,
-        Variable::Effects(number) => number,
-    }
 }
 
 /// What a node stands for, as what is put for this variable.

@@ -1,5 +1,5 @@
 use Rattle.std.specs.Prelude.{map, take}
-use Rattle.lk_unify.proofs.side_sizes.counts_within.Given as goal
+use Rattle.lk_unify.proofs.side_sizes.first_over.Given as goal
 use Rattle.lk_unify.specs.SideSizes.{last_by, AreAllWithin}
 use Rattle.lk_arena.specs.Counting.{count_at}
 
